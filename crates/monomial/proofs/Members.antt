@@ -1,0 +1,100 @@
+-- Members of the lists that `any`, `keep` and `gather` speak of. Assumes nothing.
+use mathlib.Core.Path.{_≡_, refl, sym, ap, subst}
+use mathlib.Core.Logic.{⊎-elim}
+use mathlib.Core.Bool.{Bool}
+use mathlib.Core.List.{List, [], _∷_, List·Memᴰ, List·Memᴰ·head, List·Memᴰ·tail, List·Memᴰ·cases-cons, List·Memᴰ·not-nil, List·Memᴰ·append-cases, Memᴰ·append-left, Memᴰ·append-right}
+use lib.Dec.{T}
+use Rattle.monomial.specs.Lists.{any, keep, gather}
+use Rattle.monomial.proofs.Tests.{or-l, or-r, or-e, cond-cases, T→is, nT→is}
+
+module _ {A : Type 0} where
+  abbrev pub _∈_ : A → List A → Type 0
+  x ∈ l = List·Memᴰ x l
+
+  infix 40 _∈_
+  pub here : {x : A} {l : List A} → x ∈ (x ∷ l)
+  here = List·Memᴰ·head refl
+
+  pub there : {x y : A} {l : List A} → x ∈ l → x ∈ (y ∷ l)
+  there h = List·Memᴰ·tail h
+
+  -- ---- any
+  pub any-in : (f : A → Bool) {x : A} {l : List A} → x ∈ l → T (f x) → T (any f l)
+  unfolding any
+  any-in f {l = y ∷ l} (List·Memᴰ·head e) t = or-l (f y) (any f l) (subst (λ z. T (f z)) e t)
+  any-in f {l = y ∷ l} (List·Memᴰ·tail h) t = or-r (f y) (any f l) (any-in f h t)
+
+  -- an entry that passes
+  pub record Passing (f : A → Bool) (l : List A) : Type 0 where
+    pub entry : A
+    pub member : entry ∈ l
+    pub passes : T (f entry)
+
+  pub any-out : (f : A → Bool) (l : List A) → T (any f l) → Passing f l
+  unfolding any
+  any-out f [] t = absurd t
+  any-out f (y ∷ l) t = ⊎-elim (λ s. record { entry = y; member = here; passes = s }) (λ s. later (any-out f l s)) (or-e (f y) (any f l) t)
+    where
+      later : Passing f l → Passing f (y ∷ l)
+      later p = record { entry = p .entry; member = there (p .member); passes = p .passes }
+
+  -- ---- keep
+  pub keep-in : (f : A → Bool) {x : A} (l : List A) → x ∈ l → T (f x) → x ∈ keep f l
+  unfolding keep
+  keep-in f [] h t = absurd (List·Memᴰ·not-nil h)
+  keep-in f {x} (y ∷ l) h t =
+      cond-cases (λ r. x ∈ r) (f y) (y ∷ keep f l) (keep f l)
+      (λ s. ⊎-elim (λ e. List·Memᴰ·head e) (λ m. there (keep-in f l m t)) (List·Memᴰ·cases-cons h))
+      (λ s. ⊎-elim (λ e. absurd (s (subst (λ z. T (f z)) e t))) (λ m. keep-in f l m t) (List·Memᴰ·cases-cons h))
+
+  pub keep-out : (f : A → Bool) {x : A} (l : List A) → x ∈ keep f l → (x ∈ l) × T (f x)
+  unfolding keep
+  keep-out f [] h = absurd (List·Memᴰ·not-nil h)
+  keep-out f {x} (y ∷ l) h = step (keep-out f l) h
+    where
+      step : (x ∈ keep f l → (x ∈ l) × T (f x)) → x ∈ keep f (y ∷ l) → (x ∈ (y ∷ l)) × T (f x)
+      step ih =
+          cond-cases (λ r. x ∈ r → (x ∈ (y ∷ l)) × T (f x)) (f y) (y ∷ keep f l) (keep f l)
+          (λ s m. ⊎-elim (λ e. (List·Memᴰ·head e, subst (λ z. T (f z)) (sym e) s)) (λ n. (there (ih n .0), ih n .1)) (List·Memᴰ·cases-cons m))
+          (λ s m. (there (ih m .0), ih m .1))
+
+  -- one entry of `keep` at a time
+  pub keep-yes : (f : A → Bool) (x : A) (l : List A) → T (f x) → keep f (x ∷ l) ≡ x ∷ keep f l
+  unfolding keep
+  keep-yes f x l t = rw (T→is (f x) t)
+
+  pub keep-no : (f : A → Bool) (x : A) (l : List A) → (T (f x) → ⊥) → keep f (x ∷ l) ≡ keep f l
+  unfolding keep
+  keep-no f x l n = rw (nT→is (f x) n)
+
+  -- all pass, or none does
+  pub keep-all : (f : A → Bool) (l : List A) → ((x : A) → x ∈ l → T (f x)) → keep f l ≡ l
+  unfolding keep
+  keep-all f [] h = refl
+  keep-all f (x ∷ l) h = rw (T→is (f x) (h x here)) (ap (_∷_ x) (keep-all f l (λ y m. h y (there m))))
+
+  pub keep-none : (f : A → Bool) (l : List A) → ((x : A) → x ∈ l → T (f x) → ⊥) → keep f l ≡ []
+  unfolding keep
+  keep-none f [] h = refl
+  keep-none f (x ∷ l) h = rw (nT→is (f x) (h x here)) (keep-none f l (λ y m. h y (there m)))
+
+-- ---- gather
+module _ {A B : Type 0} (f : A → List B) where
+  pub gather-in : {x : A} {y : B} (l : List A) → x ∈ l → y ∈ f x → y ∈ gather f l
+  unfolding gather
+  gather-in [] h m = absurd (List·Memᴰ·not-nil h)
+  gather-in {x} {y} (a ∷ l) h m =
+      ⊎-elim (λ e. Memᴰ·append-left (gather f l) (subst (λ z. y ∈ f z) e m)) (λ k. Memᴰ·append-right (f a) (gather-in l k m)) (List·Memᴰ·cases-cons h)
+
+  pub record Gathered (y : B) (l : List A) : Type 0 where
+    pub entry : A
+    pub member : entry ∈ l
+    pub inside : y ∈ f entry
+
+  pub gather-out : {y : B} (l : List A) → y ∈ gather f l → Gathered y l
+  unfolding gather
+  gather-out [] h = absurd (List·Memᴰ·not-nil h)
+  gather-out {y} (a ∷ l) h = ⊎-elim (λ m. record { entry = a; member = here; inside = m }) (λ m. later (gather-out l m)) (List·Memᴰ·append-cases (f a) h)
+    where
+      later : Gathered y l → Gathered y (a ∷ l)
+      later g = record { entry = g .entry; member = there (g .member); inside = g .inside }

@@ -1,0 +1,153 @@
+-- Factor pairs m1 <= m2 of a monomial of any width, by ascending m1: complete, none twice, an initial run of the divisors.
+-- Assumes nothing.
+use mathlib.Core.Path.{_≡_, refl, sym, ap, subst}
+use mathlib.Core.Logic.{_⊎_, inl, inr}
+use mathlib.Core.List.{List, [], _∷_, map, Memᴰ·map, Memᴰ·of-map}
+use Prim.Native.Nat.{_-_, _≤_, _<_}
+use native.Mathlib.Omega.{arith}
+use lib.Dec.{T, T-not, not-T, ltb→lt, lt→ltb, eqb→eq, eqb-refl}
+use lib.ListN.{length, take}
+use Rattle.monomial.specs.Lists.{pairwise, pointwise, dictionary, keep}
+use Rattle.monomial.specs.Monomial.{Mono, one}
+use Rattle.monomial.specs.Order.{same, before}
+use Rattle.monomial.specs.Product.{mul}
+use Rattle.monomial.specs.Quotient.{quo, divides}
+use Rattle.monomial.specs.Divisors.{divisors, leads, pairs, next}
+use Rattle.monomial.proofs.Tests.{Tested, passed, failed, test, is→T, is→nT}
+use Rattle.monomial.proofs.Members.{_∈_, keep-in, keep-out, keep-none, keep-yes}
+use Rattle.monomial.proofs.Loops.{pointwise-length}
+use Rattle.monomial.proofs.order.Laws.{ℕ-order, mono-order, Ahead, smaller, tied, ahead, ahead-is, le-before, level, Compared, less, equal, more}
+use Rattle.monomial.proofs.order.Ascending.{Ascending, keep-asc, once, from, from-out, run-front}
+use Rattle.monomial.proofs.product.Laws.{mul-comm}
+use Rattle.monomial.proofs.quotient.Laws.{quo-mul, mul-quo, quo-self, divides-length, divides-tail, divides-head, factor-divides}
+use Rattle.monomial.proofs.divisors.Laws.{divisors-in, divisors-out, divisors-asc}
+use Rattle.monomial.proofs.divisors.Following.{divisors-start, divisors-next, not-before-one}
+
+abbrev Pair : Type 0
+Pair = Mono × Mono
+
+-- d and what m leaves it
+abbrev pub split : Mono → Mono → Pair
+split m d = (d, quo m d)
+
+-- ---- complete: a product is split into its factors
+pub pairs-in : (a b : Mono) → length a ≡ length b → (T (before b a) → ⊥) → (a, b) ∈ pairs (mul a b)
+unfolding pairs
+pairs-in a b e n =
+    let m = mul a b in
+    let q : quo m a ≡ b = quo-mul a b e in
+    let lead : T (leads m a) = not-T (before (quo m a) a) (rw q n) in
+    subst (λ (z : Mono). (a, z) ∈ map (split m) (keep (leads m) (divisors m))) q
+    (Memᴰ·map (split m) (keep-in (leads m) (divisors m) (divisors-in a m (factor-divides a b e)) lead))
+
+pub pairs-either : (a b : Mono) → length a ≡ length b → ((a, b) ∈ pairs (mul a b)) ⊎ ((b, a) ∈ pairs (mul a b))
+pairs-either a b e = go (test (before b a))
+  where
+    go : Tested (before b a) → ((a, b) ∈ pairs (mul a b)) ⊎ ((b, a) ∈ pairs (mul a b))
+    go (passed p) =
+        let n : T (before a b) → ⊥ = λ t. mono-order .irrefl a (mono-order .trans a b a t (is→T (before b a) p)) in
+        inr (subst (λ m. (b, a) ∈ pairs m) (mul-comm b a) (pairs-in b a (sym e) n))
+    go (failed p) = inl (pairs-in a b e (is→nT (before b a) p))
+
+-- the middle pair of a perfect square
+pub pairs-middle : (d : Mono) → (d, d) ∈ pairs (mul d d)
+pairs-middle d = pairs-in d d refl (mono-order .irrefl d)
+
+-- ---- sound: two monomials of m's width whose product is m, the first not behind the second
+pub record Splits (p : Pair) (m : Mono) : Type 0 where
+  pub left : length (p .0) ≡ length m
+  pub right : length (p .1) ≡ length m
+  pub product : mul (p .0) (p .1) ≡ m
+  pub ordered : T (before (p .1) (p .0)) → ⊥
+
+split-splits : (m d : Mono) → T (divides d m) → T (leads m d) → Splits (split m d) m
+split-splits m d t l =
+    let e : length d ≡ length m = divides-length d m t in
+    record {
+      left = e;
+      right = pointwise-length _-_ m d (sym e);
+      product = mul-quo d m t;
+      ordered = T-not (before (quo m d) d) l;
+    }
+
+pub pairs-out : (p : Pair) (m : Mono) → p ∈ pairs m → Splits p m
+unfolding pairs
+pairs-out p m h =
+    let q : (d : Mono) × (d ∈ keep (leads m) (divisors m)) × (split m d ≡ p) = Memᴰ·of-map (split m) (keep (leads m) (divisors m)) h in
+    let k = keep-out (leads m) (divisors m) (q .1) in
+    subst (λ z. Splits z m) (q .2) (split-splits m (q .0) (divisors-out (q .0) m (k .0)) (k .1))
+
+-- ---- no pair twice: the first factors ascend strictly, and each stands once
+firsts-map : (m : Mono) (l : List Mono) → map (λ (p : Pair). p .0) (map (split m) l) ≡ l
+firsts-map m [] = refl
+firsts-map m (d ∷ l) = ap (_∷_ d) (firsts-map m l)
+
+pub pairs-firsts : (m : Mono) → map (λ (p : Pair). p .0) (pairs m) ≡ keep (leads m) (divisors m)
+unfolding pairs
+pairs-firsts m = firsts-map m (keep (leads m) (divisors m))
+
+pub pairs-asc : (m : Mono) → Ascending before (map (λ (p : Pair). p .0) (pairs m))
+pairs-asc m = rw (pairs-firsts m) (keep-asc (leads m) (divisors m) (divisors-asc m))
+
+pub pairs-once : (p : Pair) (m : Mono) → p ∈ pairs m → keep (same (p .0)) (map (λ (q : Pair). q .0) (pairs m)) ≡ p .0 ∷ []
+pairs-once p m h = once mono-order (p .0) (map (λ (q : Pair). q .0) (pairs m)) (pairs-asc m) (Memᴰ·map (λ (q : Pair). q .0) h)
+
+-- ---- an initial run: the smaller the divisor, the larger the quotient
+quo-descends : (c d m : Mono) → T (divides c m) → T (divides d m) → T (before c d) → T (before (quo m d) (quo m c))
+unfolding pairwise dictionary pointwise
+quo-descends [] [] m s t u = absurd u
+quo-descends [] (y ∷ d) [] s t u = absurd t
+quo-descends [] (y ∷ d) (e ∷ m) s t u = absurd s
+quo-descends (x ∷ c) d [] s t u = absurd s
+quo-descends (x ∷ c) [] (e ∷ m) s t u = absurd t
+quo-descends (x ∷ c) (y ∷ d) (e ∷ m) s t u =
+    ahead-is ℕ-order (e - y) (e - x) (quo m d) (quo m c) (go (ahead ℕ-order x y c d u) (quo-descends c d m (divides-tail x e c m s) (divides-tail y e d m t)))
+  where
+    go : Ahead ℕ-order x y c d → (T (before c d) → T (before (quo m d) (quo m c))) → Ahead ℕ-order (e - y) (e - x) (quo m d) (quo m c)
+    go (smaller h) ih =
+        let i : x < y = ltb→lt x y h in
+        let j : y ≤ e = divides-head y e d m t in
+        smaller (lt→ltb (e - y) (e - x) (omega arith))
+    go (tied h k) ih = let i : x ≡ y = eqb→eq x y h in tied (rw i (eqb-refl (e - y))) (ih k)
+
+-- c < d <= m/d < m/c
+leads-down : (c d m : Mono) → T (divides c m) → T (divides d m) → T (before c d) → T (leads m d) → T (leads m c)
+leads-down c d m s t u l =
+    not-T (before (quo m c) c) (λ v.
+    let low : T (before d (quo m c)) = le-before mono-order d (quo m d) (quo m c) (T-not (before (quo m d) d) l) (quo-descends c d m s t u) in
+    mono-order .irrefl c (mono-order .trans c d c u (mono-order .trans d (quo m c) c low v)))
+
+pub leads-run : (m : Mono) → keep (leads m) (divisors m) ≡ take (length (keep (leads m) (divisors m))) (divisors m)
+leads-run m =
+    run-front mono-order (leads m) (divisors m) (divisors-asc m) (λ c d h k u. leads-down c d m (divisors-out c m h) (divisors-out d m k) u)
+
+-- ---- the pairs of m from the first factor d on, one at a time
+abbrev pub pairsFrom : Mono → Mono → List Pair
+pairsFrom m d = map (split m) (keep (leads m) (from mono-order d (divisors m)))
+
+pub pairs-start : (m : Mono) → pairsFrom m (one (length m)) ≡ pairs m
+unfolding pairs
+pairs-start m = rw (divisors-start m)
+
+-- only of 1 is the last divisor the first of its pair
+pub leads-last : (d m : Mono) → (m ≡ one (length m) → ⊥) → T (leads m d) → d ≡ m → ⊥
+leads-last d m n l e =
+    let k : T (before (one (length m)) m) → ⊥ = rw (quo-self m) at (rw e at (T-not (before (quo m d) d) l)) in
+    n (mono-order .same-eq m (one (length m)) (level mono-order m (one (length m)) (not-before-one m) k))
+
+pub pairs-turn : (d m : Mono) → T (divides d m) → (m ≡ one (length m) → ⊥) → T (leads m d) → pairsFrom m d ≡ split m d ∷ pairsFrom m (next m d)
+pairs-turn d m t n l =
+    rw (divisors-next d m t (leads-last d m n l)) (ap (map (split m)) (keep-yes (leads m) d (from mono-order (next m d) (divisors m)) l))
+
+pub pairs-end : (d m : Mono) → T (divides d m) → (T (leads m d) → ⊥) → pairsFrom m d ≡ []
+pairs-end d m t n = ap (map (split m)) (keep-none (leads m) (from mono-order d (divisors m)) none)
+  where
+    none : (c : Mono) → c ∈ from mono-order d (divisors m) → T (leads m c) → ⊥
+    none c h l =
+        let k = from-out mono-order d (divisors m) h in
+        n (up (mono-order .total d c) (k .1) (divisors-out c m (k .0)) l)
+      where
+        up : Compared same before d c → (T (before c d) → ⊥) → T (divides c m) → T (leads m c) → T (leads m d)
+        up (less u) f s i = leads-down d c m t s u i
+        up (equal u) f s i = subst (λ (z : Mono). T (leads m z)) (sym (mono-order .same-eq d c u)) i
+        up (more u) f s i = absurd (f u)

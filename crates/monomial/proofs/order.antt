@@ -1,0 +1,3 @@
+-- The laws of specs/Order.antt, and of ascending lists.
+pub mod Laws
+pub mod Ascending

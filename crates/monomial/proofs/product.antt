@@ -1,0 +1,2 @@
+-- The laws of specs/Product.antt.
+pub mod Laws

@@ -1,0 +1,2 @@
+-- The laws of specs/Quotient.antt.
+pub mod Laws
