@@ -1,5 +1,6 @@
 -- Laws that belong to no module of src/. Those of a module stand under its name: order, product, divisors.
 pub mod Tests
 pub mod Members
+pub mod Counting
 pub mod Loops
 pub mod Samples

@@ -1,14 +1,14 @@
 -- Loops over arrays of any width: one that fills a list place by place (`Filling`), and ones that compare two lists
 -- (`Comparing`). Each loop's invariant is one of these two records. Assumes nothing.
-use mathlib.Core.Path.{_≡_, refl, sym, _∙_}
+use mathlib.Core.Path.{_≡_, refl, sym, ap, _∙_, subst}
 use mathlib.Core.Bool.{Bool, true, false}
 use mathlib.Core.List.{List, [], _∷_, _++_}
 use Prim.Native.Nat.{ℕ, zero, suc, _+_, _≤_, _<_}
 use native.Mathlib.Omega.{arith}
 use native.Mathlib.Numerals.{add-one}
 use lib.ListN.{length, take, drop, set, getD, length-set, drop-of-length-le}
-use lib.Seq.{take-suc, take-suc-set, take-all, drop-cons, set-at, length-take-le, append-snoc}
-use Rattle.monomial.specs.Lists.{pairwise, pointwise}
+use lib.Seq.{paste, paste-zero, paste-suc, length-paste, take-suc, take-suc-set, take-all, drop-cons, set-at, length-take-le, append-snoc}
+use Rattle.monomial.specs.Lists.{any, all, place, pairwise, pointwise}
 
 module _ {A : Type 0} (d : A) where
   -- ---- a loop that makes r the list t, and has come to place i
@@ -32,6 +32,34 @@ module _ {A : Type 0} (d : A) where
 
   pub filling-end : {w : ℕ} {t r : List A} {i : ℕ} → Filling w t r i → w ≤ i → length t ≡ w → r ≡ t
   filling-end {w} {t} {r} {i} f h l = sym (take-all i r (omega arith)) ∙ f .filled ∙ take-all i t (omega arith)
+
+  -- ---- a loop that pastes the w entries of s over d from `at` on, and has come to entry i
+  pub record Pasting (w at : ℕ) (s e l : List A) (i : ℕ) : Type 0 where
+    pub within : i ≤ w
+    pub source : length s ≡ w
+    pub room : at + w ≤ length e
+    pub pasted : l ≡ paste e at s i
+
+  pub pasting-start : (w at : ℕ) (s e : List A) → length s ≡ w → at + w ≤ length e → Pasting w at s e e 0
+  pasting-start w at s e h k = record { within = omega arith; source = h; room = k; pasted = paste-zero e at s }
+
+  module _ {w at : ℕ} {s e l : List A} {i : ℕ} (p : Pasting w at s e l i) where
+    pub pasting-length : length l ≡ length e
+    pasting-length = ap length (p .pasted) ∙ length-paste e at s i (omega arith) (omega arith)
+
+    pub pasting-room : i < w → at + i < length l
+    pasting-room h = omega (arith, pasting-length)
+
+    pub pasting-next : i < w → Pasting w at s e (set l (at + i) (getD s i d)) (i + 1)
+    pasting-next h = record {
+      within = omega arith;
+      source = p .source;
+      room = p .room;
+      pasted = rw (p .pasted, add-one i) (paste-suc e at s i d (omega arith) (omega arith));
+    }
+
+    pub pasting-end : w ≤ i → l ≡ paste e at s w
+    pasting-end h = let q : i ≡ w = omega arith in subst (λ (n : ℕ). l ≡ paste e at s n) q (p .pasted)
 
   -- the last entry of a front, written anew
   pub set-front : (l z : List A) (i : ℕ) (x : A) → i < length l → set (take (i + 1) l ++ z) i x ≡ take i l ++ (x ∷ z)
@@ -72,6 +100,70 @@ module _ {A : Type 0} (d : A) (test : A → A → Bool) where
     pub pairwise-ends : w ≤ i → true ≡ pairwise test a b
     unfolding pairwise
     pairwise-ends h = comparing-says true c (rw (drop-of-length-le a {i = i} (omega arith), drop-of-length-le b {i = i} (omega arith)))
+
+-- ---- a loop that looks through l for an entry that passes f, and has come to place i
+module _ {A : Type 0} (f : A → Bool) where
+  pub record Seeking (l : List A) (i : ℕ) : Type 0 where
+    pub within : i ≤ length l
+    pub rest : any f (drop i l) ≡ any f l
+
+  pub seeking-start : (l : List A) → Seeking l 0
+  seeking-start l = record { within = omega arith; rest = refl }
+
+  -- the same for the number of the first that passes, and for a test that all should pass
+  pub record Placing (l : List A) (i : ℕ) : Type 0 where
+    pub within : i ≤ length l
+    pub rest : i + place f (drop i l) ≡ place f l
+
+  pub placing-start : (l : List A) → Placing l 0
+  placing-start l = record { within = omega arith; rest = omega arith }
+
+  pub record Checking (l : List A) (i : ℕ) : Type 0 where
+    pub within : i ≤ length l
+    pub rest : all f (drop i l) ≡ all f l
+
+  pub checking-start : (l : List A) → Checking l 0
+  checking-start l = record { within = omega arith; rest = refl }
+
+  module _ (d : A) {l : List A} {i : ℕ} where
+    pub seeking-found : Seeking l i → i < length l → f (getD l i d) ≡ true → true ≡ any f l
+    unfolding any
+    seeking-found s h e = rw (drop-cons l i d h, e) at (s .rest)
+
+    pub seeking-on : Seeking l i → i < length l → f (getD l i d) ≡ false → Seeking l (i + 1)
+    unfolding any
+    seeking-on s h e = record { within = omega arith; rest = rw (add-one i) (rw (drop-cons l i d h, e) at (s .rest)) }
+
+    pub placing-found : Placing l i → i < length l → f (getD l i d) ≡ true → i ≡ place f l
+    unfolding place
+    placing-found s h e = let k : i + 0 ≡ place f l = rw (drop-cons l i d h, e) at (s .rest) in omega arith
+
+    pub placing-on : Placing l i → i < length l → f (getD l i d) ≡ false → Placing l (i + 1)
+    unfolding place
+    placing-on s h e =
+        let k : i + suc (place f (drop (suc i) l)) ≡ place f l = rw (drop-cons l i d h, e) at (s .rest) in
+        record { within = omega arith; rest = rw (add-one i) (omega arith) }
+
+    pub checking-fails : Checking l i → i < length l → f (getD l i d) ≡ false → false ≡ all f l
+    unfolding all
+    checking-fails s h e = rw (drop-cons l i d h, e) at (s .rest)
+
+    pub checking-on : Checking l i → i < length l → f (getD l i d) ≡ true → Checking l (i + 1)
+    unfolding all
+    checking-on s h e = record { within = omega arith; rest = rw (add-one i) (rw (drop-cons l i d h, e) at (s .rest)) }
+
+  module _ {l : List A} {i : ℕ} where
+    pub seeking-ends : Seeking l i → length l ≤ i → false ≡ any f l
+    unfolding any
+    seeking-ends s h = rw (drop-of-length-le l h) at (s .rest)
+
+    pub placing-ends : Placing l i → length l ≤ i → place f l ≡ length l
+    unfolding place
+    placing-ends s h = let k : i + 0 ≡ place f l = rw (drop-of-length-le l h) at (s .rest) in omega arith
+
+    pub checking-ends : Checking l i → length l ≤ i → true ≡ all f l
+    unfolding all
+    checking-ends s h = rw (drop-of-length-le l h) at (s .rest)
 
 -- ---- what `pointwise` makes
 module _ {A B C : Type 0} (f : A → B → C) where

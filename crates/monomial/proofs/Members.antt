@@ -2,10 +2,13 @@
 use mathlib.Core.Path.{_≡_, refl, sym, ap, subst}
 use mathlib.Core.Logic.{⊎-elim}
 use mathlib.Core.Bool.{Bool}
-use mathlib.Core.List.{List, [], _∷_, List·Memᴰ, List·Memᴰ·head, List·Memᴰ·tail, List·Memᴰ·cases-cons, List·Memᴰ·not-nil, List·Memᴰ·append-cases, Memᴰ·append-left, Memᴰ·append-right}
+use mathlib.Core.List.{List, [], _∷_, List·Memᴰ, List·Memᴰ·head, List·Memᴰ·tail, List·Memᴰ·cases-cons, List·Memᴰ·not-nil, List·Memᴰ·append-cases, Memᴰ·append-left, Memᴰ·append-right, _++_, map}
+use lib.ListN.{length, take}
+use Prim.Native.Nat.{ℕ, zero, suc, _≤_}
+use native.Mathlib.Omega.{arith}
 use lib.Dec.{T}
-use Rattle.monomial.specs.Lists.{any, keep, gather}
-use Rattle.monomial.proofs.Tests.{or-l, or-r, or-e, cond-cases, T→is, nT→is}
+use Rattle.monomial.specs.Lists.{any, some, all, keep, gather}
+use Rattle.monomial.proofs.Tests.{and-l, and-r, and-i, or-l, or-r, or-e, cond-cases, T→is, nT→is, Tested, passed, failed, test}
 
 module _ {A : Type 0} where
   abbrev pub _∈_ : A → List A → Type 0
@@ -37,6 +40,34 @@ module _ {A : Type 0} where
     where
       later : Passing f l → Passing f (y ∷ l)
       later p = record { entry = p .entry; member = there (p .member); passes = p .passes }
+
+  -- ---- some
+  pub some-in : {x : A} {l : List A} → x ∈ l → T (some l)
+  unfolding some
+  some-in {l = y ∷ l} (List·Memᴰ·head e) = tt
+  some-in {l = y ∷ l} (List·Memᴰ·tail h) = tt
+
+  pub some-none : (l : List A) → (T (some l) → ⊥) → l ≡ []
+  unfolding some
+  some-none [] n = refl
+  some-none (x ∷ l) n = absurd (n tt)
+
+  -- the first of a list that has entries
+  pub some-out : (l : List A) → T (some l) → (x : A) × (x ∈ l)
+  unfolding some
+  some-out [] t = absurd t
+  some-out (x ∷ l) t = (x, here)
+
+  -- ---- all
+  pub all-out : (f : A → Bool) {x : A} {l : List A} → T (all f l) → x ∈ l → T (f x)
+  unfolding all
+  all-out f {l = y ∷ l} t (List·Memᴰ·head e) = subst (λ z. T (f z)) (sym e) (and-l (f y) (all f l) t)
+  all-out f {l = y ∷ l} t (List·Memᴰ·tail h) = all-out f (and-r (f y) (all f l) t) h
+
+  pub all-in : (f : A → Bool) (l : List A) → ((x : A) → x ∈ l → T (f x)) → T (all f l)
+  unfolding all
+  all-in f [] h = tt
+  all-in f (y ∷ l) h = and-i (f y) (all f l) (h y here) (all-in f l (λ x m. h x (there m)))
 
   -- ---- keep
   pub keep-in : (f : A → Bool) {x : A} (l : List A) → x ∈ l → T (f x) → x ∈ keep f l
@@ -98,3 +129,35 @@ module _ {A B : Type 0} (f : A → List B) where
     where
       later : Gathered y l → Gathered y (a ∷ l)
       later g = record { entry = g .entry; member = there (g .member); inside = g .inside }
+
+-- ---- keep, entry by entry
+pub keep-append : {A : Type 0} (f : A → Bool) (a b : List A) → keep f (a ++ b) ≡ keep f a ++ keep f b
+unfolding keep
+keep-append f [] b = refl
+keep-append f (x ∷ a) b = go (test (f x)) (keep-append f a b)
+  where
+    go : Tested (f x) → keep f (a ++ b) ≡ keep f a ++ keep f b → keep f (x ∷ (a ++ b)) ≡ keep f (x ∷ a) ++ keep f b
+    go (passed e) ih = rw e (ap (_∷_ x) ih)
+    go (failed e) ih = rw e ih
+
+pub keep-map : {A B : Type 0} (f : B → Bool) (g : A → B) (l : List A) → keep f (map g l) ≡ map g (keep (λ x. f (g x)) l)
+unfolding keep
+keep-map f g [] = refl
+keep-map f g (x ∷ l) = go (test (f (g x))) (keep-map f g l)
+  where
+    go : Tested (f (g x)) → keep f (map g l) ≡ map g (keep (λ x. f (g x)) l) → keep f (map g (x ∷ l)) ≡ map g (keep (λ x. f (g x)) (x ∷ l))
+    go (passed e) ih = rw e (ap (_∷_ (g x)) ih)
+    go (failed e) ih = rw e ih
+
+pub keep-length : {A : Type 0} (f : A → Bool) (l : List A) → length (keep f l) ≤ length l
+unfolding keep
+keep-length f [] = omega arith
+keep-length f (x ∷ l) =
+    let ih : length (keep f l) ≤ length l = keep-length f l in
+    cond-cases (λ r. length r ≤ suc (length l)) (f x) (x ∷ keep f l) (keep f l) (λ t. omega arith) (λ t. omega arith)
+
+-- ---- take
+pub take-in : {A : Type 0} (n : ℕ) (l : List A) {x : A} → x ∈ take n l → x ∈ l
+take-in zero l h = absurd (List·Memᴰ·not-nil h)
+take-in (suc n) [] h = h
+take-in (suc n) (y ∷ l) h = ⊎-elim (λ e. List·Memᴰ·head e) (λ k. there (take-in n l k)) (List·Memᴰ·cases-cons h)

@@ -4,12 +4,12 @@ use mathlib.Core.Path.{_≡_, refl}
 use mathlib.Core.Bool.{Bool, true, false}
 use mathlib.Core.List.{List, [], _∷_, map}
 use lib.ListN.{replicate}
-use Rattle.monomial.specs.Lists.{keep, gather, pairwise, pointwise, dictionary, insertBy, arrangeBy}
+use Rattle.monomial.specs.Lists.{keep, gather, below, pairwise, pointwise, dictionary, insertBy, arrangeBy}
 use Rattle.monomial.specs.Monomial.{Mono, vars, constants}
 use Rattle.monomial.specs.Order.{same, before, beforeSet}
 use Rattle.monomial.specs.Product.{mul}
 use Rattle.monomial.specs.Quotient.{quo, divides}
-use Rattle.monomial.specs.Divisors.{score, upTo, divisors, pairs, next}
+use Rattle.monomial.specs.Divisors.{score, divisors, pairs, next}
 
 -- one row: a list of monomials that the definitions give, and the one that is expected
 record Row : Type 0 where
@@ -57,5 +57,5 @@ table =
     ∷ []
 
 sampled : map (λ r. r .got) table ≡ map (λ r. r .want) table
-unfolding table row said flat vars arrangeBy insertBy pairwise dictionary pointwise score upTo divisors gather keep pairs next
+unfolding table row said flat vars arrangeBy insertBy pairwise dictionary pointwise score below divisors gather keep pairs next
 sampled = refl

@@ -1,10 +1,10 @@
 -- The divisors of a monomial, how many there are, and its factor pairs. Assumes nothing.
 use mathlib.Core.Bool.{Bool, not, cond}
 use mathlib.Core.List.{List, [], _∷_, map}
-use Prim.Native.Nat.{ℕ, zero, suc, _*_}
+use Prim.Native.Nat.{ℕ, suc, _*_}
 use lib.Dec.{ltb}
 use lib.ListN.{length}
-use Rattle.monomial.specs.Lists.{keep, gather}
+use Rattle.monomial.specs.Lists.{keep, gather, below}
 use Rattle.monomial.specs.Monomial.{Mono, one}
 use Rattle.monomial.specs.Order.{before}
 use Rattle.monomial.specs.Quotient.{quo, divides}
@@ -14,15 +14,10 @@ unfoldable pub score : Mono → ℕ
 score [] = 1
 score (e ∷ m) = suc e * score m
 
--- 0, 1, .. up to and with e
-unfoldable pub upTo : ℕ → List ℕ
-upTo zero = 0 ∷ []
-upTo (suc e) = 0 ∷ map suc (upTo e)
-
 -- the monomials that divide m, ascending
 unfoldable pub divisors : Mono → List Mono
 divisors [] = [] ∷ []
-divisors (e ∷ m) = let r = divisors m in gather (λ x. map (_∷_ x) r) (upTo e)
+divisors (e ∷ m) = let r = divisors m in gather (λ x. map (_∷_ x) r) (below (suc e))
 
 -- d is the first of its pair: d <= m/d
 abbrev pub leads : Mono → Mono → Bool

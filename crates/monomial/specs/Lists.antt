@@ -2,13 +2,29 @@
 -- A recursive call that a test may not need is bound by a `let`, which waits.
 -- Assumes nothing.
 use mathlib.Core.Bool.{Bool, true, false, cond, _&&_, _||_}
-use mathlib.Core.List.{List, [], _∷_, _++_}
+use mathlib.Core.List.{List, [], _∷_, _++_, map}
+use Prim.Native.Nat.{ℕ, zero, suc}
 
 module _ {A : Type 0} where
   -- some entry passes the test
   unfoldable pub any : (A → Bool) → List A → Bool
   any f [] = false
   any f (x ∷ l) = let r = any f l in f x || r
+
+  -- the list has entries
+  unfoldable pub some : List A → Bool
+  some [] = false
+  some (x ∷ l) = true
+
+  -- every entry passes the test
+  unfoldable pub all : (A → Bool) → List A → Bool
+  all f [] = true
+  all f (x ∷ l) = let r = all f l in f x && r
+
+  -- the number, from 0, of the first entry that passes; the length where none does
+  unfoldable pub place : (A → Bool) → List A → ℕ
+  place f [] = 0
+  place f (x ∷ l) = let r = place f l in cond (f x) 0 (suc r)
 
   -- the entries that pass the test, in their order
   unfoldable pub keep : (A → Bool) → List A → List A
@@ -38,6 +54,11 @@ module _ {A : Type 0} where
   unfoldable pub arrangeBy : (A → A → Bool) → (A → A → Bool) → List A → List A
   arrangeBy same before [] = []
   arrangeBy same before (x ∷ l) = insertBy same before x (arrangeBy same before l)
+
+-- 0, 1, .. below n
+unfoldable pub below : ℕ → List ℕ
+below zero = []
+below (suc n) = 0 ∷ map suc (below n)
 
 -- what f makes of the entries at each place of two lists
 unfoldable pub pointwise : {A B C : Type 0} → (A → B → C) → List A → List B → List C

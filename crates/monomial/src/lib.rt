@@ -2,11 +2,11 @@
 //
 // Each contract cites one definition of specs/ over lists of exponents of any length; the array of the struct is such a list.
 // Nothing is assumed of an exponent but that it is a byte.
-mod bytes;
-mod divisors;
-mod order;
-mod product;
-mod quotient;
+pub mod bytes;
+pub mod divisors;
+pub mod order;
+pub mod product;
+pub mod quotient;
 
 ghost use mathlib.Core.Path.{_≡_};
 ghost use lib.ListN.{getD};

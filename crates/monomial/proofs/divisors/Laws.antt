@@ -2,52 +2,30 @@
 use mathlib.Core.Path.{_≡_, refl, sym, ap, ap₂, _∙_, subst}
 use mathlib.Core.Logic.{⊎-elim}
 use mathlib.Core.List.{List, [], _∷_, map, List·Memᴰ·cases-cons, List·Memᴰ·not-nil, Memᴰ·map, Memᴰ·of-map}
-use Prim.Native.Nat.{ℕ, zero, suc, _+_, _*_, _^_, _≤_, _<_}
+use Prim.Native.Nat.{ℕ, suc, _+_, _*_, _^_, _≤_, _<_}
 use native.Mathlib.Nat.{mul-le-mul, mul-comm, mul-assoc, le-mul-of-pos-right, pow-zero, pow-succ'}
 use native.Mathlib.Omega.{arith}
 use native.Mathlib.Numerals.{add-one}
-use lib.Dec.{T, ltb, eqb-refl, lt→ltb, ltb→lt}
+use lib.Dec.{T, ltb, eqb-refl}
 use lib.ListN.{length, drop, getD, length-append, length-map, drop-of-length-le}
 use lib.Seq.{drop-cons}
-use Rattle.monomial.specs.Lists.{gather, pairwise}
+use Rattle.monomial.specs.Lists.{gather, pairwise, below}
 use Rattle.monomial.specs.Monomial.{Mono}
 use Rattle.monomial.specs.Order.{before}
 use Rattle.monomial.specs.Product.{AtMost}
 use Rattle.monomial.specs.Quotient.{divides}
-use Rattle.monomial.specs.Divisors.{score, upTo, divisors}
-use Rattle.monomial.proofs.Members.{_∈_, here, there, gather-in, gather-out, Gathered}
+use Rattle.monomial.specs.Divisors.{score, divisors}
+use Rattle.monomial.proofs.Members.{_∈_, here, gather-in, gather-out, Gathered}
 use Rattle.monomial.proofs.order.Laws.{ℕ-order, smaller, tied, ahead-is}
+use Rattle.monomial.proofs.Counting.{below-in, below-out, below-asc, below-length}
 use Rattle.monomial.proofs.order.Ascending.{Ascending, empty, first, head-first, tail-asc, append-asc, map-asc}
 use Rattle.monomial.proofs.quotient.Laws.{divides-head, divides-tail, divides-cons}
 
--- ---- 0, 1, .. e
-pub upTo-in : (x e : ℕ) → x ≤ e → x ∈ upTo e
-unfolding upTo
-upTo-in zero zero h = here
-upTo-in zero (suc e) h = here
-upTo-in (suc x) zero h = let z : ⊥ = omega arith in absurd z
-upTo-in (suc x) (suc e) h = there (Memᴰ·map suc (upTo-in x e (omega arith)))
+lt-suc : (x e : ℕ) → x ≤ e → x < suc e
+lt-suc x e h = omega arith
 
-pub upTo-out : (x e : ℕ) → x ∈ upTo e → x ≤ e
-unfolding upTo
-upTo-out x zero h = ⊎-elim (λ e. omega arith) (λ n. absurd (List·Memᴰ·not-nil n)) (List·Memᴰ·cases-cons h)
-upTo-out x (suc e) h =
-    ⊎-elim (λ d. omega arith)
-    (λ n. let p : (y : ℕ) × (y ∈ upTo e) × (suc y ≡ x) = Memᴰ·of-map suc (upTo e) n in let k : p .0 ≤ e = upTo-out (p .0) e (p .1) in omega (arith, p .2))
-    (List·Memᴰ·cases-cons h)
-
-upTo-asc : (e : ℕ) → Ascending ltb (upTo e)
-unfolding upTo
-upTo-asc zero = first (λ y h. absurd (List·Memᴰ·not-nil h)) empty
-upTo-asc (suc e) = first low (map-asc suc (λ x y t. let h : x < y = ltb→lt x y t in lt→ltb (suc x) (suc y) (omega arith)) (upTo e) (upTo-asc e))
-  where
-    low : (y : ℕ) → y ∈ map suc (upTo e) → T (ltb 0 y)
-    low y m = let p : (z : ℕ) × (z ∈ upTo e) × (suc z ≡ y) = Memᴰ·of-map suc (upTo e) m in lt→ltb 0 y (omega (arith, p .2))
-
-upTo-length : (e : ℕ) → length (upTo e) ≡ suc e
-unfolding upTo
-upTo-length zero = refl
-upTo-length (suc e) = ap suc (length-map (upTo e) suc ∙ upTo-length e)
+suc-lt : (x e : ℕ) → x < suc e → x ≤ e
+suc-lt x e h = omega arith
 
 -- ---- a divisor is what divides
 pub divisors-in : (d m : Mono) → T (divides d m) → d ∈ divisors m
@@ -56,15 +34,15 @@ divisors-in [] [] t = here
 divisors-in [] (e ∷ m) t = absurd t
 divisors-in (x ∷ d) [] t = absurd t
 divisors-in (x ∷ d) (e ∷ m) t =
-    gather-in (λ w. map (_∷_ w) (divisors m)) (upTo e) (upTo-in x e (divides-head x e d m t)) (Memᴰ·map (_∷_ x) (divisors-in d m (divides-tail x e d m t)))
+    gather-in (λ w. map (_∷_ w) (divisors m)) (below (suc e)) (below-in (suc e) x (lt-suc x e (divides-head x e d m t))) (Memᴰ·map (_∷_ x) (divisors-in d m (divides-tail x e d m t)))
 
 pub divisors-out : (d m : Mono) → d ∈ divisors m → T (divides d m)
 unfolding divisors pairwise
 divisors-out d [] h = ⊎-elim (λ e. subst (λ z. T (divides z [])) (sym e) tt) (λ n. absurd (List·Memᴰ·not-nil n)) (List·Memᴰ·cases-cons h)
 divisors-out d (e ∷ m) h =
-    let g : Gathered (λ w. map (_∷_ w) (divisors m)) d (upTo e) = gather-out (λ w. map (_∷_ w) (divisors m)) (upTo e) h in
+    let g : Gathered (λ w. map (_∷_ w) (divisors m)) d (below (suc e)) = gather-out (λ w. map (_∷_ w) (divisors m)) (below (suc e)) h in
     let p : (c : Mono) × (c ∈ divisors m) × (g .entry ∷ c ≡ d) = Memᴰ·of-map (_∷_ (g .entry)) (divisors m) (g .inside) in
-    subst (λ z. T (divides z (e ∷ m))) (p .2) (divides-cons (g .entry) e (p .0) m (upTo-out (g .entry) e (g .member)) (divisors-out (p .0) m (p .1)))
+    subst (λ z. T (divides z (e ∷ m))) (p .2) (divides-cons (g .entry) e (p .0) m (suc-lt (g .entry) e (below-out (suc e) (g .entry) (g .member))) (divisors-out (p .0) m (p .1)))
 
 -- ---- ascending
 -- a block of lists for each head, both ascending
@@ -89,7 +67,7 @@ blocks-asc r (x ∷ l) a b =
 pub divisors-asc : (m : Mono) → Ascending before (divisors m)
 unfolding divisors
 divisors-asc [] = first (λ y h. absurd (List·Memᴰ·not-nil h)) empty
-divisors-asc (e ∷ m) = blocks-asc (divisors m) (upTo e) (divisors-asc m) (upTo-asc e)
+divisors-asc (e ∷ m) = blocks-asc (divisors m) (below (suc e)) (divisors-asc m) (below-asc (suc e))
 
 -- ---- as many as the score
 blocks-length : (r : List Mono) (l : List ℕ) → length (gather (λ x. map (_∷_ x) r) l) ≡ length l * length r
@@ -102,7 +80,7 @@ blocks-length r (x ∷ l) =
 pub divisors-length : (m : Mono) → length (divisors m) ≡ score m
 unfolding divisors score
 divisors-length [] = refl
-divisors-length (e ∷ m) = blocks-length (divisors m) (upTo e) ∙ ap₂ _*_ (upTo-length e) (divisors-length m)
+divisors-length (e ∷ m) = blocks-length (divisors m) (below (suc e)) ∙ ap₂ _*_ (below-length (suc e)) (divisors-length m)
 
 -- ---- the score, from place i on
 pub score-at : (m : Mono) (i : ℕ) → i < length m → score (drop i m) ≡ suc (getD m i 0) * score (drop (i + 1) m)

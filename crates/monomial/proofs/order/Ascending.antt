@@ -237,3 +237,22 @@ module _ {A : Type 0} {same before : A → A → Bool} (o : Order same before) w
       go (failed e) ih =
           let none : keep f l ≡ [] = keep-none f l (λ y m t. is→nT (f x) e (h x y here (there m) (head-first a y m) t)) in
           rw (e, none)
+
+-- neither makes a list longer than it may
+module _ {A : Type 0} (same before : A → A → Bool) where
+  insert-length-le : (x : A) (l : List A) → length (insertBy same before x l) ≤ suc (length l)
+  unfolding insertBy
+  insert-length-le x [] = omega arith
+  insert-length-le x (y ∷ l) =
+      let ih : length (insertBy same before x l) ≤ suc (length l) = insert-length-le x l in
+      cond-cases (λ (r : List A). length r ≤ suc (suc (length l))) (same x y) (y ∷ l) (cond (before x y) (x ∷ y ∷ l) (y ∷ insertBy same before x l))
+      (λ t. omega arith)
+      (λ t. cond-cases (λ (r : List A). length r ≤ suc (suc (length l))) (before x y) (x ∷ y ∷ l) (y ∷ insertBy same before x l) (λ s. omega arith) (λ s. omega arith))
+
+  pub arrange-length : (l : List A) → length (arrangeBy same before l) ≤ length l
+  unfolding arrangeBy
+  arrange-length [] = omega arith
+  arrange-length (x ∷ l) =
+      let ih : length (arrangeBy same before l) ≤ length l = arrange-length l in
+      let h : length (insertBy same before x (arrangeBy same before l)) ≤ suc (length (arrangeBy same before l)) = insert-length-le x (arrangeBy same before l) in
+      omega arith

@@ -38,7 +38,8 @@ loop-again c =
     let a = c .before .before .before .args in
     let i = c .before .before .loop .i in
     let long : length (take 6 (drop (a .at) (a .s .now))) ≡ 6 = length-take-le 6 (drop (a .at) (a .s .now)) (simp length-drop (omega arith)) in
-    filling-next 0 (getD (a .s .now) (a .at + i) 0) (c .before .before .loop .inv) (omega arith) long (sym (getD-take 6 (drop (a .at) (a .s .now)) i 0 (omega arith) ∙ getD-drop (a .at) (a .s .now) i 0))
+    filling-next 0 (getD (a .s .now) (a .at + i) 0) (c .before .before .loop .inv) (omega arith) long
+    (sym (getD-take 6 (drop (a .at) (a .s .now)) i 0 (omega arith) ∙ getD-drop (a .at) (a .s .now) i 0))
 
 returns : tie.Need-returns Inv-loop μ-loop
 returns c =

@@ -1,24 +1,19 @@
--- `Monomial::write` meets its contract: at place i the first i exponents have been pasted over the slice. Assumes nothing.
-use mathlib.Core.Path.{_≡_, ap, _∙_}
-use Prim.Native.Nat.{_+_, _-_, _≤_}
+-- `Monomial::write` meets its contract: the loop pastes the exponents over the slice (`Pasting`). Assumes nothing.
+use Prim.Native.Nat.{_-_}
 use native.Mathlib.Omega.{arith}
-use native.Mathlib.Numerals.{add-one}
-use lib.ListN.{length}
-use lib.Seq.{paste, paste-zero, paste-suc, length-paste}
+use Rattle.monomial.proofs.Loops.{Pasting, pasting-start, pasting-length, pasting-room, pasting-next, pasting-end}
 use borrow.Author.Needs.{needs}
 use Rattle.monomial.proofs.Monomial.write.Statement.{statement}
 use Rattle.monomial.proofs.Monomial.write.Tie as tie
 
 abbrev Inv-loop : tie.InvT-loop
-Inv-loop s₀ at e i₀ s i = (i ≤ 6) × ((length e ≡ 6) × ((at + 6 ≤ length s₀) × (s ≡ paste s₀ at e i)))
+Inv-loop s₀ at e i₀ s i = Pasting 0 6 at e s₀ s i
 
 abbrev μ-loop : tie.MeasureT-loop
 μ-loop s₀ at e i₀ s i = 6 - i
 
 loop-holds : tie.Need-loop-holds Inv-loop μ-loop
-loop-holds c =
-    let a = c .before .args in
-    (omega arith, (search needs, (omega arith, paste-zero (a .s .now) (a .at) (a .self .e))))
+loop-holds c = pasting-start 0 6 _ _ _ (search needs) (omega arith)
 
 array-read-s : tie.Need-array-read-s Inv-loop μ-loop
 array-read-s c = search needs
@@ -27,11 +22,7 @@ add-s : tie.Need-add-s Inv-loop μ-loop
 add-s c = search needs
 
 slice-write-s : tie.Need-slice-write-s Inv-loop μ-loop
-slice-write-s c =
-    let a = c .before .before .before .args in
-    let v = c .before .loop .inv .1 .1 in
-    let l : length (c .before .loop .s) ≡ length (a .s .now) = ap length (v .1) ∙ length-paste (a .s .now) (a .at) (a .self .e) (c .before .loop .i) (omega arith) (omega arith) in
-    omega arith
+slice-write-s c = pasting-room 0 (c .before .loop .inv) (omega arith)
 
 add-i : tie.Need-add-i Inv-loop μ-loop
 add-i c = search needs
@@ -40,24 +31,13 @@ loop-less : tie.Need-loop-less Inv-loop μ-loop
 loop-less c = search needs
 
 loop-again : tie.Need-loop-again Inv-loop μ-loop
-loop-again c =
-    let a = c .before .before .before .args in
-    let k = c .before .loop in
-    let e = k .inv .1 .1 .1 in
-    let p = paste-suc (a .s .now) (a .at) (a .self .e) (k .i) 0 (omega arith) (omega arith) in
-    (omega arith, (k .inv .1 .0, (k .inv .1 .1 .0, rw (e, add-one (k .i)) p)))
+loop-again c = pasting-next 0 (c .before .loop .inv) (omega arith)
 
 same-length : tie.Need-same-length Inv-loop μ-loop
-same-length c =
-    let a = c .before .before .before .args in
-    let k = c .before .loop in
-    ap length (k .inv .1 .1 .1) ∙ length-paste (a .s .now) (a .at) (a .self .e) (k .i) (omega arith) (omega arith)
+same-length c = pasting-length 0 (c .before .loop .inv)
 
 returns : tie.Need-returns Inv-loop μ-loop
-returns c =
-    let k = c .before .loop in
-    let six : k .i ≡ 6 = omega arith in
-    rw six at (k .inv .1 .1 .1)
+returns c = pasting-end 0 (c .before .loop .inv) (omega arith)
 
 pub write-spec : {M : Type 1} → statement M
 write-spec =

@@ -1,0 +1,255 @@
+-- Exactly when each reply of checking is given, for all numbers n and all lists of bytes: every refusal in plain equations and inequalities, in
+-- the order of document 01, and done where Definition 1 holds. The cases are all, and no two replies meet the promise. Assumes nothing.
+use mathlib.Core.Path.{_≡_, refl, sym, ap, ap₂, _∙_, subst}
+use mathlib.Core.Logic.{_⊎_, inl, inr, ⊎-elim, _↔_}
+use mathlib.Core.Bool.{true, _&&_}
+use mathlib.Core.List.{List, []}
+use Prim.Native.Nat.{ℕ, _+_, _≤_}
+use native.Mathlib.Omega.{arith}
+use borrow.Author.Tests.{eqb-true, eqb-false}
+use lib.Dec.{T, eqb, leb, leb→le, le→leb}
+use lib.IntN.{pos}
+use lib.ListN.{length, getD}
+use Rattle.monomial.specs.Lists.{some}
+use Rattle.monomial.specs.Monomial.{Mono}
+use Rattle.monomial.proofs.Tests.{Tested, passed, failed, test, T→is, nT→is, is→T, is→nT, and-l, and-r, and-i}
+use Rattle.monomial.proofs.Members.{some-none}
+use Rattle.monomial.proofs.Counting.{at-in}
+use Rattle.monomial.proofs.order.Laws.{mono-order}
+use Rattle.wiring.specs.declared.reply.Reply.{Reply}
+use Rattle.wiring.specs.declared.reply.Reply.the-variants.{Done, Setting, Length, Term, Twice, Nothing, Full, Spent, BadSet, NotQuadratic}
+use Rattle.wiring.specs.declared.terms.Fault.{Fault}
+use Rattle.wiring.specs.declared.terms.Fault.the-variants.{Clean, Wrong, Repeated}
+use Rattle.wiring.specs.Reply.{numbers}
+use Rattle.wiring.specs.Poly.{Poly, plain}
+use Rattle.wiring.specs.Derivative.{derivative}
+use Rattle.wiring.specs.Quadratic.{Quadratic}
+use Rattle.wiring.specs.Signals.{signals}
+use Rattle.wiring.specs.Terms.{Record, records, lengthRight, fault, system}
+use Rattle.wiring.specs.Sets.{setOf, setRight}
+use Rattle.wiring.specs.Answers.{unlessFault, countRight, missing, firstUnmet, judged, recordJudged, verdict, checked}
+use Rattle.wiring.proofs.reply.Laws.{same-reply}
+use Rattle.wiring.proofs.terms.Exact.{Measured, length-exact, Breaks, Repeats, Flawless, wrong-exact, repeated-exact, clean-exact}
+use Rattle.wiring.proofs.sets.Exact.{RightRecord, right-iff}
+use Rattle.wiring.proofs.quadratic.Definition1.{definition1, FirstUnlinked, first-unlinked, first-unlinked-one, first-unlinked-raised}
+use Rattle.wiring.proofs.signals.Laws.{signals-length}
+use Rattle.wiring.proofs.answers.Laws.{judged-not, said-setting, said-terms-length, said-set-length, said-rest, record-bad, record-right, is-verdict}
+
+-- ---- the facts
+abbrev pub Ranged : ℕ → Type 0
+Ranged n = (1 ≤ n) × (n ≤ 6)
+
+pub record Lengths (terms set : List ℕ) : Type 0 where
+  pub measured : Measured terms
+  pub long : length set ≡ 36
+
+-- stands for a record beyond the last, of which nothing is said
+abbrev pub beyond : Record
+beyond = record { equation = 0; blank = 0; monomial = []; coefficient = pos 0 }
+
+-- what all three have to be for a set to be judged
+pub record WellFormed (n : ℕ) (terms set : List ℕ) : Type 0 where
+  pub ranged : Ranged n
+  pub lengths : Lengths terms set
+  pub flawless : Flawless n (records terms) beyond
+  pub right : RightRecord n set
+
+-- the signals of the set, and the derivation of the system
+abbrev pub signalsIn : ℕ → List ℕ → List Mono
+signalsIn n set = signals 6 n (setOf set)
+
+abbrev pub derivativeIn : List ℕ → Mono → Poly Mono
+derivativeIn terms = derivative (system (records terms))
+
+-- ---- what each reply of checking says
+module _ (n : ℕ) (terms set : List ℕ) where
+  abbrev pub CheckSays : Reply → Type 0
+  CheckSays Setting = Ranged n → ⊥
+  CheckSays Length = Ranged n × ((Measured terms → ⊥) ⊎ (length set ≡ 36 → ⊥))
+  CheckSays (Term p) = Ranged n × Lengths terms set × Breaks n (records terms) beyond p
+  CheckSays (Twice p) = Ranged n × Lengths terms set × Repeats n (records terms) beyond p
+  CheckSays BadSet = Ranged n × Lengths terms set × Flawless n (records terms) beyond × (RightRecord n set → ⊥)
+  CheckSays (NotQuadratic o p) = WellFormed n terms set × (o ≡ length (setOf set)) × FirstUnlinked plain mono-order (signalsIn n set) (derivativeIn terms) [] p
+  CheckSays (Done o c k) = WellFormed n terms set × (o ≡ length (setOf set)) × (c ≡ 0) × (k ≡ 0) × Quadratic plain (signalsIn n set) (derivativeIn terms)
+  CheckSays (Nothing o k) = ⊥
+  CheckSays (Full o k) = ⊥
+  CheckSays (Spent o k) = ⊥
+
+  abbrev fs : List (Poly Mono)
+  fs = system (records terms)
+
+  abbrev s : List Mono
+  s = setOf set
+
+  -- ---- the tests
+  count-in : Ranged n → countRight n ≡ true
+  unfolding countRight
+  count-in r = T→is (leb 1 n && leb n 6) (and-i (leb 1 n) (leb n 6) (le→leb 1 n (r .0)) (le→leb n 6 (r .1)))
+
+  count-out : T (countRight n) → Ranged n
+  unfolding countRight
+  count-out t = (leb→le 1 n (and-l (leb 1 n) (leb n 6) t), leb→le n 6 (and-r (leb 1 n) (leb n 6) t))
+
+  measured-in : Lengths terms set → lengthRight terms ≡ true
+  measured-in l = length-exact terms .1 (l .measured)
+
+  -- where n, the lengths and the records are in order, the set record decides
+  module _ (r : Ranged n) (l : Lengths terms set) where
+    said-fault : (f : Fault) → fault n (records terms) ≡ f → verdict n terms set ≡ unlessFault f (recordJudged n fs set)
+    said-fault f e = sym (said-rest n terms set (count-in r) (measured-in l) (l .long) f (sym e))
+
+    said-record : Flawless n (records terms) beyond → verdict n terms set ≡ recordJudged n fs set
+    said-record f = said-fault Clean (clean-exact n (records terms) beyond .1 f)
+
+  said-judged : WellFormed n terms set → verdict n terms set ≡ judged n fs s
+  said-judged w = said-record (w .ranged) (w .lengths) (w .flawless) ∙ record-right n terms set (T→is (setRight n set) (right-iff n set .1 (w .right)))
+
+  -- ---- a set that is judged
+  abbrev Meets : Type 0
+  Meets = Quadratic plain (signalsIn n set) (derivativeIn terms)
+
+  abbrev First : ℕ → Type 0
+  First p = FirstUnlinked plain mono-order (signalsIn n set) (derivativeIn terms) [] p
+
+  quadratic-done : Meets → judged n fs s ≡ Done (length s) 0 0
+  unfolding judged some
+  quadratic-done q = rw (definition1 plain mono-order (signalsIn n set) (derivativeIn terms) .0 q)
+
+  none-meets : missing n fs s ≡ [] → Meets
+  none-meets e = definition1 plain mono-order (signalsIn n set) (derivativeIn terms) .1 e
+
+  first-unmet : T (some (missing n fs s)) → First (firstUnmet n fs s)
+  unfolding firstUnmet
+  first-unmet t = first-unlinked plain mono-order (signalsIn n set) (derivativeIn terms) [] t
+
+  unlinked-some : (p : ℕ) → First p → T (some (missing n fs s))
+  unlinked-some p f = go (test (some (missing n fs s)))
+    where
+      go : Tested (some (missing n fs s)) → T (some (missing n fs s))
+      go (passed e) = is→T (some (missing n fs s)) e
+      go (failed e) =
+          let meets : Meets = none-meets (some-none (missing n fs s) (is→nT (some (missing n fs s)) e)) in
+          absurd (f .unlinked (meets (getD (signalsIn n set) p []) (at-in (signalsIn n set) p [] (f .below))))
+
+  unlinked-not : (p : ℕ) → First p → judged n fs s ≡ NotQuadratic (length s) p
+  unlinked-not p f =
+      let one : p ≡ firstUnmet n fs s =
+      first-unlinked-one plain mono-order (signalsIn n set) (derivativeIn terms) [] p (firstUnmet n fs s) f (first-unmet (unlinked-some p f)) in
+      sym (judged-not n fs s p one (f .below))
+
+  -- ---- what holds is said
+  unmeasured : Ranged n → (Measured terms → ⊥) → verdict n terms set ≡ Length
+  unmeasured r f = said-terms-length n terms set (count-in r) (nT→is (lengthRight terms) (λ t. f (length-exact terms .0 (T→is (lengthRight terms) t))))
+
+  misfit : Ranged n → (length set ≡ 36 → ⊥) → verdict n terms set ≡ Length
+  misfit r f = go (test (lengthRight terms))
+    where
+      go : Tested (lengthRight terms) → verdict n terms set ≡ Length
+      go (failed e) = said-terms-length n terms set (count-in r) e
+      go (passed e) = said-set-length n terms set (count-in r) e f
+
+  said : (r : Reply) → CheckSays r → verdict n terms set ≡ r
+  said Setting h = said-setting n terms set (nT→is (countRight n) (λ t. h (count-out t)))
+  said Length h = ⊎-elim (unmeasured (h .0)) (misfit (h .0)) (h .1)
+  said (Term p) h = said-fault (h .0) (h .1) (Wrong p) (wrong-exact n (records terms) beyond p .1 (h .2))
+  said (Twice p) h = said-fault (h .0) (h .1) (Repeated p) (repeated-exact n (records terms) beyond p .1 (h .2))
+  said BadSet h = said-record (h .0) (h .1) (h .2) ∙ record-bad n terms set (nT→is (setRight n set) (λ t. h .3 (right-iff n set .0 t)))
+  said (NotQuadratic o p) h = said-judged (h .0) ∙ unlinked-not p (h .2) ∙ ap (λ (i : ℕ). NotQuadratic i p) (sym (h .1))
+  said (Done o c k) h =
+      said-judged (h .0) ∙ quadratic-done (h .4) ∙ ap (λ (i : ℕ). Done i 0 0) (sym (h .1)) ∙ ap₂ (λ (i j : ℕ). Done o i j) (sym (h .2)) (sym (h .3))
+  said (Nothing o k) h = absurd h
+  said (Full o k) h = absurd h
+  said (Spent o k) h = absurd h
+
+  -- ---- and one of them holds
+  record Told : Type 0 where
+    reply : Reply
+    holds : CheckSays reply
+
+  told-set : WellFormed n terms set → Told
+  told-set w = go (test (some (missing n fs s)))
+    where
+      go : Tested (some (missing n fs s)) → Told
+      go (passed e) = record {
+        reply = NotQuadratic (length s) (firstUnmet n fs s);
+        holds = (w, refl, first-unmet (is→T (some (missing n fs s)) e));
+      }
+      go (failed e) = record {
+        reply = Done (length s) 0 0;
+        holds = (w, refl, refl, refl, none-meets (some-none (missing n fs s) (is→nT (some (missing n fs s)) e)));
+      }
+
+  told-fault : Ranged n → Lengths terms set → (f : Fault) → fault n (records terms) ≡ f → Told
+  told-fault r l (Wrong p) e = record { reply = Term p; holds = (r, l, wrong-exact n (records terms) beyond p .0 e) }
+  told-fault r l (Repeated p) e = record { reply = Twice p; holds = (r, l, repeated-exact n (records terms) beyond p .0 e) }
+  told-fault r l Clean e = go (test (setRight n set))
+    where
+      clean : Flawless n (records terms) beyond
+      clean = clean-exact n (records terms) beyond .0 e
+
+      go : Tested (setRight n set) → Told
+      go (passed t) = told-set (record { ranged = r; lengths = l; flawless = clean; right = right-iff n set .0 (is→T (setRight n set) t) })
+      go (failed t) = record { reply = BadSet; holds = (r, l, clean, λ q. is→nT (setRight n set) t (right-iff n set .1 q)) }
+
+  told-lengths : Ranged n → Told
+  told-lengths r = go (test (lengthRight terms)) (test (eqb (length set) 36))
+    where
+      go : Tested (lengthRight terms) → Tested (eqb (length set) 36) → Told
+      go (failed e) q = record { reply = Length; holds = (r, inl (λ m. is→nT (lengthRight terms) e (is→T (lengthRight terms) (length-exact terms .1 m)))) }
+      go (passed e) (failed q) = record { reply = Length; holds = (r, inr (eqb-false (length set) 36 q)) }
+      go (passed e) (passed q) =
+          told-fault r (record { measured = length-exact terms .0 e; long = eqb-true (length set) 36 q }) (fault n (records terms)) refl
+
+  told : Told
+  told = go (test (countRight n))
+    where
+      go : Tested (countRight n) → Told
+      go (passed e) = told-lengths (count-out (is→T (countRight n) e))
+      go (failed e) = record { reply = Setting; holds = λ r. is→nT (countRight n) e (is→T (countRight n) (count-in r)) }
+
+  -- ---- what is said holds: one of the seven cases, since the other three hold of nothing
+  pub verdict-says : CheckSays (verdict n terms set)
+  verdict-says = subst CheckSays (sym (said (told .reply) (told .holds))) (told .holds)
+
+  pub verdict-exact : (r : Reply) → (verdict n terms set ≡ r) ↔ CheckSays r
+  verdict-exact r = ((λ e. subst CheckSays e verdict-says), said r)
+
+  -- ---- the seven, one by one
+  pub says-setting : (verdict n terms set ≡ Setting) ↔ ((1 ≤ n) × (n ≤ 6) → ⊥)
+  says-setting = verdict-exact Setting
+
+  pub says-length : (verdict n terms set ≡ Length) ↔ (Ranged n × ((Measured terms → ⊥) ⊎ (length set ≡ 36 → ⊥)))
+  says-length = verdict-exact Length
+
+  pub says-term : (p : ℕ) → (verdict n terms set ≡ Term p) ↔ (Ranged n × Lengths terms set × Breaks n (records terms) beyond p)
+  says-term p = verdict-exact (Term p)
+
+  pub says-twice : (p : ℕ) → (verdict n terms set ≡ Twice p) ↔ (Ranged n × Lengths terms set × Repeats n (records terms) beyond p)
+  says-twice p = verdict-exact (Twice p)
+
+  pub says-set : (verdict n terms set ≡ BadSet) ↔ (Ranged n × Lengths terms set × Flawless n (records terms) beyond × (RightRecord n set → ⊥))
+  says-set = verdict-exact BadSet
+
+  pub says-not-quadratic : (o p : ℕ) → (verdict n terms set ≡ NotQuadratic o p)
+      ↔ (WellFormed n terms set × (o ≡ length (setOf set)) × FirstUnlinked plain mono-order (signalsIn n set) (derivativeIn terms) [] p)
+  says-not-quadratic o p = verdict-exact (NotQuadratic o p)
+
+  pub says-done : (o c k : ℕ) → (verdict n terms set ≡ Done o c k)
+      ↔ (WellFormed n terms set × (o ≡ length (setOf set)) × (c ≡ 0) × (k ≡ 0) × Quadratic plain (signalsIn n set) (derivativeIn terms))
+  says-done o c k = verdict-exact (Done o c k)
+
+  -- the place is the number of a variable or a new monomial, never of 1
+  pub place-signals : (o p : ℕ) → verdict n terms set ≡ NotQuadratic o p → (1 ≤ p) × (p ≤ n + length (setOf set))
+  place-signals o p e =
+      let h = says-not-quadratic o p .0 e in
+      let m = h .0 .ranged .1 in
+      let l = signals-length n (setOf set) m in
+      (first-unlinked-raised 6 n fs s p (h .2), omega (arith, h .2 .below))
+
+  -- ---- the contract of `check`: a reply keeps it exactly where what it says holds, and there is one such reply
+  pub check-exact : (r : Reply) → (numbers r ≡ checked n terms set) ↔ CheckSays r
+  unfolding checked
+  check-exact r = ((λ e. verdict-exact r .0 (is-verdict n terms set r e)), (λ h. ap numbers (sym (said r h))))
+
+  pub check-determined : (r r' : Reply) → numbers r ≡ checked n terms set → numbers r' ≡ checked n terms set → r ≡ r'
+  check-determined r r' e e' = same-reply r r' (e ∙ sym e')

@@ -1,0 +1,82 @@
+-- `wire` meets its contract: what checking refuses is refused over zeros, and what it accepts is listed. Assumes nothing.
+use mathlib.Core.Path.{sym, ap, _∙_}
+use lib.ListN.{length}
+use Rattle.wiring.specs.Reply.{numbers, outcome}
+use Rattle.wiring.proofs.reply.Laws.{code-done}
+use Rattle.wiring.proofs.answers.Laws.{is-verdict, code-is, done-accepted, wirable, listed-as, wired-refused, wired-listed}
+use borrow.Author.Needs.{needs}
+use borrow.Author.Needs.{needs}
+use Rattle.wiring.proofs.answers.wire.Statement.{statement}
+use Rattle.wiring.proofs.answers.wire.Tie as tie
+
+clear-requires : tie.Need-clear-requires
+clear-requires c κs = search needs
+
+check-requires : tie.Need-check-requires
+check-requires c κs = search needs
+
+numbers-requires : tie.Need-numbers-requires
+numbers-requires c κs = search needs
+
+array-read-if1 : tie.Need-array-read-if1
+array-read-if1 c = search needs
+
+same-length : tie.Need-same-length
+same-length c = c .before .before .before .before .before .clear .kept .0
+
+returns : tie.Need-returns
+returns c =
+    let a = c .before .before .before .before .before .before .before .before .before .before .args in
+    let said = c .before .before .check .result in
+    let v = is-verdict (a .n) (a .terms .now) (a .set .now) said (c .before .before .check .ensures) in
+    ap (outcome said) (c .before .before .before .before .before .clear .ensures) ∙ sym (wired-refused (a .n) (a .terms .now) (a .set .now) (length (a .out .now)) said v
+    (λ e. c .if1 .taken (code-is _ said (c .before .numbers .ensures) ∙ e)))
+
+read-set-requires : tie.Need-read-set-requires
+read-set-requires c κs =
+    let a = c .before .before .before .before .before .before .before .before .before .before .args in
+    let said = c .before .before .check .result in
+    let zero = sym (code-is _ said (c .before .numbers .ensures)) ∙ c .if1 .left in
+    done-accepted (a .n) (a .terms .now) (a .set .now) said (c .before .before .check .ensures) zero .long
+
+list-wires-requires : tie.Need-list-wires-requires
+list-wires-requires c κs =
+    let a = c .before .before .before .before .before .before .before .before .before .before .before .before .args in
+    let said = c .before .before .before .before .check .result in
+    let zero = sym (code-is _ said (c .before .before .before .numbers .ensures)) ∙ c .before .before .if1 .left in
+    let ok = done-accepted (a .n) (a .terms .now) (a .set .now) said (c .before .before .before .before .check .ensures) zero in
+    wirable (a .n) (a .terms .now) (a .set .now) _ (length (a .out .now)) (c .before .read-set .result) ok (c .before .read-set .ensures)
+    (c .before .before .before .before .before .before .before .clear .ensures)
+    (c .before .before .before .before .before .before .before .clear .kept .0)
+
+same-length-2 : tie.Need-same-length-2
+same-length-2 c = c .before .before .list-wires .kept .1 .1 .1 .0 ∙ c .before .before .before .before .before .before .before .before .before .before .clear .kept .0
+
+returns-2 : tie.Need-returns-2
+returns-2 c =
+    let a = c .before .before .before .before .before .before .before .before .before .before .before .before .before .before .before .args in
+    let said = c .before .before .before .before .before .before .before .check .result in
+    let zero = sym (code-is _ said (c .before .before .before .before .before .before .numbers .ensures)) ∙ c .before .before .before .before .before .if1 .left in
+    let ok = done-accepted (a .n) (a .terms .now) (a .set .now) said (c .before .before .before .before .before .before .before .check .ensures) zero in
+    let d = code-done said zero in
+    let v = is-verdict (a .n) (a .terms .now) (a .set .now) said (c .before .before .before .before .before .before .before .check .ensures) ∙ d .is in
+    c .before .before .list-wires .ensures
+    ∙ listed-as (a .n) (a .terms .now) (a .set .now) (length (a .out .now)) _ (c .before .before .before .before .read-set .result) ok
+    (c .before .before .before .before .read-set .ensures)
+    (c .before .before .before .before .before .before .before .before .before .before .clear .kept .0)
+    ∙ sym (wired-listed (a .n) (a .terms .now) (a .set .now) (length (a .out .now)) (d .order) (d .count) (d .steps) v)
+
+pub wire-spec : {M : Type 1} → statement M
+wire-spec =
+    tie.close
+    (tie.spec
+    clear-requires
+    check-requires
+    numbers-requires
+    array-read-if1
+    same-length
+    returns
+    read-set-requires
+    list-wires-requires
+    same-length-2
+    returns-2)

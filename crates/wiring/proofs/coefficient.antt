@@ -1,0 +1,2 @@
+-- The laws of specs/Coefficient.antt.
+pub mod Laws

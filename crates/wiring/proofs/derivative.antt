@@ -1,0 +1,5 @@
+-- Derivatives: the rules that fix them, record by record, and how large they can be.
+pub mod Rules
+pub mod Records
+pub mod Bounds
+pub mod Panel

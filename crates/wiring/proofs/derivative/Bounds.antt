@@ -1,0 +1,268 @@
+-- How large exponents and totals of derivatives can be. No equation holds a monomial twice, so each equation adds at most one term to a
+-- monomial: with six equations, exponents at most b and coefficients at most c, a total is at most 6 b c. Assumes nothing.
+use mathlib.Core.Path.{_≡_, refl, sym, ap, ap₂, _∙_, subst}
+use mathlib.Core.Bool.{true, false}
+use mathlib.Core.List.{List, [], _∷_, Memᴰ·cast, Memᴰ·map, Memᴰ·of-map}
+use Prim.Native.Nat.{ℕ, zero, suc, _+_, _*_, _-_, _/_, _<_, _≤_}
+use native.Mathlib.Nat.{mul-le-mul, mul-le-mul-left, mul-le-mul-right}
+use native.Mathlib.Omega.{arith}
+use lib.Dec.{eqb}
+use borrow.Author.Tests.{eqb-true, eqb-false}
+use lib.IntN.{ℤ, pos, natAbs, _+ℤ_, _*ℤ_, +ℤ-idr}
+use lib.ListN.{length, getD, set, take, length-set}
+use lib.Seq.{take-all}
+use mir.Syntax.{w32}
+use mir.Val.{SFits, toZ, ofZ}
+use mir.ValLaws.{toZ-pos, toZ-ofZ}
+use Rattle.monomial.specs.Lists.{keep}
+use Rattle.monomial.specs.Monomial.{Mono}
+use Rattle.monomial.specs.Order.{same}
+use Rattle.monomial.specs.Product.{mul, AtMost}
+use Rattle.monomial.proofs.Tests.{Tested, passed, failed, test, is→T}
+use Rattle.monomial.proofs.Members.{_∈_, here, there, take-in}
+use Rattle.monomial.proofs.Loops.{pointwise-length}
+use Rattle.monomial.proofs.order.Laws.{mono-order}
+use Rattle.monomial.proofs.product.Laws.{atMost-mul, atMost-set, atMost-at}
+use Rattle.monomial.proofs.quotient.Laws.{mul-cancel}
+use Rattle.wiring.specs.Poly.{Term, Poly, plain, coeff, times, monos, support}
+use Rattle.wiring.specs.Derivative.{derivative, part, partsFrom, power, image}
+use Rattle.wiring.specs.Terms.{Record, recordAt, records, equation, system, CleanTerms}
+use Rattle.wiring.proofs.Ints.{abs-sum, abs-product}
+use Rattle.wiring.proofs.Poly.{coeff-append, coeff-absent, support-out}
+use Rattle.wiring.proofs.coefficient.Laws.{fits-32}
+use Rattle.wiring.proofs.terms.Laws.{alike-in, Rightful, clean-at, records-length, records-at, Unlike, clean-in, clean-take, clean-unlike}
+use Rattle.wiring.proofs.derivative.Records.{derived, Scaled, times-out, equation-out, equation-own, equation-other, run, partsOf, system-runs, summed, summed-next, exchange, contribution, contribution-flat, contribution-hit, contribution-miss}
+
+-- ---- exponents
+-- the image of a record with six exponents, at most d each
+pub image-fits : (r : Record) (d b : ℕ) (z : Mono) → length (r .monomial) ≡ 6 → AtMost d (r .monomial) → length z ≡ 6 → AtMost b z
+    → (length (image r z) ≡ 6) × AtMost (b + d) (image r z)
+image-fits r d b z l small lz a =
+    let i = r .equation - 1 in
+    let e = power r z - 1 in
+    let h : power r z ≤ b = atMost-at b z i a in
+    let k : length (set z i e) ≡ 6 = length-set z i e ∙ lz in
+    (pointwise-length _+_ (set z i e) (r .monomial) (k ∙ sym l) ∙ k, atMost-mul b d (set z i e) (r .monomial) (atMost-set b z i e (omega arith) a) small)
+
+-- the monomials of a derivative have six exponents, at most 9 more than the monomial's own
+pub derivative-fits : (bytes : List ℕ) → CleanTerms bytes → (b : ℕ) (z : Mono) → length z ≡ 6 → AtMost b z
+    → (m : Mono) → m ∈ support plain (derivative (system (records bytes)) z) → (length m ≡ 6) × AtMost (b + 9) m
+derivative-fits bytes c b z l a m h =
+    let from = derived (records bytes) z m (support-out plain mono-order (derivative (system (records bytes)) z) m h .0) in
+    let r = clean-in bytes c (from .by) (from .listed) in
+    subst (λ (x : Mono). (length x ≡ 6) × AtMost (b + 9) x) (from .is) (image-fits (from .by) 9 b z (r .long) (r .small) l a)
+
+-- ---- totals
+-- no monomial twice in a polynomial
+abbrev pub Apart : Poly Mono → Type 0
+Apart [] = Unit {0}
+Apart (t ∷ p) = (t .1 ∈ monos p → ⊥) × Apart p
+
+-- terms of one width, coefficients at most c, no monomial twice
+pub record Distinct (w c : ℕ) (p : Poly Mono) : Type 0 where
+  pub sized : (t : Term Mono) → t ∈ p → length (t .1) ≡ w
+  pub small : (t : Term Mono) → t ∈ p → natAbs (t .0) ≤ c
+  pub apart : Apart p
+
+distinct-tail : (w c : ℕ) (t : Term Mono) (p : Poly Mono) → Distinct w c (t ∷ p) → Distinct w c p
+distinct-tail w c t p d = record {
+  sized = λ u h. d .sized u (there h);
+  small = λ u h. d .small u (there h);
+  apart = d .apart .1;
+}
+
+-- where the first term falls on m, no later one does
+times-once : (w c e : ℕ) (z : Mono) → length z ≡ w → (t : Term Mono) (p : Poly Mono) → Distinct w c (t ∷ p) → (m : Mono) → mul z (t .1) ≡ m
+    → coeff plain (times plain (pos e) z p) m ≡ pos 0
+times-once w c e z lz t p d m i = coeff-absent plain mono-order (times plain (pos e) z p) m (λ h. clash (times-out (pos e) z p m h))
+  where
+    clash : Scaled z p m → ⊥
+    clash s =
+        let width : length z ≡ length (t .1) = lz ∙ sym (d .sized t here) in
+        let other : length z ≡ length (s .term .1) = lz ∙ sym (d .sized (s .term) (there (s .listed))) in
+        let equal : t .1 ≡ s .term .1 = mul-cancel z (t .1) (s .term .1) width other (i ∙ sym (s .is)) in
+        d .apart .0 (Memᴰ·cast equal (Memᴰ·map (λ (x : Term Mono). x .1) (s .listed)))
+
+times-bounded : (w c e : ℕ) (z : Mono) → length z ≡ w → (p : Poly Mono) → Distinct w c p → (m : Mono) → natAbs (coeff plain (times plain (pos e) z p) m) ≤ e * c
+unfolding coeff times
+times-bounded w c e z lz [] d m = omega arith
+times-bounded w c e z lz (t ∷ p) d m = go (times-bounded w c e z lz p (distinct-tail w c t p d) m) (test (same (mul z (t .1)) m))
+  where
+    go : natAbs (coeff plain (times plain (pos e) z p) m) ≤ e * c → Tested (same (mul z (t .1)) m) → natAbs (coeff plain (times plain (pos e) z (t ∷ p)) m) ≤ e * c
+    go ih (failed q) = rw q ih
+    go ih (passed q) =
+        let later = coeff plain (times plain (pos e) z p) m in
+        let none : natAbs later ≡ 0 = ap natAbs (times-once w c e z lz t p d m (mono-order .same-eq (mul z (t .1)) m (is→T (same (mul z (t .1)) m) q))) in
+        let sum : natAbs (pos e *ℤ t .0 +ℤ later) ≤ natAbs (pos e *ℤ t .0) + natAbs later = abs-sum (pos e *ℤ t .0) later in
+        let product : natAbs (pos e *ℤ t .0) ≡ e * natAbs (t .0) = abs-product (pos e) (t .0) in
+        let small : e * natAbs (t .0) ≤ e * c = mul-le-mul-left e (d .small t here) in
+        rw q (omega arith)
+
+part-bounded : (w c e i : ℕ) (z : Mono) → length z ≡ w → (p : Poly Mono) → Distinct w c p → (m : Mono) → natAbs (coeff plain (part e i z p) m) ≤ e * c
+unfolding coeff
+part-bounded w c zero i z lz p d m = omega arith
+part-bounded w c (suc e) i z lz p d m = times-bounded w c (suc e) (set z i e) (length-set z i e ∙ lz) p d m
+
+-- ---- the equations of records: k of them from number i on
+module _ (w c b : ℕ) (rs : List Record) (z : Mono) (lz : length z ≡ w) (a : AtMost b z) (d : (i : ℕ) → Distinct w c (equation rs i)) (m : Mono) where
+  parts-bounded : (i k : ℕ) → natAbs (coeff plain (partsOf rs z i k) m) ≤ k * (b * c)
+  unfolding partsFrom run coeff
+  parts-bounded i zero = omega arith
+  parts-bounded i (suc k) =
+      let own = part (getD z i 0) i z (equation rs i) in
+      let rest = partsOf rs z (suc i) k in
+      let ih : natAbs (coeff plain rest m) ≤ k * (b * c) = parts-bounded (suc i) k in
+      let one : natAbs (coeff plain own m) ≤ getD z i 0 * c = part-bounded w c (getD z i 0) i z lz (equation rs i) (d i) m in
+      let most : getD z i 0 * c ≤ b * c = mul-le-mul-right c (atMost-at b z i a) in
+      let sum : natAbs (coeff plain own m +ℤ coeff plain rest m) ≤ natAbs (coeff plain own m) + natAbs (coeff plain rest m) = abs-sum (coeff plain own m) (coeff plain rest m) in
+      rw (coeff-append plain mono-order own rest m) (omega arith)
+
+  derivative-bounded : natAbs (coeff plain (derivative (system rs) z) m) ≤ 6 * (b * c)
+  derivative-bounded = rw (system-runs rs z) (parts-bounded 0 6)
+
+-- ---- records of which no two are alike give equations without repeats
+equation-apart : (rs : List Record) (i : ℕ) → Unlike rs → Apart (equation rs i)
+unfolding equation keep
+equation-apart [] i u = tt
+equation-apart (q ∷ rs) i u = go (test (eqb (q .equation) (suc i))) (equation-apart rs i (u .1))
+  where
+    clash : q .equation ≡ suc i → (t : Term Mono) × (t ∈ equation rs i) × (t .1 ≡ q .monomial) → ⊥
+    clash e t =
+        let s = equation-out rs i (t .0) (t .1) in
+        let numbers : s .by .equation ≡ q .equation = s .numbered ∙ sym e in
+        let monomials : s .by .monomial ≡ q .monomial = ap (λ (x : Term Mono). x .1) (s .is) ∙ t .2 in
+        u .0 (s .by) (s .listed) (alike-in (s .by) q numbers monomials)
+
+    go : Tested (eqb (q .equation) (suc i)) → Apart (equation rs i) → Apart (equation (q ∷ rs) i)
+    go (passed p) ih =
+        let e : q .equation ≡ suc i = eqb-true (q .equation) (suc i) p in
+        subst Apart (sym (equation-own q rs i e)) ((λ h. clash e (Memᴰ·of-map (λ (x : Term Mono). x .1) (equation rs i) h)), ih)
+    go (failed p) ih = subst Apart (sym (equation-other q rs i (eqb-false (q .equation) (suc i) p))) ih
+
+-- records of one width, coefficients at most c, no two alike
+pub record Sized (w c : ℕ) (rs : List Record) : Type 0 where
+  pub long : (r : Record) → r ∈ rs → length (r .monomial) ≡ w
+  pub limited : (r : Record) → r ∈ rs → natAbs (r .coefficient) ≤ c
+  pub unlike : Unlike rs
+
+equation-distinct : (w c : ℕ) (rs : List Record) → Sized w c rs → (i : ℕ) → Distinct w c (equation rs i)
+equation-distinct w c rs s i = record {
+  sized = λ t h. let o = equation-out rs i t h in subst (λ (x : Term Mono). length (x .1) ≡ w) (o .is) (s .long (o .by) (o .listed));
+  small = λ t h. let o = equation-out rs i t h in subst (λ (x : Term Mono). natAbs (x .0) ≤ c) (o .is) (s .limited (o .by) (o .listed));
+  apart = equation-apart rs i (s .unlike);
+}
+
+pub total-bounded : (w c b : ℕ) (rs : List Record) → Sized w c rs → (z m : Mono) → length z ≡ w → AtMost b z
+    → natAbs (coeff plain (derivative (system rs) z) m) ≤ 6 * (b * c)
+total-bounded w c b rs s z m lz a = derivative-bounded w c b rs z lz a (equation-distinct w c rs s) m
+
+-- ---- clean records, and the sum over the first of them
+module _ (bytes : List ℕ) (clean : CleanTerms bytes) where
+  first-in : (t : ℕ) (r : Record) → r ∈ take t (records bytes) → Rightful r
+  first-in t r h = clean-in bytes clean r (take-in t (records bytes) h)
+
+  pub clean-sized : (t : ℕ) → Sized 6 1000000 (take t (records bytes))
+  clean-sized t = record {
+    long = λ r h. first-in t r h .long;
+    limited = λ r h. first-in t r h .limited;
+    unlike = clean-unlike 6 [] (take t (records bytes)) (clean-take 6 [] (records bytes) t clean);
+  }
+
+  pub clean-exchange : (z m : Mono) (t : ℕ) → summed (take t (records bytes)) z m ≡ coeff plain (derivative (system (take t (records bytes))) z) m
+  clean-exchange z m t = exchange (take t (records bytes)) z m (λ r h. (first-in t r h .low, first-in t r h .high))
+
+  pub sum-bounded : (b : ℕ) (z m : Mono) → length z ≡ 6 → AtMost b z → (t : ℕ) → natAbs (summed (take t (records bytes)) z m) ≤ 6 * (b * 1000000)
+  sum-bounded b z m lz a t = rw (clean-exchange z m t) (total-bounded 6 1000000 b (take t (records bytes)) (clean-sized t) z m lz a)
+
+  -- with exponents up to 72 every sum on the way fits a signed 32-bit number
+  pub sum-fits : (z m : Mono) → length z ≡ 6 → AtMost 72 z → (t : ℕ) → natAbs (summed (take t (records bytes)) z m) < 2147483648
+  sum-fits z m lz a t = let h = sum-bounded 72 z m lz a t in omega arith
+
+  -- the sum over all of them is the total
+  pub sum-ends : (z m : Mono) (t : ℕ) → length (records bytes) ≤ t → summed (take t (records bytes)) z m ≡ coeff plain (derivative (system (records bytes)) z) m
+  sum-ends z m t h = clean-exchange z m t ∙ ap (λ (rs : List Record). coeff plain (derivative (system rs) z) m) (take-all t (records bytes) h)
+
+  pub clean-total : (b : ℕ) (z m : Mono) → length z ≡ 6 → AtMost b z → natAbs (coeff plain (derivative (system (records bytes)) z) m) ≤ 6 * (b * 1000000)
+  clean-total b z m lz a = rw (← sum-ends z m (length (records bytes)) (omega arith)) (sum-bounded b z m lz a (length (records bytes)))
+
+  pub total-fits : (z m : Mono) → length z ≡ 6 → AtMost 72 z → natAbs (coeff plain (derivative (system (records bytes)) z) m) < 2147483648
+  total-fits z m lz a = let h = clean-total 72 z m lz a in omega arith
+
+-- ---- a loop that adds the records up in 32 bits, sum so far, and has come to record number t
+pub record Adding (bytes : List ℕ) (z m : Mono) (sum t : ℕ) : Type 0 where
+  pub clean : CleanTerms bytes
+  pub long : length z ≡ 6
+  pub small : AtMost 72 z
+  pub so-far : toZ w32 sum ≡ summed (take t (records bytes)) z m
+
+pub adding-start : (bytes : List ℕ) (z m : Mono) → CleanTerms bytes → length z ≡ 6 → AtMost 72 z → Adding bytes z m 0 0
+unfolding summed
+adding-start bytes z m c l a = record { clean = c; long = l; small = a; so-far = refl }
+
+pub adding-ends : {bytes : List ℕ} {z m : Mono} {sum t : ℕ} → Adding bytes z m sum t → length bytes / 12 ≤ t
+    → toZ w32 sum ≡ coeff plain (derivative (system (records bytes)) z) m
+adding-ends {bytes} {z} {m} {sum} {t} a h = a .so-far ∙ sum-ends bytes (a .clean) z m t (rw (records-length bytes) h)
+
+module _ {bytes : List ℕ} {z m : Mono} {sum t : ℕ} (a : Adding bytes z m sum t) (h : t < length bytes / 12) where
+  -- the sum with record number t
+  next-is : summed (take (t + 1) (records bytes)) z m ≡ summed (take t (records bytes)) z m +ℤ contribution (recordAt bytes t) z m
+  next-is =
+      let r = recordAt bytes t in
+      summed-next (records bytes) t r z m (rw (records-length bytes) h)
+      ∙ ap (λ (q : Record). summed (take t (records bytes)) z m +ℤ contribution q z m) (records-at bytes t r h)
+
+  adding-none : contribution (recordAt bytes t) z m ≡ pos 0 → Adding bytes z m sum (t + 1)
+  adding-none e = record {
+    clean = a .clean;
+    long = a .long;
+    small = a .small;
+    so-far = a .so-far ∙ sym (next-is ∙ ap (λ (y : ℤ). summed (take t (records bytes)) z m +ℤ y) e ∙ +ℤ-idr (summed (take t (records bytes)) z m));
+  }
+
+  pub adding-flat : power (recordAt bytes t) z ≡ 0 → Adding bytes z m sum (t + 1)
+  adding-flat e = adding-none (contribution-flat (recordAt bytes t) z m e)
+
+  pub adding-miss : (y : Mono) → y ≡ image (recordAt bytes t) z → same y m ≡ false → Adding bytes z m sum (t + 1)
+  adding-miss y y-is e = adding-none (contribution-miss (recordAt bytes t) z m (rw (← y-is) e))
+
+  -- the product and the sum as the machine takes them: k is the record's power, x its coefficient
+  module _ (k : ℕ) (k-is : k ≡ power (recordAt bytes t) z) where
+    limited : k ≤ 72
+    limited = rw k-is (atMost-at 72 z (recordAt bytes t .equation - 1) (a .small))
+
+    pub power-fits : SFits w32 (pos k)
+    power-fits = let l = limited in fits-32 (pos k) (omega arith)
+
+  module _ (k : ℕ) (x : ℤ) (k-is : k ≡ power (recordAt bytes t) z) (x-is : x ≡ recordAt bytes t .coefficient) where
+    abbrev product : ℤ
+    product = toZ w32 k *ℤ toZ w32 (ofZ w32 x)
+
+    million : natAbs x ≤ 1000000
+    million = rw x-is (clean-at bytes (a .clean) t h .limited)
+
+    plain-product : product ≡ pos k *ℤ x
+    plain-product = let l = limited k k-is in let n = million in rw (toZ-pos w32 k (omega arith), toZ-ofZ w32 x (fits-32 x (omega arith)))
+
+    pub product-fits : SFits w32 product
+    product-fits =
+        let size : natAbs (pos k *ℤ x) ≡ k * natAbs x = abs-product (pos k) x in
+        let most : k * natAbs x ≤ 72 * 1000000 = mul-le-mul (limited k k-is) million in
+        rw plain-product (fits-32 (pos k *ℤ x) (omega arith))
+
+    module _ (raised : 0 < k) (y : Mono) (y-is : y ≡ image (recordAt bytes t) z) (hit : same y m ≡ true) where
+      added : toZ w32 sum +ℤ toZ w32 (ofZ w32 product) ≡ summed (take (t + 1) (records bytes)) z m
+      added =
+          let r = recordAt bytes t in
+          let own = contribution-hit r z m (rw (← k-is) raised) (rw (← y-is) hit) ∙ ap₂ (λ (i : ℕ) (y : ℤ). pos i *ℤ y) (sym k-is) (sym x-is) in
+          ap₂ _+ℤ_ (a .so-far) (toZ-ofZ w32 product product-fits ∙ plain-product ∙ sym own) ∙ sym next-is
+
+      pub sum-of-fits : SFits w32 (toZ w32 sum +ℤ toZ w32 (ofZ w32 product))
+      sum-of-fits = rw added (fits-32 (summed (take (t + 1) (records bytes)) z m) (sum-fits bytes (a .clean) z m (a .long) (a .small) (t + 1)))
+
+      pub adding-hit : Adding bytes z m (ofZ w32 (toZ w32 sum +ℤ toZ w32 (ofZ w32 product))) (t + 1)
+      adding-hit = record {
+        clean = a .clean;
+        long = a .long;
+        small = a .small;
+        so-far = toZ-ofZ w32 (toZ w32 sum +ℤ toZ w32 (ofZ w32 product)) sum-of-fits ∙ added;
+      }

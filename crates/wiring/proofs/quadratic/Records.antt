@@ -1,0 +1,279 @@
+-- What a loop over the term records meets of a derivative's monomials: those with a coefficient that pass a test, each through a record.
+-- The test "not in V2" gives the nonsquares, the test "behind the last one" the rest of a row of wiring. Assumes nothing.
+use mathlib.Core.Path.{_≡_, refl, sym, ap, _∙_, subst}
+use mathlib.Core.Logic.{⊎-elim}
+use mathlib.Core.Bool.{Bool, true, false, not, _&&_}
+use mathlib.Core.List.{List, [], _∷_, _++_, map, append-nil, append-assoc, List·Memᴰ·head, List·Memᴰ·cases-cons, List·Memᴰ·not-nil, List·Memᴰ·append-cases, Memᴰ·append-left, Memᴰ·append-right, Memᴰ·cast, Memᴰ·map, Memᴰ·of-map}
+use Prim.Native.Nat.{ℕ, _+_, _/_, _<_, _≤_}
+use native.Mathlib.Omega.{arith}
+use native.Mathlib.Numerals.{add-one}
+use borrow.Author.Tests.{le-leb, lt-leb}
+use lib.Dec.{T, leb, T-not, not-T, le→leb}
+use lib.IntN.{pos}
+use lib.ListN.{length, getD, take}
+use lib.Seq.{take-suc, take-all}
+use Rattle.monomial.specs.Lists.{any, some, keep, gather}
+use Rattle.monomial.specs.Monomial.{Mono}
+use Rattle.monomial.specs.Order.{same, before}
+use Rattle.monomial.proofs.Tests.{and-l, and-r, and-i, T→is, nT→is, is→T, is→nT, Tested, passed, failed, test}
+use Rattle.monomial.proofs.Members.{_∈_, there, any-in, any-out, Passing, some-in, some-out, keep-in, keep-out, gather-in, gather-out, Gathered}
+use Rattle.monomial.proofs.order.Laws.{Order, mono-order}
+use Rattle.monomial.proofs.order.Ascending.{_⊆_, keep-asc}
+use Rattle.wiring.specs.Coefficient.{isZero}
+use Rattle.wiring.specs.Poly.{Poly, plain, coeff, support}
+use Rattle.wiring.specs.Derivative.{derivative, power, image, offers}
+use Rattle.wiring.specs.Terms.{Record, recordAt, records, system}
+use Rattle.wiring.specs.declared.choice.Pick.{Pick}
+use Rattle.wiring.specs.Choice.{cheaper, Picked, Heads, BestOf, Best, Offered}
+use Rattle.wiring.proofs.Poly.{support-asc, support-in, support-out, zero-is}
+use Rattle.wiring.proofs.derivative.Records.{Derived, derived}
+use Rattle.wiring.proofs.choice.Laws.{best-members, cheap-order, picked, heads}
+use Rattle.wiring.specs.Quadratic.{products, inV2, unmet, nonsquares}
+use Rattle.wiring.proofs.terms.Laws.{records-at}
+use Rattle.wiring.proofs.quadratic.Laws.{products-is, nonsquares-in, nonsquares-out}
+
+-- ---- a record's turn, by the tests of the code: the power x, the monomial m, the test's word b, whether the total is zero
+module _ (f : Mono → Bool) (fs : List (Poly Mono)) (z : Mono) (r : Record) where
+  -- nothing is offered
+  none-offered : (q : Pick) → q .some ≡ false → offers f fs z r ≡ false → Offered (offers f fs z r) (image r z) q
+  none-offered q e o = record { told = e ∙ sym o; is = λ t. absurd (is→nT (q .some) e (is→T (q .some) t)) }
+
+  pub offered-low : (x : ℕ) (q : Pick) → x ≡ power r z → x < 1 → q .some ≡ false → Offered (offers f fs z r) (image r z) q
+  unfolding offers
+  offered-low x q ex h e = none-offered q e (rw (lt-leb 1 (power r z) (omega arith)))
+
+  module _ (x : ℕ) (m : Mono) (ex : x ≡ power r z) (h : 1 ≤ x) (em : m ≡ image r z) where
+    pub offered-fails : (q : Pick) → f m ≡ false → q .some ≡ false → Offered (offers f fs z r) (image r z) q
+    unfolding offers
+    offered-fails q p e = none-offered q e (rw (le-leb 1 (power r z) (omega arith), ← em, p))
+
+    pub offered-zero : (q : Pick) → f m ≡ true → isZero (coeff plain (derivative fs z) m) ≡ true → q .some ≡ false → Offered (offers f fs z r) (image r z) q
+    unfolding offers
+    offered-zero q p t e = none-offered q e (rw (le-leb 1 (power r z) (omega arith), ← em, p, t))
+
+    pub offered-here : (q : Pick) → f m ≡ true → isZero (coeff plain (derivative fs z) m) ≡ false → q .some ≡ true → q .m .e ≡ m → Offered (offers f fs z r) (image r z) q
+    unfolding offers
+    offered-here q p t e qm = record { told = e ∙ sym (rw (le-leb 1 (power r z) (omega arith), ← em, p, t)); is = λ s. qm ∙ em }
+
+-- two tests that agree
+pub keep-alike : {A : Type 0} (f g : A → Bool) (l : List A) → ((x : A) → f x ≡ g x) → keep f l ≡ keep g l
+unfolding keep
+keep-alike f g [] h = refl
+keep-alike f g (x ∷ l) h = rw (h x, keep-alike f g l h)
+
+module _ (f : Mono → Bool) (rs : List Record) (z : Mono) where
+  -- the monomials of the derivative that pass
+  abbrev pub passing : List Mono
+  passing = keep f (support plain (derivative (system rs) z))
+
+  abbrev total : Mono → Bool
+  total m = isZero (coeff plain (derivative (system rs) z) m)
+
+  pub offers-in : (r : Record) → 0 < power r z → T (f (image r z)) → (T (total (image r z)) → ⊥) → T (offers f (system rs) z r)
+  unfolding offers
+  offers-in r h t n =
+      and-i (leb 1 (power r z) && f (image r z)) (not (total (image r z)))
+      (and-i (leb 1 (power r z)) (f (image r z)) (le→leb 1 (power r z) h) t) (not-T (total (image r z)) n)
+
+  -- a record that offers gives one of them
+  pub offered-in : (r : Record) → T (offers f (system rs) z r) → image r z ∈ passing
+  unfolding offers isZero
+  offered-in r t =
+      let m = image r z in
+      let front : T (leb 1 (power r z) && f m) = and-l (leb 1 (power r z) && f m) (not (total m)) t in
+      let not-zero : T (not (total m)) = and-r (leb 1 (power r z) && f m) (not (total m)) t in
+      let some-total : coeff plain (derivative (system rs) z) m ≡ pos 0 → ⊥ = λ e. T-not (total m) not-zero (subst (λ c. T (isZero c)) (sym e) tt) in
+      keep-in f (support plain (derivative (system rs) z)) (support-in plain mono-order (derivative (system rs) z) m some-total) (and-r (leb 1 (power r z)) (f m) front)
+
+  -- and each of them is given by one
+  pub record Offering (m : Mono) : Type 0 where
+    pub by : Record
+    pub listed : by ∈ rs
+    pub offered : T (offers f (system rs) z by)
+    pub is : image by z ≡ m
+
+  pub offered-out : (m : Mono) → m ∈ passing → Offering m
+  offered-out m h =
+      let k = keep-out f (support plain (derivative (system rs) z)) h in
+      let s = support-out plain mono-order (derivative (system rs) z) m (k .0) in
+      let d : Derived rs z m = derived rs z m (s .0) in
+      let passes : T (f (image (d .by) z)) = subst (λ (x : Mono). T (f x)) (sym (d .is)) (k .1) in
+      let some-total : T (total (image (d .by) z)) → ⊥ = λ t. s .1 (zero-is (coeff plain (derivative (system rs) z) m) (subst (λ (x : Mono). T (total x)) (d .is) t)) in
+      record { by = d .by; listed = d .listed; offered = offers-in (d .by) (d .raised) passes some-total; is = d .is }
+
+  -- some record offers exactly when some monomial passes
+  pub offers-some : any (offers f (system rs) z) rs ≡ some passing
+  offers-some = go (test (any (offers f (system rs) z) rs))
+    where
+      go : Tested (any (offers f (system rs) z) rs) → any (offers f (system rs) z) rs ≡ some passing
+      go (passed e) =
+          let p : Passing (offers f (system rs) z) rs = any-out (offers f (system rs) z) rs (is→T (any (offers f (system rs) z) rs) e) in
+          e ∙ sym (T→is (some passing) (some-in (offered-in (p .entry) (p .passes))))
+      go (failed e) = e ∙ sym (nT→is (some passing) (λ t.
+          let x = some-out passing t in
+          let o : Offering (x .0) = offered-out (x .0) (x .1) in
+          is→nT (any (offers f (system rs) z) rs) e (any-in (offers f (system rs) z) (o .listed) (o .offered))))
+
+  -- ---- a loop that keeps the best of what the records offer
+  abbrev images : List Record → List Mono
+  images l = map (λ r. image r z) (keep (offers f (system rs) z) l)
+
+  module _ {earlier : Mono → Mono → Bool} (o : Order same earlier) (p : Pick) where
+    -- the first t records have been met, on top of what p is the best of
+    pub record Meeting (t : ℕ) (best : Pick) : Type 0 where
+      pub within : t ≤ length rs
+      pub holds : (l : List Mono) → Best earlier l p → Best earlier (images (take t rs) ++ l) best
+
+    pub meeting-start : Meeting 0 p
+    unfolding keep
+    meeting-start = record { within = omega arith; holds = λ l b. b }
+
+    images-append : (a b : List Record) → images (a ++ b) ≡ images a ++ images b
+    unfolding keep
+    images-append [] b = refl
+    images-append (r ∷ a) b = go (test (offers f (system rs) z r)) (images-append a b)
+      where
+        go : Tested (offers f (system rs) z r) → images (a ++ b) ≡ images a ++ images b → images (r ∷ a ++ b) ≡ images (r ∷ a) ++ images b
+        go (passed e) ih = rw e (ap (_∷_ (image r z)) ih)
+        go (failed e) ih = rw e ih
+
+    images-next : (t : ℕ) (d : Record) → t < length rs → images (take (t + 1) rs) ≡ images (take t rs) ++ images (getD rs t d ∷ [])
+    images-next t d h = rw (add-one t, take-suc rs t d h) (images-append (take t rs) (getD rs t d ∷ []))
+
+    -- the next record offers nothing
+    pub meeting-same : (t : ℕ) (best : Pick) (d : Record) → Meeting t best → t < length rs → offers f (system rs) z (getD rs t d) ≡ false → Meeting (t + 1) best
+    unfolding keep
+    meeting-same t best d m h e =
+        let none : images (take (t + 1) rs) ≡ images (take t rs) = images-next t d h ∙ rw e (append-nil (images (take t rs))) in
+        record { within = omega arith; holds = λ l b. rw none (m .holds l b) }
+
+    -- or one monomial, of which the best is made
+    pub meeting-more : (t : ℕ) (best best' : Pick) (d : Record) → Meeting t best → t < length rs → offers f (system rs) z (getD rs t d) ≡ true
+        → ((l : List Mono) → Best earlier l best → Best earlier (image (getD rs t d) z ∷ l) best') → Meeting (t + 1) best'
+    unfolding keep
+    meeting-more t best best' d m h e more = record { within = omega arith; holds = holds }
+      where
+        x : Mono
+        x = image (getD rs t d) z
+
+        one-more : images (take (t + 1) rs) ≡ images (take t rs) ++ (x ∷ [])
+        one-more = images-next t d h ∙ rw e
+
+        to-end : (l : List Mono) → (x ∷ (images (take t rs) ++ l)) ⊆ ((images (take t rs) ++ (x ∷ [])) ++ l)
+        to-end l y k =
+            ⊎-elim (λ q. Memᴰ·append-left l (Memᴰ·append-right (images (take t rs)) (List·Memᴰ·head q)))
+            (λ j. ⊎-elim (λ i. Memᴰ·append-left l (Memᴰ·append-left (x ∷ []) i)) (λ i. Memᴰ·append-right (images (take t rs) ++ (x ∷ [])) i) (List·Memᴰ·append-cases (images (take t rs)) j))
+            (List·Memᴰ·cases-cons k)
+
+        to-front : (l : List Mono) → ((images (take t rs) ++ (x ∷ [])) ++ l) ⊆ (x ∷ (images (take t rs) ++ l))
+        to-front l y k = ⊎-elim (λ j. ⊎-elim (λ i. there (Memᴰ·append-left l i)) (λ i. single i) (List·Memᴰ·append-cases (images (take t rs)) j))
+            (λ j. there (Memᴰ·append-right (images (take t rs)) j)) (List·Memᴰ·append-cases (images (take t rs) ++ (x ∷ [])) k)
+          where
+            single : y ∈ (x ∷ []) → y ∈ (x ∷ (images (take t rs) ++ l))
+            single i = ⊎-elim (λ q. List·Memᴰ·head q) (λ n. absurd (List·Memᴰ·not-nil n)) (List·Memᴰ·cases-cons i)
+
+        holds : (l : List Mono) → Best earlier l p → Best earlier (images (take (t + 1) rs) ++ l) best'
+        holds l b = rw one-more
+            (best-members o (best' .some) (x ∷ (images (take t rs) ++ l)) ((images (take t rs) ++ (x ∷ [])) ++ l) (best' .m .e) (to-end l) (to-front l) (more (images (take t rs) ++ l) (m .holds l b)))
+
+    -- at the end it is the best of all that pass
+    images-in : images rs ⊆ passing
+    images-in m h =
+        let q : (r : Record) × (r ∈ keep (offers f (system rs) z) rs) × (image r z ≡ m) = Memᴰ·of-map (λ r. image r z) (keep (offers f (system rs) z) rs) h in
+        Memᴰ·cast (sym (q .2)) (offered-in (q .0) (keep-out (offers f (system rs) z) rs (q .1) .1))
+
+    images-out : passing ⊆ images rs
+    images-out m h =
+        let w : Offering m = offered-out m h in
+        Memᴰ·cast (sym (w .is)) (Memᴰ·map (λ r. image r z) (keep-in (offers f (system rs) z) rs (w .listed) (w .offered)))
+
+    both : (a b l : List Mono) → a ⊆ b → (a ++ l) ⊆ (b ++ l)
+    both a b l sub y h = ⊎-elim (λ k. Memᴰ·append-left l (sub y k)) (λ k. Memᴰ·append-right b k) (List·Memᴰ·append-cases a h)
+
+    pub meeting-ends : (t : ℕ) (best : Pick) → Meeting t best → length rs ≤ t → (l : List Mono) → Best earlier l p → Best earlier (passing ++ l) best
+    meeting-ends t best m h l b =
+        best-members o (best .some) (images rs ++ l) (passing ++ l) (best .m .e) (both (images rs) passing l images-in) (both passing (images rs) l images-out)
+        (subst (λ (q : List Record). Best earlier (images q ++ l) best) (take-all t rs h) (m .holds l b))
+
+-- begun with nothing, it is the first of those that pass
+pub meeting-heads : (f : Mono → Bool) (rs : List Record) (z : Mono) (p : Pick) (t : ℕ) (best : Pick) → p .some ≡ false → Meeting f rs z mono-order p t best → length rs ≤ t
+    → Heads (passing f rs z) best
+meeting-heads f rs z p t best e m h =
+    heads (passing f rs z) (passing f rs z) best (keep-asc f (support plain (derivative (system rs) z)) (support-asc plain mono-order (derivative (system rs) z)))
+    (λ y k. k) (λ y k. k)
+    (subst (λ (l : List Mono). Best before l best) (append-nil (passing f rs z)) (meeting-ends f rs z mono-order p t best m h [] none))
+  where
+    none : Best before [] p
+    none = subst (λ (s : Bool). BestOf before s [] (p .m .e)) (sym e) (λ y k. List·Memᴰ·not-nil k)
+
+-- ---- the records of the bytes, by number
+pub at-record : {A : Type 0} (f : Record → A) (bytes : List ℕ) (t : ℕ) → t < length bytes / 12 → f (getD (records bytes) t (recordAt bytes t)) ≡ f (recordAt bytes t)
+at-record f bytes t h = ap f (records-at bytes t (recordAt bytes t) h)
+
+-- ---- with the table of V2 for its test, a loop over the records meets the nonsquares
+abbrev pub outside : List Mono → Mono → Bool
+outside l m = not (any (same m) l)
+
+pub passing-unmet : (l v : List Mono) (rs : List Record) (z : Mono) → l ≡ products plain v → passing (outside l) rs z ≡ unmet plain v (derivative (system rs) z)
+unfolding unmet
+passing-unmet l v rs z e =
+    keep-alike (outside l) (λ m. not (inV2 plain v m)) (support plain (derivative (system rs) z)) (λ m. ap (λ (t : List Mono). not (any (same m) t)) e ∙ ap not (products-is v m))
+
+pub found-unmet : (l v : List Mono) (rs : List Record) (z : Mono) → l ≡ products plain v
+    → any (offers (outside l) (system rs) z) rs ≡ some (unmet plain v (derivative (system rs) z))
+found-unmet l v rs z e = offers-some (outside l) rs z ∙ ap some (passing-unmet l v rs z e)
+
+-- ---- the bests of the signals, one after the other, are the best of all nonsquares
+module _ (v : List Mono) (d : Mono → Poly Mono) where
+  abbrev pub unmetOf : List Mono → List Mono
+  unmetOf l = gather (λ z. unmet plain v (d z)) l
+
+  -- the first j signals have been met
+  pub record Choosing (j : ℕ) (best : Pick) : Type 0 where
+    pub within : j ≤ length v
+    pub holds : Best cheaper (unmetOf (take j v)) best
+
+  pub choosing-start : (best : Pick) → best .some ≡ false → Choosing 0 best
+  unfolding gather
+  choosing-start best e = record {
+    within = omega arith;
+    holds = subst (λ (s : Bool). BestOf cheaper s [] (best .m .e)) (sym e) (λ y h. List·Memᴰ·not-nil h);
+  }
+
+  unmetOf-append : (a b : List Mono) → unmetOf (a ++ b) ≡ unmetOf a ++ unmetOf b
+  unfolding gather
+  unmetOf-append [] b = refl
+  unmetOf-append (z ∷ a) b = ap (λ (l : List Mono). unmet plain v (d z) ++ l) (unmetOf-append a b) ∙ sym (append-assoc (unmet plain v (d z)) (unmetOf a) (unmetOf b))
+
+  pub choosing-next : (j : ℕ) (best best' : Pick) (z : Mono) → Choosing j best → j < length v → getD v j [] ≡ z
+      → ((l : List Mono) → Best cheaper l best → Best cheaper (unmet plain v (d z) ++ l) best') → Choosing (j + 1) best'
+  unfolding gather
+  choosing-next j best best' z c h e more = record { within = omega arith; holds = holds }
+    where
+      next : unmetOf (take (j + 1) v) ≡ unmetOf (take j v) ++ unmet plain v (d z)
+      next =
+          rw (add-one j, take-suc v j [] h, e)
+          (unmetOf-append (take j v) (z ∷ []) ∙ ap (λ (l : List Mono). unmetOf (take j v) ++ l) (append-nil (unmet plain v (d z))))
+
+      turned : (a b : List Mono) → (a ++ b) ⊆ (b ++ a)
+      turned a b y k = ⊎-elim (λ i. Memᴰ·append-right b i) (λ i. Memᴰ·append-left a i) (List·Memᴰ·append-cases a k)
+
+      holds : Best cheaper (unmetOf (take (j + 1) v)) best'
+      holds =
+          let old = unmetOf (take j v) in
+          let new = unmet plain v (d z) in
+          rw next (best-members cheap-order (best' .some) (new ++ old) (old ++ new) (best' .m .e) (turned new old) (turned old new) (more old (c .holds)))
+
+  pub choosing-ends : (j : ℕ) (best : Pick) → Choosing j best → length v ≤ j → Picked (nonsquares plain v d) best
+  choosing-ends j best c h =
+      picked (nonsquares plain v d) (unmetOf v) best inside outside-in (subst (λ (l : List Mono). Best cheaper (unmetOf l) best) (take-all j v h) (c .holds))
+    where
+      inside : unmetOf v ⊆ nonsquares plain v d
+      inside m k =
+          let g : Gathered (λ z. unmet plain v (d z)) m v = gather-out (λ z. unmet plain v (d z)) v k in
+          nonsquares-in plain mono-order v d (g .entry) m (g .member) (g .inside)
+
+      outside-in : nonsquares plain v d ⊆ unmetOf v
+      outside-in m k =
+          let w = nonsquares-out plain mono-order v d m k in
+          gather-in (λ z. unmet plain v (d z)) v (w .of-in) (w .missing)

@@ -1,0 +1,96 @@
+-- `missing` meets its contract: the tests of the code are those of `offers`, in its order. Assumes nothing.
+use mathlib.Core.Path.{refl, sym, ap, _∙_}
+use mathlib.Core.Bool.{not}
+use Rattle.monomial.specs.Lists.{any}
+use Rattle.monomial.specs.Order.{same}
+use Rattle.wiring.specs.Signals.{productsOf}
+use native.Mathlib.Omega.{arith}
+use borrow.Author.Needs.{needs, sfits-of}
+use mir.Syntax.{w32}
+use mir.ValLaws.{toZ-ofZ}
+use Rattle.monomial.proofs.product.Laws.{atMost-weaken}
+use Rattle.wiring.specs.Coefficient.{isZero}
+use Rattle.wiring.specs.Terms.{recordAt, records, system}
+use Rattle.wiring.proofs.quadratic.Records.{offered-low, offered-fails, offered-zero, offered-here}
+use borrow.Author.Needs.{needs}
+use Rattle.wiring.proofs.quadratic.missing.Statement.{statement}
+use Rattle.wiring.proofs.quadratic.missing.Tie as tie
+
+power-requires : tie.Need-power-requires
+power-requires c κs =
+    let p = c .before .pre in
+    (p .0, p .1 .0)
+
+returns : tie.Need-returns
+returns c =
+    let a = c .before .before .before .args in
+    let l = a .terms .now in
+    offered-low (λ m. not (any (same m) (productsOf (a .sq)))) (system (records l)) (a .z .e) (recordAt l (a .t)) (c .before .power .result) _
+    (c .before .power .ensures) (c .if1 .taken) refl
+
+image-requires : tie.Need-image-requires
+image-requires c κs =
+    let s = c .before .before .before in
+    let raised = c .before .power .ensures in
+    let low = c .if1 .left in
+    (s .pre .0, (s .pre .1 .0, (omega arith, atMost-weaken (s .args .z .e) (omega arith) (s .pre .1 .1 .0))))
+
+is-product-requires : tie.Need-is-product-requires
+is-product-requires c κs = c .before .before .before .before .pre .1 .1 .1
+
+returns-2 : tie.Need-returns-2
+returns-2 c =
+    let a = c .before .before .before .before .before .before .args in
+    let l = a .terms .now in
+    let x = c .before .before .before .before .power in
+    let m = c .before .before .image in
+    offered-fails (λ m. not (any (same m) (productsOf (a .sq)))) (system (records l)) (a .z .e) (recordAt l (a .t)) (x .result) (m .result .e)
+    (x .ensures) (c .before .before .before .if1 .left) (m .ensures) _ (ap not (sym (c .before .is-product .ensures) ∙ c .if2 .taken)) refl
+
+total-requires : tie.Need-total-requires
+total-requires c κs =
+    let s = c .before .before .before .before .before .before in
+    (s .pre .0, s .pre .1 .1 .0)
+
+is-zero-requires : tie.Need-is-zero-requires
+is-zero-requires c κs = search needs
+
+returns-3 : tie.Need-returns-3
+returns-3 c =
+    let a = c .before .before .before .before .before .before .before .before .before .args in
+    let l = a .terms .now in
+    let x = c .before .before .before .before .before .before .before .power in
+    let m = c .before .before .before .before .before .image in
+    let sum = c .before .before .total in
+    let same-sum = toZ-ofZ w32 (sum .result) (sfits-of (sum .ok)) in
+    let zero = ap isZero (sym (sum .ensures) ∙ sym same-sum) ∙ sym (c .before .is-zero .ensures) ∙ c .if3 .taken in
+    offered-zero (λ m. not (any (same m) (productsOf (a .sq)))) (system (records l)) (a .z .e) (recordAt l (a .t)) (x .result) (m .result .e)
+    (x .ensures) (c .before .before .before .before .before .before .if1 .left) (m .ensures) _
+    (ap not (sym (c .before .before .before .before .is-product .ensures) ∙ c .before .before .before .if2 .left)) zero refl
+
+returns-4 : tie.Need-returns-4
+returns-4 c =
+    let a = c .before .before .before .before .before .before .before .before .before .args in
+    let l = a .terms .now in
+    let x = c .before .before .before .before .before .before .before .power in
+    let m = c .before .before .before .before .before .image in
+    let sum = c .before .before .total in
+    let same-sum = toZ-ofZ w32 (sum .result) (sfits-of (sum .ok)) in
+    let other = ap isZero (sym (sum .ensures) ∙ sym same-sum) ∙ sym (c .before .is-zero .ensures) ∙ c .if3 .left in
+    offered-here (λ m. not (any (same m) (productsOf (a .sq)))) (system (records l)) (a .z .e) (recordAt l (a .t)) (x .result) (m .result .e)
+    (x .ensures) (c .before .before .before .before .before .before .if1 .left) (m .ensures) _
+    (ap not (sym (c .before .before .before .before .is-product .ensures) ∙ c .before .before .before .if2 .left)) other refl refl
+
+pub missing-spec : {M : Type 1} → statement M
+missing-spec =
+    tie.close
+    (tie.spec
+    power-requires
+    returns
+    image-requires
+    is-product-requires
+    returns-2
+    total-requires
+    is-zero-requires
+    returns-3
+    returns-4)

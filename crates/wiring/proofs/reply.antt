@@ -1,0 +1,2 @@
+-- The numbers tell two replies apart.
+pub mod Laws

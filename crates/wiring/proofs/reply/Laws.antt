@@ -1,0 +1,58 @@
+-- Two replies with the same numbers are the same reply: the numbers say which case it is and what it holds. Assumes nothing.
+use mathlib.Core.Path.{_≡_, refl, sym, ap, _∙_}
+use mathlib.Core.Bool.{cond}
+use Prim.Native.Nat.{ℕ}
+use native.Mathlib.Omega.{arith}
+use lib.Dec.{eqb}
+use Rattle.wiring.specs.Reply.{Numbers, numbers}
+use Rattle.wiring.specs.declared.reply.Reply.{Reply}
+use Rattle.wiring.specs.declared.reply.Reply.the-variants.{Done, Setting, Length, Term, Twice, Nothing, Full, Spent, BadSet, NotQuadratic}
+
+-- the reply with these numbers
+back : Numbers → Reply
+back x =
+    cond (eqb (x .code) 0) (Done (x .order) (x .count) (x .steps))
+    (cond (eqb (x .code) 1) Setting
+    (cond (eqb (x .code) 2) Length
+    (cond (eqb (x .code) 3) (Term (x .place))
+    (cond (eqb (x .code) 4) (Twice (x .place))
+    (cond (eqb (x .code) 5) (Nothing (x .order) (x .steps))
+    (cond (eqb (x .code) 6) (Full (x .order) (x .steps))
+    (cond (eqb (x .code) 7) (Spent (x .order) (x .steps))
+    (cond (eqb (x .code) 8) BadSet
+    (NotQuadratic (x .order) (x .place))))))))))
+
+there-and-back : (r : Reply) → back (numbers r) ≡ r
+unfolding back
+there-and-back (Done order count steps) = refl
+there-and-back Setting = refl
+there-and-back Length = refl
+there-and-back (Term place) = refl
+there-and-back (Twice place) = refl
+there-and-back (Nothing order steps) = refl
+there-and-back (Full order steps) = refl
+there-and-back (Spent order steps) = refl
+there-and-back BadSet = refl
+there-and-back (NotQuadratic order place) = refl
+
+pub same-reply : (r r' : Reply) → numbers r ≡ numbers r' → r ≡ r'
+same-reply r r' e = sym (there-and-back r) ∙ ap back e ∙ there-and-back r'
+
+-- code 0 is done's
+pub record IsDone (r : Reply) : Type 0 where
+  pub order : ℕ
+  pub count : ℕ
+  pub steps : ℕ
+  pub is : r ≡ Done order count steps
+
+pub code-done : (r : Reply) → numbers r .code ≡ 0 → IsDone r
+code-done (Done o c k) e = record { order = o; count = c; steps = k; is = refl }
+code-done Setting e = let z : ⊥ = omega arith in absurd z
+code-done Length e = let z : ⊥ = omega arith in absurd z
+code-done (Term p) e = let z : ⊥ = omega arith in absurd z
+code-done (Twice p) e = let z : ⊥ = omega arith in absurd z
+code-done (Nothing o s) e = let z : ⊥ = omega arith in absurd z
+code-done (Full o s) e = let z : ⊥ = omega arith in absurd z
+code-done (Spent o s) e = let z : ⊥ = omega arith in absurd z
+code-done BadSet e = let z : ⊥ = omega arith in absurd z
+code-done (NotQuadratic o p) e = let z : ⊥ = omega arith in absurd z

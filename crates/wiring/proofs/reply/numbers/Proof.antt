@@ -1,0 +1,89 @@
+-- `reply::numbers` meets its contract, case by case. Assumes nothing.
+use borrow.Author.Needs.{needs}
+use Rattle.wiring.proofs.reply.numbers.Statement.{statement}
+use Rattle.wiring.proofs.reply.numbers.Tie as tie
+
+enum-known-r : tie.Need-enum-known-r
+enum-known-r c = search needs
+
+enum-told : tie.Need-enum-told
+enum-told c = search needs
+
+enum-told-2 : tie.Need-enum-told-2
+enum-told-2 c = search needs
+
+enum-known-r-2 : tie.Need-enum-known-r-2
+enum-known-r-2 c = search needs
+
+enum-known-r-3 : tie.Need-enum-known-r-3
+enum-known-r-3 c = search needs
+
+enum-known-r-4 : tie.Need-enum-known-r-4
+enum-known-r-4 c = search needs
+
+enum-known-r-5 : tie.Need-enum-known-r-5
+enum-known-r-5 c = search needs
+
+enum-known-r-6 : tie.Need-enum-known-r-6
+enum-known-r-6 c = search needs
+
+enum-told-3 : tie.Need-enum-told-3
+enum-told-3 c = search needs
+
+enum-known-r-7 : tie.Need-enum-known-r-7
+enum-known-r-7 c = search needs
+
+returns : tie.Need-returns
+returns c = rw (c .before .r .given .1)
+
+returns-2 : tie.Need-returns-2
+returns-2 c = rw (c .enum-told .given .1)
+
+returns-3 : tie.Need-returns-3
+returns-3 c = rw (c .enum-told2 .given .1)
+
+returns-4 : tie.Need-returns-4
+returns-4 c = rw (c .before .r2 .given .1)
+
+returns-5 : tie.Need-returns-5
+returns-5 c = rw (c .before .r3 .given .1)
+
+returns-6 : tie.Need-returns-6
+returns-6 c = rw (c .before .r4 .given .1)
+
+returns-7 : tie.Need-returns-7
+returns-7 c = rw (c .before .r5 .given .1)
+
+returns-8 : tie.Need-returns-8
+returns-8 c = rw (c .before .r6 .given .1)
+
+returns-9 : tie.Need-returns-9
+returns-9 c = rw (c .enum-told3 .given .1)
+
+returns-10 : tie.Need-returns-10
+returns-10 c = rw (c .before .r7 .given .1)
+
+pub numbers-spec : {M : Type 1} → statement M
+numbers-spec =
+    tie.close
+    (tie.spec
+    enum-known-r
+    enum-told
+    enum-told-2
+    enum-known-r-2
+    enum-known-r-3
+    enum-known-r-4
+    enum-known-r-5
+    enum-known-r-6
+    enum-told-3
+    enum-known-r-7
+    returns
+    returns-2
+    returns-3
+    returns-4
+    returns-5
+    returns-6
+    returns-7
+    returns-8
+    returns-9
+    returns-10)

@@ -1,0 +1,3 @@
+-- Set records: what right ones hold, and when one is refused.
+pub mod Laws
+pub mod Exact

@@ -1,0 +1,277 @@
+-- Exactly when a set record is right, in plain facts; and set records against sets: each right record is the record of its set, and the record of
+-- each set that may stand in one is right and holds that set. Assumes nothing.
+use mathlib.Core.Path.{_≡_, refl, sym, ap, ap₂, subst, _∙_}
+use mathlib.Core.Logic.{_↔_}
+use mathlib.Core.Bool.{Bool, cond, not, _&&_}
+use mathlib.Core.List.{List, [], _∷_, _++_, append-nil, append-assoc, List·Memᴰ·head}
+use Prim.Native.Nat.{ℕ, zero, suc, _+_, _*_, _-_, _<_, _≤_}
+use native.Mathlib.Omega.{arith}
+use lib.Dec.{T, eqb, eqb→eq, not-T, T-not}
+use lib.ListN.{length, getD, take, drop, replicate, length-append, length-drop, length-replicate, take-append-drop}
+use lib.Seq.{length-take-le, take-suc, take-at, take-add, drop-append-add, getD-append-add, getD-take, getD-drop, ext-getD}
+use Rattle.monomial.specs.Lists.{any, all, gather, place}
+use Rattle.monomial.specs.Monomial.{Mono, one, constants}
+use Rattle.monomial.specs.Order.{same, before}
+use Rattle.monomial.proofs.Tests.{Tested, passed, failed, test, T→is, nT→is, and-l, and-r, and-i}
+use Rattle.monomial.proofs.Members.{_∈_, here, there, all-in, all-out, take-in}
+use Rattle.monomial.proofs.Counting.{at-in}
+use Rattle.monomial.proofs.order.Laws.{mono-order}
+use Rattle.monomial.proofs.order.Ascending.{Ascending, among-in, among-out}
+use Rattle.wiring.specs.Terms.{exponentsRight}
+use Rattle.wiring.specs.Sets.{places, sizeOf, setOf, ascending, monomialRight, setRight, setRecord}
+use Rattle.wiring.proofs.terms.Laws.{Fit, exponents-in, exponents-everywhere}
+use Rattle.wiring.proofs.sets.Laws.{placeAt, places-length, places-at, places-width, used-length, used-at, ascending-in, ascending-out}
+
+-- ---- the facts
+-- what a set may hold: its monomials ascend strictly, none is 1 or a single variable, no exponent is above 54, and those beyond xn are 0
+pub record Permitted (n : ℕ) (s : List Mono) : Type 0 where
+  pub ascends : Ascending before s
+  pub new : (m : Mono) → m ∈ s → m ∈ constants 6 → ⊥
+  pub small : (m : Mono) → m ∈ s → (i : ℕ) → getD m i 0 ≤ 54
+  pub within : (m : Mono) → m ∈ s → (i : ℕ) → n ≤ i → getD m i 0 ≡ 0
+
+-- such a set, and zero bytes behind it
+pub record RightRecord (n : ℕ) (bytes : List ℕ) : Type 0 where
+  pub zeros : (k : ℕ) → 6 * sizeOf bytes ≤ k → getD bytes k 0 ≡ 0
+  pub permitted : Permitted n (setOf bytes)
+
+-- such a set of at most six monomials in six variables
+pub record Recordable (n : ℕ) (s : List Mono) : Type 0 where
+  pub few : length s ≤ 6
+  pub wide : (m : Mono) → m ∈ s → length m ≡ 6
+  pub permitted : Permitted n s
+
+-- ---- zeros
+zero-all : (l : List ℕ) → T (all (eqb 0) l) → (k : ℕ) → getD l k 0 ≡ 0
+unfolding all
+zero-all [] t k = refl
+zero-all (x ∷ l) t zero = sym (eqb→eq 0 x (and-l (eqb 0 x) (all (eqb 0) l) t))
+zero-all (x ∷ l) t (suc k) = zero-all l (and-r (eqb 0 x) (all (eqb 0) l) t) k
+
+all-zero : (l : List ℕ) → ((k : ℕ) → getD l k 0 ≡ 0) → T (all (eqb 0) l)
+unfolding all
+all-zero [] h = tt
+all-zero (x ∷ l) h = and-i (eqb 0 x) (all (eqb 0) l) (subst (λ (z : ℕ). T (eqb 0 z)) (sym (h 0)) tt) (all-zero l (λ k. h (suc k)))
+
+zero-list : (l : List ℕ) (w : ℕ) → length l ≡ w → ((k : ℕ) → k < w → getD l k 0 ≡ 0) → l ≡ replicate w 0
+zero-list [] zero e h = refl
+zero-list [] (suc w) e h = let z : ⊥ = omega arith in absurd z
+zero-list (x ∷ l) zero e h = let z : ⊥ = omega arith in absurd z
+zero-list (x ∷ l) (suc w) e h = ap₂ _∷_ (h 0 (omega arith)) (zero-list l w (omega arith) (λ k j. h (suc k) (omega arith)))
+
+zeros-at : (n k : ℕ) → getD {A = ℕ} (replicate n 0) k 0 ≡ 0
+zeros-at zero k = refl
+zeros-at (suc n) zero = refl
+zeros-at (suc n) (suc k) = zeros-at n k
+
+-- ---- a right record, fact by fact
+module _ (n : ℕ) where
+  permitted-out : (s : List Mono) → T (ascending s) → T (all (monomialRight n) s) → Permitted n s
+  unfolding monomialRight
+  permitted-out s a t =
+      let right : (m : Mono) → m ∈ s → T (monomialRight n m) = λ m h. all-out (monomialRight n) t h in
+      let fit : (m : Mono) → m ∈ s → (i : ℕ) → Fit 54 n (getD m i 0) i =
+      λ m h i. exponents-everywhere 54 n m (and-r (not (any (same m) (constants 6))) (exponentsRight 54 n m) (right m h)) i in
+      record {
+        ascends = ascending-out s a;
+        new = λ m h k. T-not (any (same m) (constants 6)) (and-l (not (any (same m) (constants 6))) (exponentsRight 54 n m) (right m h)) (among-in mono-order k);
+        small = λ m h i. fit m h i .small;
+        within = λ m h i. fit m h i .zero;
+      }
+
+  permitted-in : (s : List Mono) → Permitted n s → T (all (monomialRight n) s)
+  unfolding monomialRight
+  permitted-in s p = all-in (monomialRight n) s right
+    where
+      right : (m : Mono) → m ∈ s → T (monomialRight n m)
+      right m h =
+          and-i (not (any (same m) (constants 6))) (exponentsRight 54 n m)
+          (not-T (any (same m) (constants 6)) (λ t. p .new m h (among-out mono-order m (constants 6) t)))
+          (exponents-in 54 n m (λ i k. record { small = p .small m h i; zero = p .within m h i }))
+
+  pub right-iff : (bytes : List ℕ) → T (setRight n bytes) ↔ RightRecord n bytes
+  unfolding setRight
+  right-iff bytes = (facts, rule)
+    where
+      rest : List ℕ
+      rest = drop (6 * sizeOf bytes) bytes
+
+      facts : T (setRight n bytes) → RightRecord n bytes
+      facts t = record {
+        zeros = λ k h.
+            let e : 6 * sizeOf bytes + (k - 6 * sizeOf bytes) ≡ k = omega arith in
+            rw (getD-drop (6 * sizeOf bytes) bytes (k - 6 * sizeOf bytes) 0, e) at (zero-all rest (search (and-l, and-r, t)) (k - 6 * sizeOf bytes));
+        permitted = permitted-out (setOf bytes) (search (and-l, and-r, t)) (search (and-l, and-r, t));
+      }
+
+      rule : RightRecord n bytes → T (setRight n bytes)
+      rule r =
+          let s = setOf bytes in
+          let none : T (all (eqb 0) rest) = all-zero rest (λ k. getD-drop (6 * sizeOf bytes) bytes k 0 ∙ r .zeros (6 * sizeOf bytes + k) (omega arith)) in
+          let first : T (all (eqb 0) rest && ascending s) = and-i (all (eqb 0) rest) (ascending s) none (ascending-in s (r .permitted .ascends)) in
+          and-i (all (eqb 0) rest && ascending s) (all (monomialRight n) s) first (permitted-in s (r .permitted))
+
+-- ---- the first entry that passes
+module _ {A : Type 0} (f : A → Bool) where
+  place-most : (l : List A) → place f l ≤ length l
+  unfolding place
+  place-most [] = omega arith
+  place-most (x ∷ l) = go (test (f x)) (place-most l)
+    where
+      go : Tested (f x) → place f l ≤ length l → cond (f x) 0 (suc (place f l)) ≤ suc (length l)
+      go (passed e) h = rw e (omega arith)
+      go (failed e) h = rw e (omega arith)
+
+  place-is : (l : List A) (i : ℕ) (d : A) → i ≤ length l → ((j : ℕ) → j < i → T (f (getD l j d)) → ⊥) → (i < length l → T (f (getD l i d))) → place f l ≡ i
+  unfolding place
+  place-is [] i d h least here = omega arith
+  place-is (x ∷ l) zero d h least here = rw (T→is (f x) (here (omega arith)))
+  place-is (x ∷ l) (suc i) d h least here =
+      rw (nT→is (f x) (least 0 (omega arith))) (ap suc (place-is l i d (omega arith) (λ j k. least (suc j) (omega arith)) (λ k. here (omega arith))))
+
+-- ---- the record of a set, place by place
+abbrev Wide : List Mono → Type 0
+Wide s = (m : Mono) → m ∈ s → length m ≡ 6
+
+abbrev bytesOf : List Mono → List ℕ
+bytesOf s = gather (λ m. m) s
+
+bytes-length : (s : List Mono) → Wide s → length (bytesOf s) ≡ 6 * length s
+unfolding gather
+bytes-length [] w = refl
+bytes-length (x ∷ s) w =
+    let ih : length (bytesOf s) ≡ 6 * length s = bytes-length s (λ m h. w m (there h)) in
+    let six : length x ≡ 6 = w x here in
+    length-append x (bytesOf s) ∙ omega arith
+
+bytes-at : (s : List Mono) (tail : List ℕ) → Wide s → (i : ℕ) → i < length s → placeAt (bytesOf s ++ tail) i ≡ getD s i []
+unfolding gather
+bytes-at [] tail w i h = let z : ⊥ = omega arith in absurd z
+bytes-at (x ∷ s) tail w zero h = ap (take 6) (append-assoc x (bytesOf s) tail) ∙ take-at x (bytesOf s ++ tail) 6 (w x here)
+bytes-at (x ∷ s) tail w (suc i) h =
+    let skip : 6 * suc i ≡ length x + 6 * i = omega (arith, w x here) in
+    rw (append-assoc x (bytesOf s) tail, skip, drop-append-add x (bytesOf s ++ tail) (6 * i)) (bytes-at s tail (λ m k. w m (there k)) i (omega arith))
+
+module _ (s : List Mono) (few : length s ≤ 6) (wide : Wide s) where
+  pub record-length : length (setRecord s) ≡ 36
+  unfolding setRecord
+  record-length =
+      let long : length (bytesOf s) ≡ 6 * length s = bytes-length s wide in
+      let tail : length {A = ℕ} (replicate (36 - 6 * length s) 0) ≡ 36 - 6 * length s = length-replicate (36 - 6 * length s) 0 in
+      length-append (bytesOf s) (replicate (36 - 6 * length s) 0) ∙ omega arith
+
+  record-zeros : (k : ℕ) → 6 * length s ≤ k → getD (setRecord s) k 0 ≡ 0
+  unfolding setRecord
+  record-zeros k h =
+      let g = bytesOf s in
+      let long : length g ≡ 6 * length s = bytes-length s wide in
+      let e : length g + (k - length g) ≡ k = omega arith in
+      rw (sym e) (getD-append-add g (replicate (36 - 6 * length s) 0) (k - length g) 0 ∙ zeros-at (36 - 6 * length s) (k - length g))
+
+  -- a place of the set, and an unused one
+  record-at : (i : ℕ) → i < length s → placeAt (setRecord s) i ≡ getD s i []
+  unfolding setRecord
+  record-at i h = bytes-at s (replicate (36 - 6 * length s) 0) wide i h
+
+  record-unused : (i : ℕ) → length s ≤ i → i < 6 → placeAt (setRecord s) i ≡ one 6
+  record-unused i h k =
+      let r = setRecord s in
+      let long : length (placeAt r i) ≡ 6 = length-take-le 6 (drop (6 * i) r) (omega (arith, length-drop (6 * i) r, record-length)) in
+      let none : (j : ℕ) → j < 6 → getD (placeAt r i) j 0 ≡ 0 =
+      λ j l. getD-take 6 (drop (6 * i) r) j 0 l ∙ getD-drop (6 * i) r j 0 ∙ record-zeros (6 * i + j) (omega arith) in
+      zero-list (placeAt r i) 6 long none
+
+  module _ (new : (m : Mono) → m ∈ s → m ≡ one 6 → ⊥) where
+    pub record-size : sizeOf (setRecord s) ≡ length s
+    unfolding sizeOf
+    record-size = place-is (same (one 6)) (places r) (length s) [] (omega (arith, places-length r)) used unused
+      where
+        r : List ℕ
+        r = setRecord s
+
+        used : (j : ℕ) → j < length s → T (same (one 6) (getD (places r) j [])) → ⊥
+        used j h t =
+            let e : one 6 ≡ getD s j [] = mono-order .same-eq (one 6) (getD (places r) j []) t ∙ places-at r j [] (omega arith) ∙ record-at j h in
+            new (getD s j []) (at-in s j [] h) (sym e)
+
+        unused : length s < length (places r) → T (same (one 6) (getD (places r) (length s) []))
+        unused h =
+            let room : length s < 6 = omega (arith, places-length r) in
+            rw (places-at r (length s) [] room, record-unused (length s) (omega arith) room) (mono-order .same-refl (one 6))
+
+    pub record-holds : setOf (setRecord s) ≡ s
+    unfolding setOf
+    record-holds =
+        let r = setRecord s in
+        let long : length (take (length s) (places r)) ≡ length s = used-length r (length s) few in
+        ap (λ (k : ℕ). take k (places r)) record-size
+        ∙ ext-getD [] (take (length s) (places r)) s long (λ i h. used-at r (length s) few i [] (omega arith) ∙ record-at i (omega arith))
+
+-- ---- sets and their records
+module _ (n : ℕ) (s : List Mono) (r : Recordable n s) where
+  not-one : (m : Mono) → m ∈ s → m ≡ one 6 → ⊥
+  not-one m h e = r .permitted .new m h (List·Memᴰ·head e)
+
+  -- the record of a set holds the set
+  pub record-set : setOf (setRecord s) ≡ s
+  record-set = record-holds s (r .few) (r .wide) not-one
+
+  -- and is right
+  pub record-right : T (setRight n (setRecord s))
+  record-right =
+      let size : sizeOf (setRecord s) ≡ length s = record-size s (r .few) (r .wide) not-one in
+      right-iff n (setRecord s) .1 (record {
+        zeros = λ k h. record-zeros s (r .few) (r .wide) k (rw size at h);
+        permitted = subst (Permitted n) (sym record-set) (r .permitted);
+      })
+
+gather-append : {A B : Type 0} (f : A → List B) (a b : List A) → gather f (a ++ b) ≡ gather f a ++ gather f b
+unfolding gather
+gather-append f [] b = refl
+gather-append f (x ∷ a) b = ap (λ l. f x ++ l) (gather-append f a b) ∙ sym (append-assoc (f x) (gather f a) (gather f b))
+
+-- the first k places, one behind the other, are the first 6 * k bytes
+bytes-used : (bytes : List ℕ) (k : ℕ) → k ≤ 6 → bytesOf (take k (places bytes)) ≡ take (6 * k) bytes
+unfolding gather
+bytes-used bytes zero h = refl
+bytes-used bytes (suc k) h =
+    let t = places bytes in
+    let next : take (suc k) t ≡ take k t ++ (placeAt bytes k ∷ []) =
+    take-suc t k [] (omega (arith, places-length bytes)) ∙ ap (λ m. take k t ++ (m ∷ [])) (places-at bytes k [] (omega arith)) in
+    let e : 6 * suc k ≡ 6 * k + 6 = omega arith in
+    ap bytesOf next ∙ gather-append (λ m. m) (take k t) (placeAt bytes k ∷ []) ∙ ap₂ _++_ (bytes-used bytes k (omega arith)) (append-nil (placeAt bytes k))
+    ∙ sym (take-add (6 * k) 6 bytes) ∙ ap (λ (j : ℕ). take j bytes) (sym e)
+
+module _ (n : ℕ) (bytes : List ℕ) (t : T (setRight n bytes)) (l : length bytes ≡ 36) where
+  size-few : sizeOf bytes ≤ 6
+  unfolding sizeOf
+  size-few = omega (arith, place-most (same (one 6)) (places bytes), places-length bytes)
+
+  set-long : length (setOf bytes) ≡ sizeOf bytes
+  unfolding setOf
+  set-long = used-length bytes (sizeOf bytes) size-few
+
+  -- the set of a right record may stand in a record
+  pub right-recordable : Recordable n (setOf bytes)
+  unfolding setOf
+  right-recordable = record {
+    few = omega (arith, set-long, size-few);
+    wide = λ m h. places-width bytes l m (take-in (sizeOf bytes) (places bytes) h);
+    permitted = right-iff n bytes .0 t .permitted;
+  }
+
+  right-front : bytesOf (setOf bytes) ≡ take (6 * sizeOf bytes) bytes
+  unfolding setOf
+  right-front = bytes-used bytes (sizeOf bytes) size-few
+
+  right-tail : replicate (36 - 6 * length (setOf bytes)) 0 ≡ drop (6 * sizeOf bytes) bytes
+  right-tail =
+      let at = 6 * sizeOf bytes in
+      let width = 36 - 6 * length (setOf bytes) in
+      let long : length (drop at bytes) ≡ width = omega (arith, set-long, length-drop at bytes) in
+      sym (zero-list (drop at bytes) width long (λ k h. getD-drop at bytes k 0 ∙ right-iff n bytes .0 t .zeros (at + k) (omega arith)))
+
+  -- and the record is that set's
+  pub right-record : setRecord (setOf bytes) ≡ bytes
+  unfolding setRecord
+  right-record = ap₂ _++_ right-front right-tail ∙ take-append-drop (6 * sizeOf bytes) bytes

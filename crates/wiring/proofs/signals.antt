@@ -1,0 +1,2 @@
+-- Arrays of monomials as lists, V and V2.
+pub mod Laws

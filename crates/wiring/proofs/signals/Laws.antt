@@ -1,0 +1,300 @@
+-- Arrays of monomials as lists: what their first places hold, the loops that search and fill them, V and V2. Assumes nothing.
+use mathlib.Core.Path.{_≡_, refl, sym, ap, subst, _∙_}
+use mathlib.Core.Logic.{⊎-elim}
+use mathlib.Core.Bool.{Bool, true, false}
+use mathlib.Core.List.{List, [], _∷_, _++_, map, append-nil, List·Memᴰ·cases-cons, List·Memᴰ·not-nil, List·Memᴰ·append-cases, Memᴰ·of-map}
+use Prim.Native.Nat.{ℕ, zero, suc, _+_, _*_, _<_, _≤_}
+use native.Mathlib.Omega.{arith}
+use native.Mathlib.Numerals.{add-one}
+use native.Mathlib.Nat.{mul-le-mul-left}
+use lib.ListN.{length, getD, take, drop, set, length-append, length-map, length-set, length-replicate, drop-of-length-le, List·getD-append}
+use lib.Seq.{length-take-le, getD-take, take-set-lt, take-suc-set, drop-cons, append-snoc, getD-append-add}
+use Rattle.monomial.specs.Lists.{any}
+use Rattle.monomial.specs.Monomial.{Mono, one, vars, constants}
+use Rattle.monomial.specs.Product.{mul, AtMost, FitsBytes}
+use Rattle.monomial.specs.declared.Monomial.{Monomial}
+use Rattle.monomial.proofs.Loops.{Seeking, seeking-start, seeking-found, seeking-on, seeking-ends}
+use Rattle.monomial.proofs.Members.{_∈_, take-in}
+use Rattle.monomial.proofs.Counting.{at-in}
+use Rattle.monomial.proofs.product.Laws.{atMost-weaken, atMost-mul}
+use Rattle.wiring.specs.Poly.{Kind, plain}
+use Rattle.wiring.specs.Quadratic.{products}
+use Rattle.wiring.specs.Signals.{signals, front, Fitting}
+
+-- ---- an array and its first places
+-- what owning an array of monomials tells of its length: `search (needs, array-length)`
+pub array-length : (l : List Monomial) (n : ℕ) → length (map (Rattle.monomial.proofs.Monomial.the-field .into) l) ≡ n → length l ≡ n
+array-length l n p = sym (length-map l (Rattle.monomial.proofs.Monomial.the-field .into)) ∙ p
+
+module _ {A B : Type 0} (f : A → B) where
+  map-at : (l : List A) (i : ℕ) (y : B) (x : A) → i < length l → getD (map f l) i y ≡ f (getD l i x)
+  map-at [] i y x h = let z : ⊥ = omega arith in absurd z
+  map-at (a ∷ l) zero y x h = refl
+  map-at (a ∷ l) (suc i) y x h = map-at l i y x (omega arith)
+
+  map-set : (l : List A) (i : ℕ) (x : A) → map f (set l i x) ≡ set (map f l) i (f x)
+  map-set [] i x = refl
+  map-set (a ∷ l) zero x = refl
+  map-set (a ∷ l) (suc i) x = ap (_∷_ (f a)) (map-set l i x)
+
+-- an entry of an array
+abbrev pub entry : List Monomial → ℕ → Mono
+entry u i = (getD u i (record { e = [] })) .e
+
+pub front-length : (k : ℕ) (m : List Monomial) → k ≤ length m → length (front k m) ≡ k
+front-length k m h = length-take-le k (map (λ x. x .e) m) (omega (arith, length-map m (λ x. x .e)))
+
+pub front-at : (k : ℕ) (m : List Monomial) (i : ℕ) (d : Mono) → i < k → k ≤ length m → getD (front k m) i d ≡ (getD m i (record { e = [] })) .e
+front-at k m i d h l = getD-take k (map (λ x. x .e) m) i d h ∙ map-at (λ x. x .e) m i d (record { e = [] }) (omega arith)
+
+pub front-drop : (k : ℕ) (m : List Monomial) (i : ℕ) → i < k → k ≤ length m → drop i (front k m) ≡ entry m i ∷ drop (i + 1) (front k m)
+front-drop k m i h l =
+    let long : length (front k m) ≡ k = front-length k m l in
+    rw (add-one i) (drop-cons (front k m) i [] (omega arith) ∙ ap (λ (x : Mono). x ∷ drop (suc i) (front k m)) (front-at k m i [] h l))
+
+pub front-set : (k : ℕ) (m : List Monomial) (i : ℕ) (x : Monomial) → i < k → front k (set m i x) ≡ set (front k m) i (x .e)
+front-set k m i x h = ap (take k) (map-set (λ y. y .e) m i x) ∙ take-set-lt k (map (λ y. y .e) m) i (x .e) h
+
+-- ---- a loop that looks through the first k places for a monomial that passes f, and has come to place i
+pub record Searching (f : Mono → Bool) (k : ℕ) (m : List Monomial) (i : ℕ) : Type 0 where
+  pub room : k ≤ length m
+  pub seeking : Seeking f (front k m) i
+
+pub searching-start : (f : Mono → Bool) (k : ℕ) (m : List Monomial) → k ≤ length m → Searching f k m 0
+searching-start f k m h = record { room = h; seeking = seeking-start f (front k m) }
+
+module _ {f : Mono → Bool} {k : ℕ} {m : List Monomial} {i : ℕ} (s : Searching f k m i) where
+  long : length (front k m) ≡ k
+  long = front-length k m (s .room)
+
+  at-i : i < k → getD (front k m) i [] ≡ entry m i
+  at-i h = front-at k m i [] h (s .room)
+
+  pub searching-found : i < k → f (entry m i) ≡ true → true ≡ any f (front k m)
+  searching-found h e = seeking-found f [] (s .seeking) (omega (arith, long)) (ap f (at-i h) ∙ e)
+
+  pub searching-on : i < k → f (entry m i) ≡ false → Searching f k m (i + 1)
+  searching-on h e = record { room = s .room; seeking = seeking-on f [] (s .seeking) (omega (arith, long)) (ap f (at-i h) ∙ e) }
+
+  pub searching-ends : k ≤ i → false ≡ any f (front k m)
+  searching-ends h = seeking-ends f (s .seeking) (omega (arith, long))
+
+-- ---- a loop that writes the list t into an array, and has come to place at: what is written, then what is left, is the whole
+pub record Writing (size : ℕ) (t : List Mono) (m : List Monomial) (at : ℕ) (left : List Mono) : Type 0 where
+  pub long : length m ≡ size
+  pub room : length t ≤ size
+  pub within : at ≤ size
+  pub whole : front at m ++ left ≡ t
+
+pub writing-start : (size : ℕ) (t : List Mono) (m : List Monomial) → length m ≡ size → length t ≤ size → Writing size t m 0 t
+writing-start size t m l h = record { long = l; room = h; within = omega arith; whole = refl }
+
+module _ {size : ℕ} {t : List Mono} {m : List Monomial} {at : ℕ} where
+  -- something is left, so there is room for it
+  pub writing-room : {y : Mono} {left : List Mono} → Writing size t m at (y ∷ left) → at < size
+  writing-room {y} {left} w =
+      let front-is : length (front at m) ≡ at = front-length at m (omega (arith, w .long, w .within)) in
+      let all : length (front at m) + length (y ∷ left) ≡ length t = sym (length-append (front at m) (y ∷ left)) ∙ ap length (w .whole) in
+      omega (arith, w .room)
+
+  pub writing-put : {y : Mono} {left : List Mono} (x : Monomial) → Writing size t m at (y ∷ left) → x .e ≡ y → Writing size t (set m at x) (at + 1) left
+  writing-put {y} {left} x w e =
+      let h : at < size = writing-room w in
+      let place : at < length (map (λ z. z .e) m) = omega (arith, w .long, length-map m (λ z. z .e)) in
+      let one-more : front (at + 1) (set m at x) ≡ front at m ++ (y ∷ []) =
+      rw (add-one at, map-set (λ z. z .e) m at x, take-suc-set (map (λ z. z .e) m) at (x .e) place, e) in
+      record {
+        long = length-set m at x ∙ w .long;
+        room = w .room;
+        within = omega arith;
+        whole = ap (λ l. l ++ left) one-more ∙ append-snoc (front at m) y left ∙ w .whole;
+      }
+
+  pub writing-end : Writing size t m at [] → front at m ≡ t
+  writing-end w = sym (append-nil (front at m)) ∙ w .whole
+
+-- the same where the list is written from its own entries: what is left is the rest of t
+abbrev pub Copying : ℕ → List Mono → List Monomial → ℕ → Type 0
+Copying size t m at = Writing size t m at (drop at t)
+
+module _ {size : ℕ} {t : List Mono} {m : List Monomial} {at : ℕ} (w : Copying size t m at) where
+  pub copying-next : (x : Monomial) (d : Mono) → at < length t → x .e ≡ getD t at d → Copying size t (set m at x) (at + 1)
+  copying-next x d h e =
+      let next : drop at t ≡ getD t at d ∷ drop (at + 1) t = rw (add-one at) (drop-cons t at d h) in
+      writing-put x (rw next at w) e
+
+  pub copying-end : length t ≤ at → front at m ≡ t
+  copying-end h = writing-end (rw (drop-of-length-le t h) at w)
+
+-- ---- V
+pub signals-length : (n : ℕ) (s : List Mono) → n ≤ 6 → length (signals 6 n s) ≡ n + 1 + length s
+unfolding signals vars
+signals-length n s h =
+    let front-is : length (take (suc n) (constants 6)) ≡ suc n = length-take-le (suc n) (constants 6) (omega arith) in
+    length-append (take (suc n) (constants 6)) s ∙ omega arith
+
+-- the constants and then the set, each by its number
+pub signals-constant : (n : ℕ) (s : List Mono) (i : ℕ) (d : Mono) → n ≤ 6 → i ≤ n → getD (signals 6 n s) i d ≡ getD (constants 6) i d
+unfolding signals vars
+signals-constant n s i d h k =
+    let front-is : length (take (suc n) (constants 6)) ≡ suc n = length-take-le (suc n) (constants 6) (omega arith) in
+    List·getD-append (take (suc n) (constants 6)) s d i (omega arith) ∙ getD-take (suc n) (constants 6) i d (omega arith)
+
+pub signals-new : (n : ℕ) (s : List Mono) (j : ℕ) (d : Mono) → n ≤ 6 → getD (signals 6 n s) (n + 1 + j) d ≡ getD s j d
+unfolding signals vars
+signals-new n s j d h =
+    let front-is : length (take (suc n) (constants 6)) ≡ n + 1 = length-take-le (suc n) (constants 6) (omega arith) ∙ sym (add-one n) in
+    ap (λ (k : ℕ). getD (signals 6 n s) (k + j) d) (sym front-is) ∙ getD-append-add (take (suc n) (constants 6)) s j d
+
+-- ---- two loops that write V of n variables and the first len places of u: the constants, then the set
+pub record Signalling (n len : ℕ) (u m : List Monomial) (at : ℕ) : Type 0 where
+  pub variables : n ≤ 6
+  pub source : len ≤ length u
+  pub copying : Copying 13 (signals 6 n (front len u)) m at
+
+pub signalling-start : (n len : ℕ) (u m : List Monomial) → n ≤ 6 → len ≤ 6 → length u ≡ 6 → length m ≡ 13 → front 1 m ≡ one 6 ∷ [] → Signalling n len u m 1
+unfolding signals
+signalling-start n len u m h k l long first =
+    let source : len ≤ length u = omega arith in
+    let s = front len u in
+    let room : length (signals 6 n s) ≤ 13 = omega (arith, signals-length n s h, front-length len u source) in
+    let tail = take n (vars 6) ++ s in
+    record { variables = h; source = source; copying = record { long = long; room = room; within = omega arith; whole = ap (λ l. l ++ tail) first } }
+
+module _ {n len : ℕ} {u m : List Monomial} {at : ℕ} (r : Signalling n len u m at) where
+  many : length (signals 6 n (front len u)) ≡ n + 1 + len
+  many = signals-length n (front len u) (r .variables) ∙ ap (λ (k : ℕ). n + 1 + k) (front-length len u (r .source))
+
+  pub signalling-constant : (x : Monomial) → at ≤ n → x .e ≡ getD (constants 6) at (one 6) → Signalling n len u (set m at x) (at + 1)
+  signalling-constant x h e =
+      let same = e ∙ sym (signals-constant n (front len u) at (one 6) (r .variables) h) in
+      record { variables = r .variables; source = r .source; copying = copying-next (r .copying) x (one 6) (omega (arith, many)) same }
+
+  -- the constants are written
+  pub signalling-turn : at ≡ n + 1 → Signalling n len u m (n + 1 + 0)
+  signalling-turn p = let q : at ≡ n + 1 + 0 = omega arith in subst (λ (k : ℕ). Signalling n len u m k) q r
+
+  pub signalling-new : (x : Monomial) (j : ℕ) → at ≡ n + 1 + j → j < len → x .e ≡ entry u j → Signalling n len u (set m at x) (n + 1 + (j + 1))
+  signalling-new x j p h e =
+      let s = front len u in
+      let named : x .e ≡ getD (signals 6 n s) at [] =
+      e ∙ sym (front-at len u j [] h (r .source)) ∙ sym (signals-new n s j [] (r .variables)) ∙ ap (λ (k : ℕ). getD (signals 6 n s) k []) (sym p) in
+      let next : Copying 13 (signals 6 n s) (set m at x) (at + 1) = copying-next (r .copying) x [] (omega (arith, many)) named in
+      let q : at + 1 ≡ n + 1 + (j + 1) = omega arith in
+      record { variables = r .variables; source = r .source; copying = subst (λ (k : ℕ). Copying 13 (signals 6 n s) (set m at x) k) q next }
+
+  pub signalling-end : at ≡ n + 1 + len → front (n + 1 + len) m ≡ signals 6 n (front len u)
+  signalling-end p = subst (λ (k : ℕ). front k m ≡ signals 6 n (front len u)) p (copying-end (r .copying) (omega (arith, many)))
+
+-- 1 and the variables have their width, and exponents of at most 1
+one-fits : (b w : ℕ) → AtMost b (one w)
+one-fits b zero = tt
+one-fits b (suc w) = (omega arith, one-fits b w)
+
+vars-fit : (b w : ℕ) → 1 ≤ b → (m : Mono) → m ∈ vars w → (length m ≡ w) × AtMost b m
+unfolding vars
+vars-fit b zero h m k = absurd (List·Memᴰ·not-nil k)
+vars-fit b (suc w) h m k = ⊎-elim first (later (vars-fit b w h)) (List·Memᴰ·cases-cons k)
+  where
+    first : m ≡ 1 ∷ one w → (length m ≡ suc w) × AtMost b m
+    first e = rw e (ap suc (length-replicate w 0), (h, one-fits b w))
+
+    later : ((z : Mono) → z ∈ vars w → (length z ≡ w) × AtMost b z) → m ∈ map (_∷_ 0) (vars w) → (length m ≡ suc w) × AtMost b m
+    later fit n =
+        let p : (z : Mono) × (z ∈ vars w) × (0 ∷ z ≡ m) = Memᴰ·of-map (_∷_ 0) (vars w) n in
+        let q = fit (p .0) (p .1) in
+        rw (sym (p .2)) (ap suc (q .0), (omega arith, q .1))
+
+pub constants-fit : (b w : ℕ) → 1 ≤ b → (m : Mono) → m ∈ constants w → (length m ≡ w) × AtMost b m
+constants-fit b w h m k = ⊎-elim (λ e. rw e (length-replicate w 0, one-fits b w)) (vars-fit b w h m) (List·Memᴰ·cases-cons k)
+
+pub signals-fitting : (b n : ℕ) (s : List Mono) → 1 ≤ b → Fitting b s → Fitting b (signals 6 n s)
+unfolding signals
+signals-fitting b n s h f m k =
+    ⊎-elim (λ j. constants-fit b 6 h m (take-in (suc n) (constants 6) j)) (f m) (List·Memᴰ·append-cases (take (suc n) (constants 6)) k)
+
+pub fitting-weaken : (b c : ℕ) (s : List Mono) → b ≤ c → Fitting b s → Fitting c s
+fitting-weaken b c s h f m k = (f m k .0, atMost-weaken m h (f m k .1))
+
+-- two entries of a list have a product that fits
+pub product-of-two : (v : List Mono) (i j : ℕ) (d : Mono) → Fitting 127 v → i < length v → j < length v → FitsBytes (mul (getD v i d) (getD v j d))
+product-of-two v i j d f h k =
+    let x = getD v i d in
+    let y = getD v j d in
+    atMost-weaken {b = 254} (mul x y) (omega arith) (atMost-mul 127 127 x y (f x (at-in v i d h) .1) (f y (at-in v j d k) .1))
+
+-- ---- V2
+module _ {M : Type 0} (k : Kind M) where
+  pub products-length : (v : List M) → length (products k v) + length (products k v) ≡ length v * suc (length v)
+  unfolding products
+  products-length [] = refl
+  products-length (x ∷ v) =
+      let ih : length (products k v) + length (products k v) ≡ length v * suc (length v) = products-length v in
+      let row : length (map (k .mul x) (x ∷ v)) ≡ suc (length v) = length-map (x ∷ v) (k .mul x) in
+      let both = length-append (map (k .mul x) (x ∷ v)) (products k v) in
+      omega arith
+
+  pub products-room : (v : List M) → length v ≤ 13 → length (products k v) ≤ 91
+  products-room v h =
+      let low : length v * suc (length v) ≤ length v * 14 = mul-le-mul-left (length v) (omega arith) in
+      omega (arith, products-length v)
+
+-- ---- two loops that write V2 of the first len places of u into m: the outer one has come to the row of a, the inner one to the place of b in it
+pub record Rows (len : ℕ) (u m : List Monomial) (at a : ℕ) : Type 0 where
+  pub source : len ≤ length u
+  pub writing : Writing 91 (products plain (front len u)) m at (products plain (drop a (front len u)))
+
+pub record Row (len : ℕ) (u m : List Monomial) (at a b : ℕ) : Type 0 where
+  pub source : len ≤ length u
+  pub writing : Writing 91 (products plain (front len u)) m at (map (mul (entry u a)) (drop b (front len u)) ++ products plain (drop (a + 1) (front len u)))
+
+pub rows-start : (len : ℕ) (u m : List Monomial) → len ≤ 13 → length u ≡ 13 → length m ≡ 91 → Rows len u m 0 0
+rows-start len u m h k l =
+    let v = front len u in
+    let source : len ≤ length u = omega arith in
+    let small : length v ≤ 13 = omega (arith, front-length len u source) in
+    record { source = source; writing = writing-start 91 (products plain v) m l (products-room plain v small) }
+
+module _ {len : ℕ} {u m : List Monomial} {at a : ℕ} (r : Rows len u m at a) where
+  pub rows-in : a < len → Row len u m at a a
+  unfolding products
+  rows-in h =
+      let v = front len u in
+      let next : drop a v ≡ entry u a ∷ drop (a + 1) v = front-drop len u a h (r .source) in
+      record { source = r .source; writing = rw next (rw next at (r .writing)) }
+
+  pub rows-end : len ≤ a → front at m ≡ products plain (front len u)
+  unfolding products
+  rows-end h = writing-end (rw (drop-of-length-le (front len u) {i = a} (omega (arith, front-length len u (r .source)))) at (r .writing))
+
+module _ {len : ℕ} {u m : List Monomial} {at a b : ℕ} (r : Row len u m at a b) where
+  -- a product is left to be written
+  left : b < len
+      → Writing 91 (products plain (front len u)) m at
+      (mul (entry u a) (entry u b) ∷ (map (mul (entry u a)) (drop (b + 1) (front len u)) ++ products plain (drop (a + 1) (front len u))))
+  left h = rw (front-drop len u b h (r .source)) at (r .writing)
+
+  pub row-room : b < len → at < 91
+  row-room h = writing-room (left h)
+
+  pub row-put : (x : Monomial) → b < len → x .e ≡ mul (entry u a) (entry u b) → Row len u (set m at x) (at + 1) a (b + 1)
+  row-put x h e = record { source = r .source; writing = writing-put x (left h) e }
+
+  pub row-out : len ≤ b → Rows len u m at (a + 1)
+  row-out h =
+      record {
+        source = r .source;
+        writing = rw (drop-of-length-le (front len u) {i = b} (omega (arith, front-length len u (r .source)))) at (r .writing);
+      }
+
+  -- the product of two entries fits
+  pub row-fits : a < len → b < len → Fitting 127 (front len u) → FitsBytes (mul (entry u a) (entry u b))
+  row-fits h k f =
+      let v = front len u in
+      let l : length v ≡ len = front-length len u (r .source) in
+      rw (sym (front-at len u a [] h (r .source)), sym (front-at len u b [] k (r .source))) (product-of-two v a b [] f (omega arith) (omega arith))
+
+-- an entry of an array whose front fits
+pub entry-fits : (b k : ℕ) (m : List Monomial) (i : ℕ) → i < k → k ≤ length m → Fitting b (front k m) → AtMost b (entry m i)
+entry-fits b k m i h l f =
+    subst (AtMost b) (front-at k m i [] h l) (f (getD (front k m) i []) (at-in (front k m) i [] (omega (arith, front-length k m l))) .1)

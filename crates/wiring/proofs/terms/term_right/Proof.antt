@@ -1,0 +1,98 @@
+-- `terms::term_right` meets its contract: field by field, the coefficient last. Assumes nothing.
+use mathlib.Core.Path.{sym, ap, _∙_}
+use native.Mathlib.Omega.{arith}
+use borrow.Author.Tests.{not-true, not-false}
+use mir.Syntax.{w32}
+use mir.ValLaws.{toZ-ofZ}
+use Rattle.monomial.proofs.Tests.{is→nT}
+use Rattle.wiring.specs.Terms.{recordAt, exponentsRight, coefficientRight}
+use Rattle.wiring.proofs.terms.Laws.{right-fails, right-last}
+use borrow.Author.Needs.{needs}
+use Rattle.wiring.proofs.terms.term_right.Statement.{statement}
+use Rattle.wiring.proofs.terms.term_right.Tie as tie
+
+mul-at : tie.Need-mul-at
+mul-at c = search needs
+
+shared-slice-read-wide : tie.Need-shared-slice-read-wide
+shared-slice-read-wide c = search needs
+
+wide-requires : tie.Need-wide-requires
+wide-requires c κs = search needs
+
+returns : tie.Need-returns
+returns c =
+    let a = c .before .before .before .before .args in
+    right-fails (a .n) (recordAt (a .terms .now) (a .t)) (λ f. omega (arith, f .low, c .before .wide .ensures .0))
+
+returns-2 : tie.Need-returns-2
+returns-2 c =
+    let a = c .before .before .before .before .before .args in
+    right-fails (a .n) (recordAt (a .terms .now) (a .t)) (λ f. omega (arith, f .high, c .before .before .wide .ensures .0))
+
+add-if3 : tie.Need-add-if3
+add-if3 c = search needs
+
+shared-slice-read-if3 : tie.Need-shared-slice-read-if3
+shared-slice-read-if3 c = search needs
+
+returns-3 : tie.Need-returns-3
+returns-3 c =
+    let a = c .before .before .before .before .before .before .before .args in
+    right-fails (a .n) (recordAt (a .terms .now) (a .t)) (λ f. c .if3 .taken (f .blank))
+
+add-read : tie.Need-add-read
+add-read c = search needs
+
+read-requires : tie.Need-read-requires
+read-requires c κs = search needs
+
+exponents-right-requires : tie.Need-exponents-right-requires
+exponents-right-requires c κs = search needs
+
+returns-4 : tie.Need-returns-4
+returns-4 c =
+    let a = c .before .before .before .before .before .before .before .before .before .before .args in
+    let m = ap (exponentsRight 9 (a .n)) (c .before .before .read .ensures) in
+    let no = sym m ∙ sym (c .before .exponents-right .ensures) ∙ not-true _ (c .if4 .taken) in
+    right-fails (a .n) (recordAt (a .terms .now) (a .t)) (λ f. is→nT (exponentsRight 9 (a .n) (recordAt (a .terms .now) (a .t) .monomial)) no (f .exponents))
+
+add-decode : tie.Need-add-decode
+add-decode c = search needs
+
+decode-requires : tie.Need-decode-requires
+decode-requires c κs = search needs
+
+coefficient-right-requires : tie.Need-coefficient-right-requires
+coefficient-right-requires c κs = search needs
+
+returns-5 : tie.Need-returns-5
+returns-5 c =
+    let k = c .before .before .before .before .before in
+    let w = k .before .before .before .before in
+    let a = w .before .before .before .args in
+    let yes = sym (ap (exponentsRight 9 (a .n)) (c .before .before .before .before .read .ensures)) ∙ sym
+    (c .before .before .before .exponents-right .ensures) ∙ not-false _ (c .before .before .if4 .left) in
+    let whole = right-last (a .n) (recordAt (a .terms .now) (a .t)) _ (w .wide .ensures .0) (k .before .before .before .if1 .left) (k .before .before .if2 .left) (k .if3 .left) yes in
+    c .coefficient-right .ensures ∙ ap coefficientRight (toZ-ofZ w32 _ (record { sfits = c .before .decode .ok }) ∙ c .before .decode .ensures) ∙ whole
+
+pub term-right-spec : {M : Type 1} → statement M
+term-right-spec =
+    tie.close
+    (tie.spec
+    mul-at
+    shared-slice-read-wide
+    wide-requires
+    returns
+    returns-2
+    add-if3
+    shared-slice-read-if3
+    returns-3
+    add-read
+    read-requires
+    exponents-right-requires
+    returns-4
+    add-decode
+    decode-requires
+    coefficient-right-requires
+    returns-5)

@@ -1,0 +1,87 @@
+-- What a wiring list says as a whole, and that the bytes of its records say the same: the rows of all left variables by their numbers, each of
+-- them its derivative. One list does so. Assumes nothing.
+use mathlib.Core.Path.{_≡_, refl, sym, ap, ap₂, _∙_}
+use mathlib.Core.List.{List, [], _∷_, _++_, append-assoc}
+use Prim.Native.Nat.{ℕ, zero, suc, _+_, _*_, _-_, _≤_, _<_}
+use native.Mathlib.Omega.{arith}
+use lib.IntN.{natAbs}
+use lib.ListN.{length, getD, take, drop, replicate}
+use lib.Seq.{take-at, drop-append-add, getD-append-add}
+use Rattle.monomial.specs.Lists.{gather, below}
+use Rattle.monomial.specs.Monomial.{Mono}
+use Rattle.monomial.specs.Product.{AtMost}
+use Rattle.monomial.proofs.Members.{_∈_, here, there}
+use Rattle.monomial.proofs.Counting.{below-out}
+use Rattle.monomial.proofs.product.Laws.{atMost-at}
+use Rattle.wiring.specs.Coefficient.{word, signed}
+use Rattle.wiring.specs.Poly.{Poly}
+use Rattle.wiring.specs.Wires.{Wire, row, wiring, wireRecord, wireList, Met}
+use Rattle.wiring.proofs.coefficient.Laws.{decode-bytes}
+use Rattle.wiring.proofs.derivative.Rules.{one-zero}
+use Rattle.wiring.proofs.wires.Laws.{Row, rowOf, wiring-rows, wiring-row, wiring-is, row-one}
+use Rattle.wiring.proofs.wires.Sheets.{record-length, list-length}
+
+-- ---- the list
+-- the records of each left variable are its derivative, and the list is these rows by ascending left variable
+pub record Correct (v : List Mono) (d : Mono → Poly Mono) (list : List Wire) : Type 0 where
+  pub rows : (i : ℕ) → i < length v → Row v i (d (getD v i [])) (rowOf i list)
+  pub ordered : list ≡ gather (λ i. rowOf i list) (below (length v))
+
+gather-alike : (f g : ℕ → List Wire) (l : List ℕ) → ((i : ℕ) → i ∈ l → f i ≡ g i) → gather f l ≡ gather g l
+unfolding gather
+gather-alike f g [] h = refl
+gather-alike f g (i ∷ l) h = ap₂ _++_ (h i here) (gather-alike f g l (λ j k. h j (there k)))
+
+module _ (v : List Mono) (d : Mono → Poly Mono) where
+  abbrev own : ℕ → List Wire
+  own i = row v i (d (getD v i []))
+
+  -- the rows of any list that are the rows of the wiring list make that list
+  rows-alike : (l : List Wire) → ((i : ℕ) → i < length v → rowOf i l ≡ own i) → gather (λ i. rowOf i l) (below (length v)) ≡ wiring v d
+  rows-alike l h = gather-alike (λ i. rowOf i l) own (below (length v)) (λ i k. h i (below-out (length v) i k)) ∙ sym (wiring-rows v d)
+
+  pub wiring-correct : Met v d → Correct v d (wiring v d)
+  wiring-correct met = record { rows = wiring-is v d met; ordered = sym (rows-alike (wiring v d) (wiring-row v d)) }
+
+  pub correct-one : (l : List Wire) → Correct v d l → l ≡ wiring v d
+  correct-one l c = c .ordered ∙ rows-alike l (λ i h. row-one v i (d (getD v i [])) (rowOf i l) (c .rows i h))
+
+-- ---- the bytes of a record
+pub record Decodes (x : Wire) (bytes : List ℕ) : Type 0 where
+  pub long : length bytes ≡ 8
+  pub each : (k : ℕ) → getD bytes k 0 < 256
+  pub left-is : getD bytes 0 0 ≡ x .left
+  pub a-is : getD bytes 1 0 ≡ x .a
+  pub b-is : getD bytes 2 0 ≡ x .b
+  pub blank : getD bytes 3 0 ≡ 0
+  pub coefficient-is : signed (word bytes 4) ≡ x .coefficient
+
+pub wire-decodes : (x : Wire) → x .left < 256 → x .a < 256 → x .b < 256 → natAbs (x .coefficient) < 2147483648 → Decodes x (wireRecord x)
+unfolding wireRecord
+wire-decodes x l a b c = record {
+  long = refl;
+  each = λ k. let h = atMost-at 255 (wireRecord x) k small in omega arith;
+  left-is = refl;
+  a-is = refl;
+  b-is = refl;
+  blank = refl;
+  coefficient-is = decode-bytes (x .coefficient) c;
+}
+  where
+    small : AtMost 255 (wireRecord x)
+    small = (omega arith, (omega arith, (omega arith, (omega arith, (omega arith, (omega arith, (omega arith, (omega arith, tt))))))))
+
+-- ---- a buffer that begins with the list
+pub list-at : (list : List Wire) (tail : List ℕ) (j : ℕ) (none : Wire) → j < length list → take 8 (drop (8 * j) (wireList list ++ tail)) ≡ wireRecord (getD list j none)
+unfolding gather
+list-at [] tail j none h = let z : ⊥ = omega arith in absurd z
+list-at (x ∷ l) tail zero none h = ap (take 8) (append-assoc (wireRecord x) (wireList l) tail) ∙ take-at (wireRecord x) (wireList l ++ tail) 8 (record-length x)
+list-at (x ∷ l) tail (suc j) none h =
+    let skip : 8 * suc j ≡ length (wireRecord x) + 8 * j = omega (arith, record-length x) in
+    rw (append-assoc (wireRecord x) (wireList l) tail, skip, drop-append-add (wireRecord x) (wireList l ++ tail) (8 * j)) (list-at l tail j none (omega arith))
+
+pub list-rest : (list : List Wire) (m k : ℕ) → 8 * length list ≤ k → getD (wireList list ++ replicate m 0) k 0 ≡ 0
+list-rest list m k h =
+    let front : length (wireList list) ≡ 8 * length list = list-length list in
+    let e : length (wireList list) + (k - length (wireList list)) ≡ k = omega arith in
+    rw (sym e) (getD-append-add (wireList list) (replicate m 0) (k - length (wireList list)) 0 ∙ one-zero m (k - length (wireList list)))

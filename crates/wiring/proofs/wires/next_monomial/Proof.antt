@@ -1,0 +1,78 @@
+-- `next_monomial` meets its contract: the loop keeps the best of what the records offer (`Meeting`). Assumes nothing.
+use mathlib.Core.Path.{_≡_, refl, sym, _∙_}
+use mathlib.Core.Logic.{⊎-elim}
+use Prim.Native.Nat.{_/_, _-_, _<_}
+use native.Mathlib.Omega.{arith}
+use lib.ListN.{length}
+use Rattle.wiring.specs.Derivative.{image, offers}
+use Rattle.wiring.specs.Terms.{recordAt, records, system}
+use Rattle.wiring.proofs.terms.Laws.{records-length}
+use Rattle.monomial.proofs.order.Laws.{mono-order}
+use Rattle.wiring.specs.Choice.{beyond}
+use Rattle.wiring.proofs.quadratic.Records.{at-record, Meeting, meeting-start, meeting-same, meeting-more, meeting-heads}
+use borrow.Author.Needs.{needs}
+use Rattle.wiring.proofs.wires.next_monomial.Statement.{statement}
+use Rattle.wiring.proofs.wires.next_monomial.Tie as tie
+
+abbrev Inv-loop : tie.InvT-loop
+Inv-loop terms z last count best₀ t₀ best t = (count ≡ length terms / 12) × Meeting (beyond last) (records terms) (z .e) mono-order best₀ t best
+
+abbrev μ-loop : tie.MeasureT-loop
+μ-loop terms z last count best₀ t₀ best t = count - t
+
+loop-holds : tie.Need-loop-holds Inv-loop μ-loop
+loop-holds c = (refl, meeting-start _ _ _ mono-order _)
+
+following-requires : tie.Need-following-requires Inv-loop μ-loop
+following-requires c κs =
+    let s = c .before .before .before in
+    (s .pre .0, (omega arith, s .pre .1))
+
+least-requires : tie.Need-least-requires Inv-loop μ-loop
+least-requires c κs = search needs
+
+add-t : tie.Need-add-t Inv-loop μ-loop
+add-t c = search needs
+
+loop-less : tie.Need-loop-less Inv-loop μ-loop
+loop-less c = search needs
+
+loop-again : tie.Need-loop-again Inv-loop μ-loop
+loop-again c =
+    let a = c .before .before .before .before .before .args in
+    let l = a .terms .now in
+    let k = c .before .before .before .loop in
+    let f = offers (beyond (a .last)) (system (records l)) (a .z .e) in
+    let told = at-record f l (k .t) (omega arith) ∙ sym (c .before .following .ensures .told) in
+    let few : k .t < length (records l) = omega (arith, records-length l) in (
+      k .inv .0,
+      ⊎-elim
+          (λ w.
+          let same-image = at-record (λ r. image r (a .z .e)) l (k .t) (omega arith) ∙ sym (c .before .following .ensures .is (w .0 .taken)) in
+          rw (w .2)
+          (meeting-more (beyond (a .last)) (records l) (a .z .e) mono-order _ (k .t) (k .best) _ (recordAt l (k .t)) (k .inv .1) few (told ∙ w .0 .taken)
+          (λ m b. rw same-image (w .1 .ensures m b))))
+          (λ w. rw (w .1) (meeting-same (beyond (a .last)) (records l) (a .z .e) mono-order _ (k .t) (k .best) (recordAt l (k .t)) (k .inv .1) few (told ∙ w .0 .left)))
+          (c .if1 .came),
+    )
+
+returns : tie.Need-returns Inv-loop μ-loop
+returns c =
+    let a = c .before .before .before .args in
+    let l = a .terms .now in
+    let k = c .before .loop in
+    meeting-heads (beyond (a .last)) (records l) (a .z .e) _ (k .t) (k .best) refl (k .inv .1) (omega (arith, records-length l))
+
+pub next-monomial-spec : {M : Type 1} → statement M
+next-monomial-spec =
+    tie.close
+    (tie.spec
+    Inv-loop
+    μ-loop
+    loop-holds
+    following-requires
+    least-requires
+    add-t
+    loop-less
+    loop-again
+    returns)

@@ -1,0 +1,153 @@
+-- `pair_of` meets its contract: both loops look for the first that passes (`Rowing` outside, `Placing` inside). Assumes nothing.
+use mathlib.Core.Path.{_≡_, refl, sym, ap, ap₂, _∙_}
+use mathlib.Core.List.{[]}
+use Prim.Native.Nat.{_-_, _<_}
+use native.Mathlib.Omega.{arith}
+use borrow.Author.Needs.{needs}
+use lib.ListN.{length, getD}
+use Rattle.monomial.specs.Monomial.{Mono}
+use Rattle.monomial.specs.Order.{same}
+use Rattle.monomial.specs.Product.{mul}
+use Rattle.monomial.proofs.Loops.{Placing, placing-start, placing-on}
+use Rattle.wiring.specs.Signals.{signalsOf}
+use Rattle.wiring.proofs.signals.Laws.{array-length, front-length, front-at, product-of-two}
+use Rattle.wiring.proofs.wires.Pairs.{beside, Rowing, row-start, row-ends, pair-first, pair-second, pair-there}
+use Rattle.wiring.proofs.wires.pair_of.Statement.{statement}
+use Rattle.wiring.proofs.wires.pair_of.Tie as tie
+
+abbrev Inv-loop : tie.InvT-loop
+Inv-loop m v len r₀ a x b₀ r b =
+    (len ≡ v .len) × ((a < len) × ((x .e ≡ getD (signalsOf v) a []) × (Rowing (signalsOf v) (m .e) a × Placing (beside (signalsOf v) (m .e) (getD (signalsOf v) a [])) (signalsOf v) b)))
+
+abbrev μ-loop : tie.MeasureT-loop
+μ-loop m v len r₀ a x b₀ r b = len - b
+
+abbrev Inv-found : tie.InvT-found
+Inv-found m v len r₀ a₀ r a = (len ≡ v .len) × Rowing (signalsOf v) (m .e) a
+
+abbrev μ-found : tie.MeasureT-found
+μ-found m v len r₀ a₀ r a = len - a
+
+found-holds : tie.Need-found-holds Inv-loop μ-loop Inv-found μ-found
+found-holds c = (refl, placing-start _ _)
+
+mul-x : tie.Need-mul-x Inv-loop μ-loop Inv-found μ-found
+mul-x c = search needs
+
+element-copy-out-x : tie.Need-element-copy-out-x Inv-loop μ-loop Inv-found μ-found
+element-copy-out-x c = search needs
+
+loop-holds : tie.Need-loop-holds Inv-loop μ-loop Inv-found μ-found
+loop-holds c =
+    let s = c .before .before .before in
+    let v = s .args .t1 in
+    let k = c .before .before .found in
+    let room : length (v .m) ≡ 13 = search (needs, array-length) in
+    let long = front-length (v .len) (v .m) (omega arith) in
+    let at-a = front-at (v .len) (v .m) (k .a) [] (omega arith) (omega arith) in
+    (k .inv .0, (omega arith, (sym at-a, (k .inv .1, row-start (signalsOf v) (s .args .m .e) (k .a) (omega arith) (k .inv .1)))))
+
+mul-y : tie.Need-mul-y Inv-loop μ-loop Inv-found μ-found
+mul-y c = search needs
+
+element-copy-out-y : tie.Need-element-copy-out-y Inv-loop μ-loop Inv-found μ-found
+element-copy-out-y c = search needs
+
+times-requires : tie.Need-times-requires Inv-loop μ-loop Inv-found μ-found
+times-requires c κs =
+    let s = c .before .before .before .before .before .before in
+    let v = s .args .t1 in
+    let k = c .before .before .loop in
+    let room : length (v .m) ≡ 13 = search (needs, array-length) in
+    let long = front-length (v .len) (v .m) (omega arith) in
+    let at-b = front-at (v .len) (v .m) (k .b) [] (omega arith) (omega arith) in
+    rw (k .inv .1 .1 .0, ← at-b) (product-of-two (signalsOf v) (c .before .before .before .before .before .found .a) (k .b) [] (s .pre .1 .0) (omega arith) (omega arith))
+
+same-requires : tie.Need-same-requires Inv-loop μ-loop Inv-found μ-found
+same-requires c κs = search needs
+
+add-b : tie.Need-add-b Inv-loop μ-loop Inv-found μ-found
+add-b c = search needs
+
+loop-less : tie.Need-loop-less Inv-loop μ-loop Inv-found μ-found
+loop-less c = search needs
+
+loop-again : tie.Need-loop-again Inv-loop μ-loop Inv-found μ-found
+loop-again c =
+    let s = c .before .before .before .before .before .before .before .before .before in
+    let v = s .args .t1 in
+    let o = c .before .before .before .before .before .before .before .before .found in
+    let k = c .before .before .before .before .before .loop in
+    let room : length (v .m) ≡ 13 = search (needs, array-length) in
+    let long = front-length (v .len) (v .m) (omega arith) in
+    let at-b = front-at (v .len) (v .m) (k .b) [] (omega arith) (omega arith) in
+    let product = c .before .before .times .ensures ∙ ap₂ mul (k .inv .1 .1 .0) (sym at-b) in
+    let told = ap (λ (p : Mono). same p (s .args .m .e)) (sym product) ∙ sym (c .before .same .ensures) in
+    let inner = placing-on (beside (signalsOf v) (s .args .m .e) (getD (signalsOf v) (o .a) [])) [] (k .inv .1 .1 .1 .1) (omega arith) (told ∙ c .if1 .left) in
+    (k .inv .0, (k .inv .1 .0, (k .inv .1 .1 .0, (k .inv .1 .1 .1 .0, inner))))
+
+add-a : tie.Need-add-a Inv-loop μ-loop Inv-found μ-found
+add-a c = search needs
+
+found-less : tie.Need-found-less Inv-loop μ-loop Inv-found μ-found
+found-less c = search needs
+
+found-again : tie.Need-found-again Inv-loop μ-loop Inv-found μ-found
+found-again c =
+    let s = c .before .before .before .before .before in
+    let v = s .args .t1 in
+    let o = c .before .before .before .before .found in
+    let k = c .before .loop in
+    let room : length (v .m) ≡ 13 = search (needs, array-length) in
+    let long = front-length (v .len) (v .m) (omega arith) in
+    (k .inv .0, row-ends (signalsOf v) (s .args .m .e) (o .a) (omega arith) (k .inv .1 .1 .1 .0) (k .b) (k .inv .1 .1 .1 .1) (omega arith))
+
+returns : tie.Need-returns Inv-loop μ-loop Inv-found μ-found
+returns c =
+    let s = c .before .before in
+    let v = s .args .t1 in
+    let k = c .before .found in
+    let room : length (v .m) ≡ 13 = search (needs, array-length) in
+    let long = front-length (v .len) (v .m) (omega arith) in
+    absurd (pair-there (signalsOf v) (s .args .m .e) (k .a) (k .inv .1) (omega arith) (s .pre .1 .1))
+
+returns-2 : tie.Need-returns-2 Inv-loop μ-loop Inv-found μ-found
+returns-2 c =
+    let s = c .before .before .before .before .before .before .before .before .before in
+    let v = s .args .t1 in
+    let o = c .before .before .before .before .before .before .before .before .found in
+    let k = c .before .before .before .before .before .loop in
+    let room : length (v .m) ≡ 13 = search (needs, array-length) in
+    let long = front-length (v .len) (v .m) (omega arith) in
+    let at-b = front-at (v .len) (v .m) (k .b) [] (omega arith) (omega arith) in
+    let product = c .before .before .times .ensures ∙ ap₂ mul (k .inv .1 .1 .0) (sym at-b) in
+    let told = ap (λ (p : Mono). same p (s .args .m .e)) (sym product) ∙ sym (c .before .same .ensures) in
+    let hit = told ∙ c .if1 .taken in
+    let first = pair-first (signalsOf v) (s .args .m .e) (o .a) (omega arith) (k .inv .1 .1 .1 .0) (k .b) (omega arith) (k .inv .1 .1 .1 .1) hit in
+    let second = pair-second (signalsOf v) (s .args .m .e) (o .a) (omega arith) (k .inv .1 .1 .1 .0) (k .b) (omega arith) (k .inv .1 .1 .1 .1) hit in
+    (first, (second, (omega arith, omega arith)))
+
+pub pair-of-spec : {M : Type 1} → statement M
+pair-of-spec =
+    tie.close
+    (tie.spec
+    Inv-loop
+    μ-loop
+    Inv-found
+    μ-found
+    found-holds
+    mul-x
+    element-copy-out-x
+    loop-holds
+    mul-y
+    element-copy-out-y
+    times-requires
+    same-requires
+    add-b
+    loop-less
+    loop-again
+    add-a
+    found-less
+    found-again
+    returns
+    returns-2)

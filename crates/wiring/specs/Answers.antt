@@ -1,0 +1,88 @@
+-- Checking and wiring, for all inputs: the reply and every byte of the buffer. Checks run 1, 2, then record by record, 8, 9, 6.
+-- Assumes nothing.
+use mathlib.Core.Path.{_≡_}
+use mathlib.Core.Bool.{Bool, not, cond, _&&_}
+use mathlib.Core.List.{List, _++_}
+use Prim.Native.Nat.{ℕ, _*_, _-_, _≤_}
+use lib.Dec.{eqb, leb}
+use lib.ListN.{length, replicate}
+use Rattle.monomial.specs.Lists.{some, gather, place}
+use Rattle.monomial.specs.Monomial.{Mono}
+use Rattle.wiring.specs.Panel.{width, cards, setBytes, setExponent, wireBytes}
+use Rattle.wiring.specs.Reply.{Numbers, numbers, Outcome, outcome, refused}
+use Rattle.wiring.specs.Poly.{Poly, plain}
+use Rattle.wiring.specs.Derivative.{derivative}
+use Rattle.wiring.specs.Quadratic.{unmet, nonsquares}
+use Rattle.wiring.specs.Signals.{signals, Fitting}
+use Rattle.wiring.specs.Terms.{records, lengthRight, fault, system, CleanTerms}
+use Rattle.wiring.specs.Sets.{setOf, setRight, monomialsOf}
+use Rattle.wiring.specs.Wires.{Wire, wiring, wireRecord, Met}
+use Rattle.wiring.specs.declared.reply.Reply.{Reply}
+use Rattle.wiring.specs.declared.reply.Reply.the-variants.{Done, Setting, Length, Term, Twice, Full, BadSet, NotQuadratic}
+use Rattle.wiring.specs.declared.sets.Set.{Set}
+use Rattle.wiring.specs.declared.terms.Fault.{Fault}
+use Rattle.wiring.specs.declared.terms.Fault.the-variants.{Clean, Wrong, Repeated}
+
+-- a test that holds lets the checks go on; else this is said
+abbrev pub unless : Bool → Reply → Reply → Reply
+unless test answer rest = cond test rest answer
+
+-- n is 1 to 6
+unfoldable pub countRight : ℕ → Bool
+countRight n = leb 1 n && leb n width
+
+-- what is said of the records
+abbrev pub unlessFault : Fault → Reply → Reply
+unlessFault Clean rest = rest
+unlessFault (Wrong place) rest = Term place
+unlessFault (Repeated place) rest = Twice place
+
+module _ (n : ℕ) (fs : List (Poly Mono)) (s : List Mono) where
+  abbrev pub missing : List Mono
+  missing = nonsquares plain (signals width n s) (derivative fs)
+
+  -- the signal number of the first left variable that has a nonsquare
+  unfoldable pub firstUnmet : ℕ
+  firstUnmet = place (λ z. some (unmet plain (signals width n s) (derivative fs z))) (signals width n s)
+
+  abbrev pub wires : List Wire
+  wires = wiring (signals width n s) (derivative fs)
+
+  -- what is said of a set: done with its size, or not quadratic
+  unfoldable pub judged : Reply
+  judged = unless (not (some missing)) (NotQuadratic (length s) firstUnmet) (Done (length s) 0 0)
+
+-- of a set record, and of all three in the order of the checks
+unfoldable pub recordJudged : ℕ → List (Poly Mono) → List ℕ → Reply
+recordJudged n fs set = unless (setRight n set) BadSet (judged n fs (setOf set))
+
+unfoldable pub verdict : ℕ → List ℕ → List ℕ → Reply
+verdict n terms set =
+    let last = recordJudged n (system (records terms)) set in
+    let read = unlessFault (fault n (records terms)) last in
+    unless (countRight n) Setting (unless (lengthRight terms && eqb (length set) setBytes) Length read)
+
+unfoldable pub checked : ℕ → List ℕ → List ℕ → Numbers
+checked n terms set = numbers (verdict n terms set)
+
+-- the list, then zeros; or no room for it
+unfoldable pub listed : ℕ → List Wire → ℕ → Outcome
+listed order list size =
+    let done = outcome (Done order (length list) 0) (gather wireRecord list ++ replicate (size - wireBytes * length list) 0) in
+    cond (leb (wireBytes * length list) size) done (refused (Full order 0) size)
+
+-- wiring: where checking is done, the list of the set that was given
+unfoldable pub wired : ℕ → List ℕ → List ℕ → ℕ → Outcome
+wired n terms set size =
+    let said = verdict n terms set in
+    let list = listed (length (setOf set)) (wires n (system (records terms)) (setOf set)) size in
+    cond (eqb ((numbers said) .code) 0) list (refused said size)
+
+-- a set and a buffer of zeros that a list can be written for
+pub record Wirable (n : ℕ) (terms : List ℕ) (set : Set) (out : List ℕ) : Type 0 where
+  pub clean : CleanTerms terms
+  pub few : n ≤ width
+  pub small : set .len ≤ cards
+  pub fits : Fitting setExponent (monomialsOf set)
+  pub met : Met (signals width n (monomialsOf set)) (derivative (system (records terms)))
+  pub blank : out ≡ replicate (length out) 0

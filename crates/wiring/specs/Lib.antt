@@ -1,0 +1,13 @@
+-- What the contracts of the wiring layer cite.
+pub mod Panel
+pub mod Reply
+pub mod Coefficient
+pub mod Poly
+pub mod Derivative
+pub mod Quadratic
+pub mod Signals
+pub mod Terms
+pub mod Sets
+pub mod Choice
+pub mod Wires
+pub mod Answers

@@ -1,0 +1,34 @@
+-- The numbers of the panel, each in one place. Assumes nothing.
+use Prim.Native.Nat.{ℕ, _*_}
+
+-- variables x1 to x6: so many exponents has a monomial
+abbrev pub width : ℕ
+width = 6
+
+-- integrator cards: so many new monomials has a set
+abbrev pub cards : ℕ
+cards = 6
+
+-- a term record: its bytes, how many there may be, its largest exponent and coefficient
+abbrev pub termBytes : ℕ
+termBytes = 12
+
+abbrev pub mostTerms : ℕ
+mostTerms = 32
+
+abbrev pub termExponent : ℕ
+termExponent = 9
+
+abbrev pub mostCoefficient : ℕ
+mostCoefficient = 1000000
+
+-- a set record: its bytes and its largest exponent
+abbrev pub setBytes : ℕ
+setBytes = width * cards
+
+abbrev pub setExponent : ℕ
+setExponent = termExponent * cards
+
+-- a wiring record
+abbrev pub wireBytes : ℕ
+wireBytes = 8

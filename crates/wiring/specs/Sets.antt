@@ -1,0 +1,53 @@
+-- Set records: six monomials, strictly ascending, then all-zero ones for unused places. Assumes nothing.
+use mathlib.Core.Path.{_≡_}
+use mathlib.Core.Bool.{Bool, true, not, _&&_}
+use mathlib.Core.List.{List, [], _∷_, _++_, map}
+use Prim.Native.Nat.{ℕ, _*_, _-_, _≤_}
+use lib.Dec.{eqb}
+use lib.ListN.{length, take, drop, replicate}
+use Rattle.monomial.specs.Lists.{any, all, gather, place, below}
+use Rattle.monomial.specs.Monomial.{Mono, one, constants}
+use Rattle.monomial.specs.Order.{same, before}
+use Rattle.wiring.specs.Panel.{width, cards, setBytes, setExponent}
+use Rattle.wiring.specs.Signals.{front}
+use Rattle.wiring.specs.Terms.{exponentsRight}
+use Rattle.wiring.specs.declared.sets.Set.{Set}
+use Rattle.wiring.specs.declared.sets.SetRead.{SetRead}
+
+-- the monomials at the places of a record
+unfoldable pub places : List ℕ → List Mono
+places bytes = map (λ i. take width (drop (width * i) bytes)) (below cards)
+
+-- how many places are used: up to the first that is all zero; and the set
+unfoldable pub sizeOf : List ℕ → ℕ
+sizeOf bytes = place (same (one width)) (places bytes)
+
+unfoldable pub setOf : List ℕ → List Mono
+setOf bytes = take (sizeOf bytes) (places bytes)
+
+-- each stands before the next
+unfoldable pub ascending : List Mono → Bool
+ascending [] = true
+ascending (m ∷ l) = let r = ascending l in all (before m) l && r
+
+-- neither 1 nor a single variable, exponents to 54, zero beyond xn
+unfoldable pub monomialRight : ℕ → Mono → Bool
+monomialRight n m = not (any (same m) (constants width)) && exponentsRight setExponent n m
+
+unfoldable pub setRight : ℕ → List ℕ → Bool
+setRight n bytes = all (eqb 0) (drop (width * sizeOf bytes) bytes) && ascending (setOf bytes) && all (monomialRight n) (setOf bytes)
+
+-- the record of a set
+unfoldable pub setRecord : List Mono → List ℕ
+setRecord s = gather (λ m. m) s ++ replicate (setBytes - width * length s) 0
+
+-- the monomials of a set held by value
+abbrev pub monomialsOf : Set → List Mono
+monomialsOf s = front (s .len) (s .m)
+
+-- reading a record: whether it keeps its rule, and then its set
+pub record SetReads (n : ℕ) (bytes : List ℕ) (r : SetRead) : Type 0 where
+  pub right : r .good ≡ setRight n bytes
+  pub holds : r .good ≡ true → monomialsOf (r .set) ≡ setOf bytes
+  pub size : r .good ≡ true → r .set .len ≡ length (setOf bytes)
+  pub fits : r .set .len ≤ cards

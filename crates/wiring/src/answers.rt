@@ -1,0 +1,125 @@
+// Checking and wiring: the operations on n, term records and a set record. Neither assumes anything of its input.
+use super::quadratic;
+use super::reply;
+use super::reply::Reply;
+use super::sets;
+use super::sets::Set;
+use super::signals;
+use super::terms;
+use super::terms::Fault;
+use super::wires;
+ghost use mathlib.Core.Path.{_≡_};
+ghost use Prim.Native.Nat.{_≤_};
+ghost use lib.ListN.{length};
+ghost use Rattle.wiring.specs.Reply.{numbers, outcome};
+ghost use Rattle.wiring.specs.Terms.{lengthRight, records, system, CleanTerms};
+ghost use Rattle.wiring.specs.Signals.{Fitting};
+ghost use Rattle.wiring.specs.Sets.{monomialsOf};
+ghost use Rattle.wiring.specs.Answers.{countRight, judged, recordJudged, checked, listed, wires, wired, Wirable};
+
+// Whether n is 1 to 6.
+pub fn count_right(n: u64) -> bool
+    ensures { λ r. ⌜ r ≡ countRight n ⌝ }
+{
+    if n < 1 {
+        return false;
+    }
+    n <= 6
+}
+
+// Whether term records have a length that records can have.
+pub fn length_right(terms: &[u8]) -> bool
+    ensures { λ r. ⌜ r ≡ lengthRight (now (terms .entry)) ⌝ }
+{
+    if terms.len() % 12 != 0 {
+        return false;
+    }
+    terms.len() <= 384
+}
+
+// What is said of a set that keeps its rule.
+fn judge(n: usize, terms: &[u8], set: Set) -> Reply
+    requires { ⌜ CleanTerms (now terms) × ((n ≤ 6) × ((set .len ≤ 6) × Fitting 54 (monomialsOf set))) ⌝ }
+    ensures { λ r. ⌜ r ≡ judged n (system (records (now (terms .entry)))) (monomialsOf set) ⌝ }
+{
+    let v = signals::signals_of(n, set);
+    let sq = signals::products_of(v);
+    let order = set.len as u64;
+    let at = quadratic::first_unmet(terms, v, sq);
+    if at < v.len {
+        return Reply::NotQuadratic {
+            order,
+            place: at as u64,
+        };
+    }
+    Reply::Done {
+        order,
+        count: 0,
+        steps: 0,
+    }
+}
+
+// What is said of a set record, once the term records are clean.
+fn judge_record(n: usize, terms: &[u8], set: &[u8]) -> Reply
+    requires { ⌜ CleanTerms (now terms) × ((n ≤ 6) × (length (now set) ≡ 36)) ⌝ }
+    ensures { λ r. ⌜ r ≡ recordJudged n (system (records (now (terms .entry)))) (now (set .entry)) ⌝ }
+{
+    let read = sets::read_set(n, set);
+    if !read.good {
+        return Reply::BadSet;
+    }
+    judge(n, terms, read.set)
+}
+
+// Checking: done with the size of the set where it is quadratic, or the first refusal.
+pub fn check(n: u64, terms: &[u8], set: &[u8]) -> Reply
+    ensures { λ r. ⌜ numbers r ≡ checked n (now (terms .entry)) (now (set .entry)) ⌝ }
+{
+    if !count_right(n) {
+        return Reply::Setting;
+    }
+    if !length_right(terms) {
+        return Reply::Length;
+    }
+    if set.len() != 36 {
+        return Reply::Length;
+    }
+    match terms::fault_of(n as usize, terms) {
+        Fault::Clean => judge_record(n as usize, terms, set),
+        Fault::Wrong(place) => Reply::Term { place },
+        Fault::Repeated(place) => Reply::Twice { place },
+    }
+}
+
+// Writes the list of a quadratic set over zeros.
+fn list_wires(n: usize, terms: &[u8], set: Set, out: &mut [u8]) -> Reply
+    requires { ⌜ Wirable n (now terms) set (now out) ⌝ }
+    ensures { λ r. ⌜ outcome r (now (out .exit)) ≡ listed (length (monomialsOf set)) (wires n (system (records (now (terms .entry)))) (monomialsOf set)) (length (now (out .entry))) ⌝ }
+{
+    let v = signals::signals_of(n, set);
+    let order = set.len as u64;
+    let w = wires::write_wires(terms, v, out);
+    if w.ok {
+        return Reply::Done {
+            order,
+            count: w.at as u64,
+            steps: 0,
+        };
+    }
+    wires::clear(out);
+    Reply::Full { order, steps: 0 }
+}
+
+// Wiring: the list in the buffer, then zeros; after a refusal only zeros.
+pub fn wire(n: u64, terms: &[u8], set: &[u8], out: &mut [u8]) -> Reply
+    ensures { λ r. ⌜ outcome r (now (out .exit)) ≡ wired n (now (terms .entry)) (now (set .entry)) (length (now (out .entry))) ⌝ }
+{
+    wires::clear(out);
+    let said = check(n, terms, set);
+    let five = reply::numbers(said);
+    if five[0] != 0 {
+        return said;
+    }
+    let read = sets::read_set(n as usize, set);
+    list_wires(n as usize, terms, read.set, out)
+}

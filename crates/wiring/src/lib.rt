@@ -1,0 +1,13 @@
+// Derivatives, checking and wiring: term and set records with their refusals, V and V2, nonsquares, the wiring list, the reply.
+//
+// Rests on what the crate monomial promises. Every operation takes its bytes as they are and refuses what breaks a rule.
+pub mod answers;
+pub mod choice;
+pub mod coefficient;
+pub mod derivative;
+pub mod quadratic;
+pub mod reply;
+pub mod sets;
+pub mod signals;
+pub mod terms;
+pub mod wires;

@@ -1,0 +1,111 @@
+// Nonsquares: whether a set is quadratic, which signal is the first that is not met, and which nonsquare is split.
+use super::choice;
+use super::choice::Pick;
+use super::coefficient;
+use super::derivative;
+use super::signals;
+use super::signals::Products;
+use super::signals::Signals;
+use monomial::Monomial;
+ghost use mathlib.Core.Path.{_≡_};
+ghost use mathlib.Core.Bool.{not};
+ghost use mathlib.Core.List.{List, _++_};
+ghost use Prim.Native.Nat.{_+_, _*_, _≤_, _<_};
+ghost use lib.ListN.{length};
+ghost use Rattle.monomial.specs.Lists.{any, some, place};
+ghost use Rattle.monomial.specs.Monomial.{Mono};
+ghost use Rattle.monomial.specs.Order.{same};
+ghost use Rattle.monomial.specs.Product.{AtMost};
+ghost use Rattle.wiring.specs.Poly.{plain};
+ghost use Rattle.wiring.specs.Derivative.{derivative, image, offers};
+ghost use Rattle.wiring.specs.Quadratic.{products, unmet, nonsquares};
+ghost use Rattle.wiring.specs.Signals.{Fitting, signalsOf, productsOf};
+ghost use Rattle.wiring.specs.Terms.{recordAt, records, system, CleanTerms};
+ghost use Rattle.wiring.specs.Choice.{cheaper, Picked, Best, Offered};
+
+// The monomial of record t in the derivative of z, where it has a coefficient and is not in V2. The total, which is dear, is asked last.
+fn missing(terms: &[u8], t: usize, z: Monomial, sq: Products) -> Pick
+    requires { ⌜ CleanTerms (now terms) × ((12 * t + 12 ≤ length (now terms)) × (AtMost 72 (z .e) × (sq .len ≤ 91))) ⌝ }
+    ensures { λ r. ⌜ Offered (offers (λ m. not (any (same m) (productsOf sq))) (system (records (now (terms .entry)))) (z .e) (recordAt (now (terms .entry)) t)) (image (recordAt (now (terms .entry)) t) (z .e)) r ⌝ }
+{
+    if derivative::power(terms, t, z) < 1 {
+        return Pick::NONE;
+    }
+    let m = derivative::image(terms, t, z);
+    if signals::is_product(sq, m) {
+        return Pick::NONE;
+    }
+    if coefficient::is_zero(derivative::total(terms, z, m)) {
+        return Pick::NONE;
+    }
+    Pick { some: true, m }
+}
+
+// Whether the derivative of z has a monomial that is not in V2.
+pub fn has_nonsquare(terms: &[u8], z: Monomial, sq: Products) -> bool
+    requires { ⌜ CleanTerms (now terms) × (AtMost 72 (z .e) × (sq .len ≤ 91)) ⌝ }
+    ensures { λ r. ⌜ ((v : List Mono) → productsOf sq ≡ products plain v → r ≡ some (unmet plain v (derivative (system (records (now (terms .entry)))) (z .e)))) ⌝ }
+{
+    let count = terms.len() / 12;
+    let mut t: usize = 0;
+    while t < count {
+        let p = missing(terms, t, z, sq);
+        if p.some {
+            return true;
+        }
+        t += 1;
+    }
+    false
+}
+
+// The number of the first signal whose derivative has a nonsquare; as many as there are signals where none has.
+pub fn first_unmet(terms: &[u8], v: Signals, sq: Products) -> usize
+    requires { ⌜ CleanTerms (now terms) × ((v .len ≤ 13) × ((0 < v .len) × (Fitting 72 (signalsOf v) × ((sq .len ≤ 91) × (productsOf sq ≡ products plain (signalsOf v)))))) ⌝ }
+    ensures { λ r. ⌜ r ≡ place (λ z. some (unmet plain (signalsOf v) (derivative (system (records (now (terms .entry)))) z))) (signalsOf v) ⌝ }
+{
+    let len = v.len;
+    let mut j: usize = 0;
+    while j < len {
+        let z = v.m[j];
+        if has_nonsquare(terms, z, sq) {
+            return j;
+        }
+        j += 1;
+    }
+    len
+}
+
+// The cheapest, once the nonsquares of the derivative of z are met too.
+fn choose_in(p: Pick, terms: &[u8], z: Monomial, sq: Products) -> Pick
+    requires { ⌜ CleanTerms (now terms) × (AtMost 72 (z .e) × (sq .len ≤ 91)) ⌝ }
+    ensures { λ r. ⌜ ((v l : List Mono) → productsOf sq ≡ products plain v → Best cheaper l p →
+        Best cheaper (unmet plain v (derivative (system (records (now (terms .entry)))) (z .e)) ++ l) r) ⌝ }
+{
+    let count = terms.len() / 12;
+    let mut best = p;
+    let mut t: usize = 0;
+    while t < count {
+        let p = missing(terms, t, z, sq);
+        if p.some {
+            best = choice::cheapest(best, p.m);
+        }
+        t += 1;
+    }
+    best
+}
+
+// The nonsquare of a set that is split, where there is one.
+pub fn choose(terms: &[u8], v: Signals, sq: Products) -> Pick
+    requires { ⌜ CleanTerms (now terms) × ((v .len ≤ 13) × (Fitting 72 (signalsOf v) × ((sq .len ≤ 91) × (productsOf sq ≡ products plain (signalsOf v))))) ⌝ }
+    ensures { λ r. ⌜ Picked (nonsquares plain (signalsOf v) (derivative (system (records (now (terms .entry)))))) r ⌝ }
+{
+    let len = v.len;
+    let mut best = Pick::NONE;
+    let mut j: usize = 0;
+    while j < len {
+        let z = v.m[j];
+        best = choose_in(best, terms, z, sq);
+        j += 1;
+    }
+    best
+}

@@ -1,0 +1,157 @@
+// Sets of new monomials, held by value, and set records.
+use super::terms;
+use monomial::Monomial;
+ghost use mathlib.Core.Path.{_≡_};
+ghost use mathlib.Core.Bool.{true};
+ghost use Prim.Native.Nat.{_+_, _*_, _≤_, _<_};
+ghost use lib.Dec.{eqb};
+ghost use lib.ListN.{length, drop, take, getD};
+ghost use Rattle.monomial.specs.Lists.{any, all};
+ghost use Rattle.monomial.specs.Monomial.{constants};
+ghost use Rattle.monomial.specs.Order.{same};
+ghost use Rattle.wiring.specs.Sets.{places, sizeOf, setOf, ascending, monomialRight, setRight, monomialsOf, SetReads};
+
+pub struct Set {
+    pub m: [Monomial; 6],
+    pub len: usize,
+}
+
+// The set in a record, where good is true.
+pub struct SetRead {
+    pub good: bool,
+    pub set: Set,
+}
+
+impl Set {
+    pub const EMPTY: Set = Set {
+        m: [Monomial::ONE; 6],
+        len: 0,
+    };
+}
+
+// Whether m is 1 or a single variable.
+fn is_constant(m: Monomial) -> bool
+    ensures { λ r. ⌜ r ≡ any (same (m .e)) (constants 6) ⌝ }
+{
+    let mut i: usize = 0;
+    while i < 7 {
+        if m.same(Monomial::constant(i)) {
+            return true;
+        }
+        i += 1;
+    }
+    false
+}
+
+fn monomial_right(n: usize, m: Monomial) -> bool
+    ensures { λ r. ⌜ r ≡ monomialRight n (m .e) ⌝ }
+{
+    if is_constant(m) {
+        return false;
+    }
+    terms::exponents_right(54, n, m)
+}
+
+// How many places of a record are used: up to the first that is all zero.
+fn size_of(s: &[u8]) -> usize
+    requires { ⌜ length (now s) ≡ 36 ⌝ }
+    ensures { λ r. ⌜ (r ≡ sizeOf (now (s .entry))) × (r ≤ 6) ⌝ }
+{
+    let mut i: usize = 0;
+    while i < 6 {
+        if Monomial::ONE.same(Monomial::read(s, 6 * i)) {
+            return i;
+        }
+        i += 1;
+    }
+    i
+}
+
+// Whether the bytes from at on are all zero.
+fn zero_from(s: &[u8], at: usize) -> bool
+    requires { ⌜ at ≤ length (now s) ⌝ }
+    ensures { λ r. ⌜ r ≡ all (eqb 0) (drop at (now (s .entry))) ⌝ }
+{
+    let mut i = at;
+    while i < s.len() {
+        if s[i] != 0 {
+            return false;
+        }
+        i += 1;
+    }
+    true
+}
+
+// Whether the first len places ascend strictly: each stands before the next.
+fn ascends(s: &[u8], len: usize) -> bool
+    requires { ⌜ (length (now s) ≡ 36) × (len ≤ 6) ⌝ }
+    ensures { λ r. ⌜ r ≡ ascending (take len (places (now (s .entry)))) ⌝ }
+{
+    let mut i: usize = 1;
+    while i < len {
+        if !Monomial::read(s, 6 * i - 6).before(Monomial::read(s, 6 * i)) {
+            return false;
+        }
+        i += 1;
+    }
+    true
+}
+
+// Whether the first len places hold monomials that a set may have.
+fn monomials_right(n: usize, s: &[u8], len: usize) -> bool
+    requires { ⌜ (length (now s) ≡ 36) × (len ≤ 6) ⌝ }
+    ensures { λ r. ⌜ r ≡ all (monomialRight n) (take len (places (now (s .entry)))) ⌝ }
+{
+    let mut i: usize = 0;
+    while i < len {
+        if !monomial_right(n, Monomial::read(s, 6 * i)) {
+            return false;
+        }
+        i += 1;
+    }
+    true
+}
+
+// The first len places as a set.
+fn set_of(s: &[u8], len: usize) -> Set
+    requires { ⌜ (length (now s) ≡ 36) × (len ≤ 6) ⌝ }
+    ensures { λ r. ⌜ (monomialsOf r ≡ take len (places (now (s .entry)))) × (r .len ≡ len) ⌝ }
+{
+    let mut m = [Monomial::ONE; 6];
+    let mut i: usize = 0;
+    while i < len {
+        m[i] = Monomial::read(s, 6 * i);
+        i += 1;
+    }
+    Set { m, len }
+}
+
+// Reads a record of 36 bytes.
+pub fn read_set(n: usize, s: &[u8]) -> SetRead
+    requires { ⌜ length (now s) ≡ 36 ⌝ }
+    ensures { λ r. ⌜ SetReads n (now (s .entry)) r ⌝ }
+{
+    let len = size_of(s);
+    if !zero_from(s, 6 * len) {
+        return SetRead {
+            good: false,
+            set: Set::EMPTY,
+        };
+    }
+    if !ascends(s, len) {
+        return SetRead {
+            good: false,
+            set: Set::EMPTY,
+        };
+    }
+    if !monomials_right(n, s, len) {
+        return SetRead {
+            good: false,
+            set: Set::EMPTY,
+        };
+    }
+    SetRead {
+        good: true,
+        set: set_of(s, len),
+    }
+}

@@ -1,0 +1,123 @@
+// Term records: 12 bytes each, and what may be wrong with them.
+use super::coefficient;
+use monomial::Monomial;
+ghost use mathlib.Core.Path.{_≡_};
+ghost use mathlib.Core.List.{List};
+ghost use Prim.Native.Nat.{_+_, _*_, _/_, _≤_, _<_};
+ghost use lib.ListN.{length, take};
+ghost use Rattle.monomial.specs.Lists.{any};
+ghost use Rattle.wiring.specs.Terms.{recordAt, records, exponentsRight, coefficientRight, termRight, alike, fault};
+
+// The first record with a fault decides; places count from 1.
+pub enum Fault {
+    Clean,
+    Wrong(u64),
+    Repeated(u64),
+}
+
+// The exponents are at most most, and zero beyond xn.
+pub fn exponents_right(most: u8, n: usize, m: Monomial) -> bool
+    ensures { λ r. ⌜ r ≡ exponentsRight most n (m .e) ⌝ }
+{
+    let e = m.e;
+    let mut i: usize = 0;
+    while i < 6 {
+        if most < e[i] {
+            return false;
+        }
+        if n <= i {
+            if e[i] != 0 {
+                return false;
+            }
+        }
+        i += 1;
+    }
+    true
+}
+
+// A coefficient is nonzero, from -1,000,000 to 1,000,000.
+fn coefficient_right(c: i32) -> bool
+    ensures { λ r. ⌜ r ≡ coefficientRight c ⌝ }
+{
+    if c == 0 {
+        return false;
+    }
+    if c < -1000000 {
+        return false;
+    }
+    if 1000000 < c {
+        return false;
+    }
+    true
+}
+
+// Every field of record number t keeps its rule.
+fn term_right(n: usize, terms: &[u8], t: usize) -> bool
+    requires { ⌜ 12 * t + 12 ≤ length (now terms) ⌝ }
+    ensures { λ r. ⌜ r ≡ termRight n (recordAt (now (terms .entry)) t) ⌝ }
+{
+    let at = 12 * t;
+    let equation = wide(terms[at]);
+    if equation < 1 {
+        return false;
+    }
+    if n < equation {
+        return false;
+    }
+    if terms[at + 1] != 0 {
+        return false;
+    }
+    if !exponents_right(9, n, Monomial::read(terms, at + 2)) {
+        return false;
+    }
+    coefficient_right(coefficient::decode(terms, at + 8))
+}
+
+pub fn wide(x: u8) -> usize
+    ensures { λ r. ⌜ (r ≡ x) × (r < 256) ⌝ }
+{
+    x as usize
+}
+
+// Records t and u have the same equation and exponents.
+fn records_alike(terms: &[u8], t: usize, u: usize) -> bool
+    requires { ⌜ (12 * t + 12 ≤ length (now terms)) × (12 * u + 12 ≤ length (now terms)) ⌝ }
+    ensures { λ r. ⌜ r ≡ alike (recordAt (now (terms .entry)) t) (recordAt (now (terms .entry)) u) ⌝ }
+{
+    if terms[12 * t] != terms[12 * u] {
+        return false;
+    }
+    Monomial::read(terms, 12 * t + 2).same(Monomial::read(terms, 12 * u + 2))
+}
+
+// An earlier record has the equation and exponents of record t.
+fn repeats(terms: &[u8], t: usize) -> bool
+    requires { ⌜ 12 * t + 12 ≤ length (now terms) ⌝ }
+    ensures { λ r. ⌜ r ≡ any (alike (recordAt (now (terms .entry)) t)) (take t (records (now (terms .entry)))) ⌝ }
+{
+    let mut u: usize = 0;
+    while u < t {
+        if records_alike(terms, t, u) {
+            return true;
+        }
+        u += 1;
+    }
+    false
+}
+
+pub fn fault_of(n: usize, terms: &[u8]) -> Fault
+    ensures { λ r. ⌜ r ≡ fault n (records (now (terms .entry))) ⌝ }
+{
+    let count = terms.len() / 12;
+    let mut t: usize = 0;
+    while t < count {
+        if !term_right(n, terms, t) {
+            return Fault::Wrong(t as u64 + 1);
+        }
+        if repeats(terms, t) {
+            return Fault::Repeated(t as u64 + 1);
+        }
+        t += 1;
+    }
+    Fault::Clean
+}
