@@ -1,8 +1,8 @@
 -- Members of the lists that `any`, `keep` and `gather` speak of. Assumes nothing.
-use mathlib.Core.Path.{_≡_, refl, sym, ap, subst}
+use mathlib.Core.Path.{_≡_, refl, sym, ap, subst, _∙_}
 use mathlib.Core.Logic.{⊎-elim}
 use mathlib.Core.Bool.{Bool}
-use mathlib.Core.List.{List, [], _∷_, List·Memᴰ, List·Memᴰ·head, List·Memᴰ·tail, List·Memᴰ·cases-cons, List·Memᴰ·not-nil, List·Memᴰ·append-cases, Memᴰ·append-left, Memᴰ·append-right, _++_, map}
+use mathlib.Core.List.{List, [], _∷_, List·Memᴰ, List·Memᴰ·head, List·Memᴰ·tail, List·Memᴰ·cases-cons, List·Memᴰ·not-nil, List·Memᴰ·append-cases, Memᴰ·append-left, Memᴰ·append-right, _++_, map, append-assoc}
 use lib.ListN.{length, take}
 use Prim.Native.Nat.{ℕ, zero, suc, _≤_}
 use native.Mathlib.Omega.{arith}
@@ -155,6 +155,12 @@ keep-length f [] = omega arith
 keep-length f (x ∷ l) =
     let ih : length (keep f l) ≤ length l = keep-length f l in
     cond-cases (λ r. length r ≤ suc (length l)) (f x) (x ∷ keep f l) (keep f l) (λ t. omega arith) (λ t. omega arith)
+
+-- ---- gather, list by list
+pub gather-append : {A B : Type 0} (f : A → List B) (a b : List A) → gather f (a ++ b) ≡ gather f a ++ gather f b
+unfolding gather
+gather-append f [] b = refl
+gather-append f (x ∷ a) b = ap (λ l. f x ++ l) (gather-append f a b) ∙ sym (append-assoc (f x) (gather f a) (gather f b))
 
 -- ---- take
 pub take-in : {A : Type 0} (n : ℕ) (l : List A) {x : A} → x ∈ take n l → x ∈ l

@@ -46,17 +46,21 @@ module _ (n : ℕ) (fs : List (Poly Mono)) (s : List Mono) where
   first-as v at e h = h ∙ ap (λ (l : List Mono). place (λ z. some (unmet plain l (derivative fs z))) l) e
 
   -- the loop's answer is a signal's number, or that of none
+  pub first-some : (at : ℕ) → at ≡ firstUnmet n fs s → at < length (signals 6 n s) → some (missing n fs s) ≡ true
+  unfolding firstUnmet
+  first-some at e h = some-missing ∙ T→is (any bad (signals 6 n s)) (place-any bad (signals 6 n s) (omega arith))
+
+  pub first-none : (at : ℕ) → at ≡ firstUnmet n fs s → length (signals 6 n s) ≤ at → some (missing n fs s) ≡ false
+  unfolding firstUnmet
+  first-none at e h = some-missing ∙ nT→is (any bad (signals 6 n s)) (λ t. let l = place-lt bad (signals 6 n s) t in omega arith)
+
   pub judged-not : (at : ℕ) → at ≡ firstUnmet n fs s → at < length (signals 6 n s) → NotQuadratic (length s) at ≡ judged n fs s
-  unfolding judged firstUnmet
-  judged-not at e h =
-      let there : T (any bad (signals 6 n s)) = place-any bad (signals 6 n s) (omega arith) in
-      rw (some-missing, T→is (any bad (signals 6 n s)) there) (ap (NotQuadratic (length s)) e)
+  unfolding judged
+  judged-not at e h = rw (first-some at e h) (ap (NotQuadratic (length s)) e)
 
   pub judged-done : (at : ℕ) → at ≡ firstUnmet n fs s → length (signals 6 n s) ≤ at → Done (length s) 0 0 ≡ judged n fs s
-  unfolding judged firstUnmet
-  judged-done at e h =
-      let none : any bad (signals 6 n s) ≡ false = nT→is (any bad (signals 6 n s)) (λ t. let l = place-lt bad (signals 6 n s) t in omega arith) in
-      rw (some-missing, none)
+  unfolding judged
+  judged-done at e h = rw (first-none at e h)
 
   -- a reply of done says that there is no nonsquare
   pub done-none : {o c k : ℕ} → judged n fs s ≡ Done o c k → missing n fs s ≡ []

@@ -13,7 +13,7 @@ use Rattle.monomial.specs.Lists.{any, all, gather, place}
 use Rattle.monomial.specs.Monomial.{Mono, one, constants}
 use Rattle.monomial.specs.Order.{same, before}
 use Rattle.monomial.proofs.Tests.{Tested, passed, failed, test, T→is, nT→is, and-l, and-r, and-i}
-use Rattle.monomial.proofs.Members.{_∈_, here, there, all-in, all-out, take-in}
+use Rattle.monomial.proofs.Members.{_∈_, here, there, all-in, all-out, take-in, gather-append}
 use Rattle.monomial.proofs.Counting.{at-in}
 use Rattle.monomial.proofs.order.Laws.{mono-order}
 use Rattle.monomial.proofs.order.Ascending.{Ascending, among-in, among-out}
@@ -59,7 +59,7 @@ zero-list [] (suc w) e h = let z : ⊥ = omega arith in absurd z
 zero-list (x ∷ l) zero e h = let z : ⊥ = omega arith in absurd z
 zero-list (x ∷ l) (suc w) e h = ap₂ _∷_ (h 0 (omega arith)) (zero-list l w (omega arith) (λ k j. h (suc k) (omega arith)))
 
-zeros-at : (n k : ℕ) → getD {A = ℕ} (replicate n 0) k 0 ≡ 0
+pub zeros-at : (n k : ℕ) → getD {A = ℕ} (replicate n 0) k 0 ≡ 0
 zeros-at zero k = refl
 zeros-at (suc n) zero = refl
 zeros-at (suc n) (suc k) = zeros-at n k
@@ -224,11 +224,6 @@ module _ (n : ℕ) (s : List Mono) (r : Recordable n s) where
         zeros = λ k h. record-zeros s (r .few) (r .wide) k (rw size at h);
         permitted = subst (Permitted n) (sym record-set) (r .permitted);
       })
-
-gather-append : {A B : Type 0} (f : A → List B) (a b : List A) → gather f (a ++ b) ≡ gather f a ++ gather f b
-unfolding gather
-gather-append f [] b = refl
-gather-append f (x ∷ a) b = ap (λ l. f x ++ l) (gather-append f a b) ∙ sym (append-assoc (f x) (gather f a) (gather f b))
 
 -- the first k places, one behind the other, are the first 6 * k bytes
 bytes-used : (bytes : List ℕ) (k : ℕ) → k ≤ 6 → bytesOf (take k (places bytes)) ≡ take (6 * k) bytes

@@ -13,7 +13,7 @@ use Rattle.monomial.specs.Lists.{keep, gather}
 use Rattle.monomial.specs.Monomial.{Mono}
 use Rattle.monomial.specs.Order.{before}
 use Rattle.monomial.proofs.Tests.{is→T, is→nT}
-use Rattle.monomial.proofs.Members.{_∈_, keep-no, keep-all}
+use Rattle.monomial.proofs.Members.{_∈_, keep-no, keep-all, gather-append}
 use Rattle.monomial.proofs.order.Laws.{mono-order, not-both}
 use Rattle.monomial.proofs.order.Ascending.{Ascending, head-first, tail-asc}
 use Rattle.monomial.proofs.Counting.{at-in}
@@ -25,11 +25,6 @@ use Rattle.wiring.specs.declared.wires.Written.{Written}
 use Rattle.wiring.specs.Wires.{Wire, firstOf, secondOf, row, rowsFrom, wiring, wireRecord, wireList, Sheet, Standing, Wrote}
 
 -- ---- one record more
-list-append : (a b : List Wire) → wireList (a ++ b) ≡ wireList a ++ wireList b
-unfolding gather
-list-append [] b = refl
-list-append (w ∷ a) b = ap (λ (l : List ℕ). wireRecord w ++ l) (list-append a b) ∙ sym (append-assoc (wireRecord w) (wireList a) (wireList b))
-
 pub record-length : (w : Wire) → length (wireRecord w) ≡ 8
 unfolding wireRecord
 record-length w = refl
@@ -90,7 +85,7 @@ sheet-more list at out w s h = record { counted = counted; room = room; bytes = 
     bytes =
         ap₂ (λ (a b : List ℕ). (a ++ wireRecord w) ++ b) front tail
         ∙ ap (λ (l : List ℕ). l ++ replicate (length written - 8 * (at + 1)) 0)
-        (sym (list-append list (w ∷ []) ∙ ap (λ (l : List ℕ). wireList list ++ l) (append-nil (wireRecord w))))
+        (sym (gather-append wireRecord list (w ∷ []) ∙ ap (λ (l : List ℕ). wireList list ++ l) (append-nil (wireRecord w))))
 
 -- no room for one more of a list that goes on
 pub sheet-full : (list : List Wire) (at : ℕ) (out : List ℕ) (more : List Wire) → Sheet list at out → length out < 8 * at + 8 → 0 < length more

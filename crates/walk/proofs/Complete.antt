@@ -1,0 +1,156 @@
+-- The walk misses no smallest quadratic set: below a set s that stands inside a quadratic set t, of any powers, a quadratic set inside t is
+-- found; where t holds no smaller one, it is t. Assumes nothing.
+use mathlib.Core.Path.{_≡_, refl, sym, _∙_, subst}
+use mathlib.Core.Logic.{_⊎_, inl, inr, ⊎-elim}
+use mathlib.Core.List.{List, [], _∷_, List·Memᴰ·not-nil, Memᴰ·cast}
+use Prim.Native.Nat.{ℕ, zero, suc, _+_, _<_, _≤_}
+use native.Mathlib.Omega.{arith}
+use borrow.Author.Tests.{le-leb, lt-leb}
+use lib.ListN.{length}
+use Rattle.monomial.specs.Monomial.{Mono}
+use Rattle.monomial.specs.Order.{before}
+use Rattle.monomial.specs.Product.{mul}
+use Rattle.monomial.specs.Divisors.{pairs}
+use Rattle.monomial.proofs.Tests.{Tested, passed, failed, test, is→T, is→nT}
+use Rattle.monomial.proofs.Members.{_∈_, here, there, gather-in}
+use Rattle.monomial.proofs.order.Laws.{mono-order}
+use Rattle.monomial.proofs.order.Ascending.{_⊆_, Ascending, sub-length, sub-equal}
+use Rattle.monomial.proofs.divisors.Pairs.{pairs-either}
+use Rattle.wiring.specs.Poly.{Poly, plain, support}
+use Rattle.wiring.specs.Derivative.{derivative}
+use Rattle.wiring.specs.Quadratic.{inV2}
+use Rattle.wiring.specs.Signals.{signals}
+use Rattle.wiring.specs.Choice.{chosen}
+use Rattle.wiring.specs.Answers.{missing}
+use Rattle.wiring.proofs.quadratic.Laws.{Factors, inV2-in, inV2-out, unmet-in, unmet-out, Nonsquare, nonsquares-in, nonsquares-out}
+use Rattle.wiring.proofs.quadratic.Definition1.{no-members}
+use Rattle.walk.specs.Walk.{child, Step, found, tried, after, opened}
+use Rattle.walk.proofs.children.Laws.{chosen-in, base-in, signals-cases, signals-grow, signals-wide, Grown, old, left, right, child-out, child-asc, split-longer}
+
+-- monomials of six exponents
+abbrev pub Wide : List Mono → Type 0
+Wide s = (m : Mono) → m ∈ s → length m ≡ 6
+
+module _ (n : ℕ) (fs : List (Poly Mono)) where
+  -- ---- where t has no nonsquare, each monomial of a derivative of its V is a product
+  pub met : (t : List Mono) → missing n fs t ≡ [] → (z m : Mono) → z ∈ signals 6 n t → m ∈ support plain (derivative fs z)
+      → Factors plain mono-order (signals 6 n t) m
+  met t q z m hz hm = go (test (inV2 plain v m))
+    where
+      v : List Mono
+      v = signals 6 n t
+
+      go : Tested (inV2 plain (signals 6 n t) m) → Factors plain mono-order (signals 6 n t) m
+      go (passed e) = inV2-out plain mono-order v m (is→T (inV2 plain v m) e)
+      go (failed e) =
+          let u = unmet-in plain mono-order v (derivative fs z) m hm (is→nT (inV2 plain v m) e) in
+          absurd (List·Memᴰ·not-nil (subst (λ l. m ∈ l) q (nonsquares-in plain mono-order v (derivative fs) z m hz u)))
+
+  -- two lists with the same members have nonsquares or not together
+  pub same-members : (s t : List Mono) → s ⊆ t → t ⊆ s → missing n fs s ≡ [] → missing n fs t ≡ []
+  same-members s t st ts e = no-members (missing n fs t) clash
+    where
+      v : List Mono
+      v = signals 6 n t
+
+      clash : (m : Mono) → m ∈ missing n fs t → ⊥
+      clash m h =
+          let w : Nonsquare plain mono-order v (derivative fs) m = nonsquares-out plain mono-order v (derivative fs) m h in
+          let u = unmet-out plain mono-order v (derivative fs (w .of)) m (w .missing) in
+          let f : Factors plain mono-order (signals 6 n s) m = met s e (w .of) m (signals-grow n t s ts (w .of) (w .of-in)) (u .0) in
+          let grow : signals 6 n s ⊆ v = signals-grow n s t st in
+          u .1 (inV2-in plain mono-order v m (record { a = f .a; b = f .b; a-in = grow (f .a) (f .a-in); b-in = grow (f .b) (f .b-in); is = f .is }))
+
+  -- ---- a step towards t: a pair whose child stays inside t and is longer
+  pub record Towards (s t : List Mono) (m : Mono) : Type 0 where
+    pub pair : Mono × Mono
+    pub listed : pair ∈ pairs m
+    pub within : child n s pair ⊆ t
+    pub longer : length s < length (child n s pair)
+
+  inside : (s t : List Mono) (p : Mono × Mono) → s ⊆ t → p .0 ∈ signals 6 n t → p .1 ∈ signals 6 n t → child n s p ⊆ t
+  inside s t p sub hl hr x h = go (child-out n s p h)
+    where
+      in-t : x ∈ signals 6 n t → (x ∈ signals 6 n s → ⊥) → x ∈ t
+      in-t k f = ⊎-elim (λ b. absurd (f (base-in n s b))) (λ j. j) (signals-cases n t k)
+
+      go : Grown n s p x → x ∈ t
+      go (old k) = sub x k
+      go (left e f) = in-t (Memᴰ·cast e hl) f
+      go (right e f) = in-t (Memᴰ·cast e hr) f
+
+  -- the factors of a nonsquare of s in V of t are a pair of it
+  pub towards : (s t : List Mono) (m : Mono) → Ascending before s → s ⊆ t → Wide t → missing n fs t ≡ [] → m ∈ missing n fs s → Towards s t m
+  towards s t m a sub z q h = go (pairs-either (f .a) (f .b) (wide (f .a) (f .a-in) ∙ sym (wide (f .b) (f .b-in))))
+    where
+      v : List Mono
+      v = signals 6 n s
+
+      w : Nonsquare plain mono-order (signals 6 n s) (derivative fs) m
+      w = nonsquares-out plain mono-order v (derivative fs) m h
+
+      f : Factors plain mono-order (signals 6 n t) m
+      f = met t q (w .of) m (signals-grow n s t sub (w .of) (w .of-in)) (unmet-out plain mono-order v (derivative fs (w .of)) m (w .missing) .0)
+
+      wide : (x : Mono) → x ∈ signals 6 n t → length x ≡ 6
+      wide = signals-wide n t z
+
+      make : (p : Mono × Mono) → p ∈ pairs m → p .0 ∈ signals 6 n t → p .1 ∈ signals 6 n t → Towards s t m
+      make p k hl hr = record { pair = p; listed = k; within = inside s t p sub hl hr; longer = split-longer n fs s m a h p k }
+
+      go : ((f .a, f .b) ∈ pairs (mul (f .a) (f .b))) ⊎ ((f .b, f .a) ∈ pairs (mul (f .a) (f .b))) → Towards s t m
+      go (inl k) = make (f .a, f .b) (subst (λ x. (f .a, f .b) ∈ pairs x) (f .is) k) (f .a-in) (f .b-in)
+      go (inr k) = make (f .b, f .a) (subst (λ x. (f .b, f .a) ∈ pairs x) (f .is) k) (f .b-in) (f .a-in)
+
+  module _ (k : ℕ) where
+    -- a step of a child that is small enough is a step of the set
+    after-in : (below : List Mono → List Step) (s : List Mono) (m : Mono) (l : List Mono) (p : Mono × Mono) {x : Step} → length s < k
+        → p ∈ pairs (chosen m l) → length (child n s p) ≤ k → x ∈ below (child n s p) → x ∈ after n fs k below s (m ∷ l)
+    unfolding after tried
+    after-in below s m l p {x} hs hp hc hx =
+        rw (lt-leb k (length s) hs)
+        (there (gather-in (tried n fs k below s) (pairs (chosen m l)) hp (there (rw (le-leb (length (child n s p)) k hc) hx))))
+
+    -- a quadratic set inside t that is found below s
+    pub record Met (t : List Mono) (d : ℕ) (s : List Mono) : Type 0 where
+      pub set : List Mono
+      pub ascending : Ascending before set
+      pub within : set ⊆ t
+      pub quadratic : missing n fs set ≡ []
+      pub listed : found set ∈ opened n fs k d s
+
+    pub reached : (t : List Mono) → Ascending before t → Wide t → missing n fs t ≡ [] → length t ≤ k
+        → (d : ℕ) (s : List Mono) → Ascending before s → s ⊆ t → k < length s + d → Met t d s
+    unfolding opened after
+    reached t at wide q ht zero s a sub h = let i : length s ≤ length t = sub-length mono-order s t a at sub in let z : ⊥ = omega arith in absurd z
+    reached t at wide q ht (suc d) s a sub h = go (missing n fs s) refl (reached t at wide q ht d)
+      where
+        later : {x : Step} {l : List Mono} → missing n fs s ≡ l → x ∈ after n fs k (opened n fs k d) s l → x ∈ opened n fs k (suc d) s
+        later {x} e i = subst (λ r. x ∈ after n fs k (opened n fs k d) s r) (sym e) i
+
+        go : (l : List Mono) → missing n fs s ≡ l → ((c : List Mono) → Ascending before c → c ⊆ t → k < length c + d → Met t d c) → Met t (suc d) s
+        go [] e ih = record { set = s; ascending = a; within = sub; quadratic = e; listed = later e here }
+        go (m ∷ l) e ih =
+            let gap : chosen m l ∈ missing n fs s = subst (λ r. chosen m l ∈ r) (sym e) (chosen-in m l) in
+            let w : Towards s t (chosen m l) = towards s t (chosen m l) a sub wide q gap in
+            let c : List Mono = child n s (w .pair) in
+            let ac : Ascending before c = child-asc n s (w .pair) a in
+            let lc : length c ≤ length t = sub-length mono-order c t ac at (w .within) in
+            let lw : length s < length c = w .longer in
+            let r : Met t d c = ih c ac (w .within) (omega arith) in
+            record {
+              set = r .set;
+              ascending = r .ascending;
+              within = r .within;
+              quadratic = r .quadratic;
+              listed = later e (after-in (opened n fs k d) s m l (w .pair) (omega arith) (w .listed) (omega arith) (r .listed));
+            }
+
+    -- t itself, where no quadratic set inside it is smaller
+    pub complete : (t : List Mono) → Ascending before t → Wide t → missing n fs t ≡ [] → length t ≤ k
+        → ((u : List Mono) → Ascending before u → u ⊆ t → missing n fs u ≡ [] → length t ≤ length u)
+        → (d : ℕ) (s : List Mono) → Ascending before s → s ⊆ t → k < length s + d → found t ∈ opened n fs k d s
+    complete t at wide q ht least d s a sub h =
+        let r : Met t d s = reached t at wide q ht d s a sub h in
+        let e : r .set ≡ t = sub-equal mono-order (r .set) t (r .ascending) at (r .within) (least (r .set) (r .ascending) (r .within) (r .quadratic)) in
+        subst (λ (u : List Mono). found u ∈ opened n fs k d s) e (r .listed)

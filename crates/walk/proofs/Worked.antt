@@ -1,0 +1,162 @@
+-- Planning computed by the definitions from the bytes of the term records: document 01's sums worked by hand, marked P, with every byte of the
+-- buffer and the wiring of the first set, then each refusal and both sides of the limits. One table, one claim. Assumes nothing.
+use mathlib.Core.Path.{_≡_, refl, sym, ap, _∙_}
+use mathlib.Core.List.{List, [], _∷_, _++_, map}
+use Prim.Native.Nat.{ℕ, _*_, _-_}
+use native.Mathlib.Omega.{arith}
+use lib.ListN.{length, replicate}
+use Rattle.monomial.specs.Lists.{any, some, all, keep, place, gather, below, pairwise, pointwise, dictionary, insertBy, arrangeBy}
+use Rattle.monomial.specs.Monomial.{vars}
+use Rattle.monomial.specs.Divisors.{score, divisors, pairs}
+use Rattle.wiring.specs.Reply.{Numbers, five, Outcome}
+use Rattle.wiring.specs.Coefficient.{signed, unsigned, isZero}
+use Rattle.wiring.specs.Poly.{coeff, times, support}
+use Rattle.wiring.specs.Derivative.{partsFrom, derivative}
+use Rattle.wiring.specs.Quadratic.{factor, inV2, unmet, nonsquares}
+use Rattle.wiring.specs.Signals.{signals}
+use Rattle.wiring.specs.Choice.{cheaper, chosen}
+use Rattle.wiring.specs.Terms.{records, lengthRight, exponentsRight, coefficientRight, termRight, faultFrom, equation, system}
+use Rattle.wiring.specs.Sets.{places, sizeOf, setOf, ascending, monomialRight, setRight, setRecord}
+use Rattle.wiring.specs.Wires.{firstOf, secondOf, row as rowOf, rowsFrom, wiring, wireRecord}
+use Rattle.wiring.specs.Answers.{countRight, firstUnmet, judged, recordJudged, verdict, listed, wired}
+use Rattle.walk.specs.Walk.{added, child, tried, after, opened, level, kept, onward, run}
+use Rattle.walk.specs.Plan.{settled, levels, plan, setsBytes, said, settingsRight, afterFault, planned}
+
+record Row : Type 0 where
+  got : Outcome
+  want : Outcome
+
+-- exponents that are not written are 0
+padded : List ℕ → List ℕ
+padded m = m ++ replicate (6 - length m) 0
+
+-- a term record with coefficient 1, and with coefficient -1
+pub plus : ℕ → List ℕ → List ℕ
+plus equation m = equation ∷ 0 ∷ padded m ++ 1 ∷ 0 ∷ 0 ∷ 0 ∷ []
+
+minus : ℕ → List ℕ → List ℕ
+minus equation m = equation ∷ 0 ∷ padded m ++ 255 ∷ 255 ∷ 255 ∷ 255 ∷ []
+
+set : List (List ℕ) → List ℕ
+set s = gather padded s ++ replicate (36 - 6 * length s) 0
+
+-- a wiring record with a small coefficient, and with its negative
+wire : ℕ → ℕ → ℕ → ℕ → List ℕ
+wire left a b c = left ∷ a ∷ b ∷ 0 ∷ c ∷ 0 ∷ 0 ∷ 0 ∷ []
+
+back : ℕ → ℕ → ℕ → ℕ → List ℕ
+back left a b c = left ∷ a ∷ b ∷ 0 ∷ (256 - c) ∷ 255 ∷ 255 ∷ 255 ∷ []
+
+-- planning: the five numbers, the sets, and zeros to the end of the buffer
+planning : ℕ → ℕ → ℕ → ℕ → List ℕ → Numbers → List (List (List ℕ)) → Row
+planning n cap limit size terms said sets = record {
+  got = planned n cap limit terms size;
+  want = record { said = said; bytes = gather set sets ++ replicate (size - 36 * length sets) 0 };
+}
+
+-- where a row names nothing else, the cap is 6, the limit 1,000,000 and the room 1,000 sets
+usual : ℕ → List ℕ → Numbers → List (List (List ℕ)) → Row
+usual n terms said sets = planning n 6 1000000 36000 terms said sets
+
+-- wiring a set into room for 224 records
+wiringOf : ℕ → List ℕ → List (List ℕ) → Numbers → List (List ℕ) → Row
+wiringOf n terms s said list = record {
+  got = wired n terms (set s) 1792;
+  want = record { said = said; bytes = gather (λ w. w) list ++ replicate (1792 - 8 * length list) 0 };
+}
+
+table : List Row
+table =
+    -- P: no records
+    usual 1 [] (five 0 0 1 1 0) ([] ∷ [])
+    -- P: x' = x^2, and with room for no set
+    ∷ usual 1 (plus 1 (2 ∷ [])) (five 0 0 1 1 0) ([] ∷ [])
+    ∷ planning 1 6 1000000 0 (plus 1 (2 ∷ [])) (five 6 0 0 1 0) []
+    ∷ wiringOf 1 (plus 1 (2 ∷ [])) [] (five 0 0 1 0 0) (wire 1 1 1 1 ∷ [])
+    -- P: x' = x^3, and with cap 0
+    ∷ usual 1 (plus 1 (3 ∷ [])) (five 0 1 1 6 0) (((2 ∷ []) ∷ []) ∷ [])
+    ∷ wiringOf 1 (plus 1 (3 ∷ [])) ((2 ∷ []) ∷ []) (five 0 1 2 0 0) (wire 1 1 2 1 ∷ wire 2 2 2 2 ∷ [])
+    ∷ planning 1 0 1000000 36000 (plus 1 (3 ∷ [])) (five 5 1 0 1 0) []
+    -- P: x' = x^5 at limits 7 and 6; with no room, full at the step that meets the set
+    ∷ planning 1 6 7 36000 (plus 1 (5 ∷ [])) (five 0 1 1 7 0) (((4 ∷ []) ∷ []) ∷ [])
+    ∷ wiringOf 1 (plus 1 (5 ∷ [])) ((4 ∷ []) ∷ []) (five 0 1 2 0 0) (wire 1 1 2 1 ∷ wire 2 2 2 4 ∷ [])
+    ∷ planning 1 6 6 36000 (plus 1 (5 ∷ [])) (five 7 1 0 6 0) []
+    ∷ planning 1 6 6 0 (plus 1 (5 ∷ [])) (five 6 1 0 6 0) []
+    ∷ planning 1 6 5 0 (plus 1 (5 ∷ [])) (five 7 1 0 5 0) []
+    -- P: x' = x^4 + x^3, and with room for one set
+    ∷ usual 1 (plus 1 (4 ∷ []) ++ plus 1 (3 ∷ [])) (five 0 2 2 23 0) (((2 ∷ []) ∷ (3 ∷ []) ∷ []) ∷ ((3 ∷ []) ∷ (4 ∷ []) ∷ []) ∷ [])
+    ∷ wiringOf 1 (plus 1 (4 ∷ []) ++ plus 1 (3 ∷ [])) ((2 ∷ []) ∷ (3 ∷ []) ∷ []) (five 0 2 6 0 0)
+    (wire 1 0 3 1 ∷ wire 1 1 3 1 ∷ wire 2 1 3 2 ∷ wire 2 2 3 2 ∷ wire 3 2 3 3 ∷ wire 3 3 3 3 ∷ [])
+    ∷ planning 1 6 1000000 36 (plus 1 (4 ∷ []) ++ plus 1 (3 ∷ [])) (five 6 2 0 15 0) []
+    -- the same room at limits 15 and 14, and one byte less than room for two
+    ∷ planning 1 6 15 36 (plus 1 (4 ∷ []) ++ plus 1 (3 ∷ [])) (five 6 2 0 15 0) []
+    ∷ planning 1 6 14 36 (plus 1 (4 ∷ []) ++ plus 1 (3 ∷ [])) (five 7 2 0 14 0) []
+    ∷ planning 1 6 1000000 71 (plus 1 (4 ∷ []) ++ plus 1 (3 ∷ [])) (five 6 2 0 15 0) []
+    -- room for two, with a byte to spare, at limits 23 and 22
+    ∷ planning 1 6 23 73 (plus 1 (4 ∷ []) ++ plus 1 (3 ∷ [])) (five 0 2 2 23 0) (((2 ∷ []) ∷ (3 ∷ []) ∷ []) ∷ ((3 ∷ []) ∷ (4 ∷ []) ∷ []) ∷ [])
+    ∷ planning 1 6 22 73 (plus 1 (4 ∷ []) ++ plus 1 (3 ∷ [])) (five 7 2 0 22 0) []
+    -- the cap is the order, and one less
+    ∷ planning 1 2 1000000 72 (plus 1 (4 ∷ []) ++ plus 1 (3 ∷ [])) (five 0 2 2 23 0) (((2 ∷ []) ∷ (3 ∷ []) ∷ []) ∷ ((3 ∷ []) ∷ (4 ∷ []) ∷ []) ∷ [])
+    ∷ planning 1 1 1000000 72 (plus 1 (4 ∷ []) ++ plus 1 (3 ∷ [])) (five 5 2 0 6 0) []
+    -- five variables more change nothing
+    ∷ usual 6 (plus 1 (4 ∷ []) ++ plus 1 (3 ∷ [])) (five 0 2 2 23 0) (((2 ∷ []) ∷ (3 ∷ []) ∷ []) ∷ ((3 ∷ []) ∷ (4 ∷ []) ∷ []) ∷ [])
+    -- P: x1' = x1^3 + x2^2, x2' = x1 + x2
+    ∷ usual 2 (plus 1 (3 ∷ []) ++ plus 1 (0 ∷ 2 ∷ []) ++ plus 2 (1 ∷ []) ++ plus 2 (0 ∷ 1 ∷ [])) (five 0 2 1 23 0) (((0 ∷ 2 ∷ []) ∷ (2 ∷ []) ∷ []) ∷ [])
+    ∷ wiringOf 2 (plus 1 (3 ∷ []) ++ plus 1 (0 ∷ 2 ∷ []) ++ plus 2 (1 ∷ []) ++ plus 2 (0 ∷ 1 ∷ [])) ((0 ∷ 2 ∷ []) ∷ (2 ∷ []) ∷ [])
+    (five 0 2 8 0 0) (wire 1 0 3 1 ∷ wire 1 1 4 1 ∷ wire 2 0 2 1 ∷ wire 2 0 1 1 ∷ wire 3 0 3 2 ∷ wire 3 1 2 2 ∷ wire 4 1 3 2 ∷ wire 4 4 4 2 ∷ [])
+    -- P: x1' = x1^2 x2, x2' = -x1 x2^2: no wire for the new signal
+    ∷ usual 2 (plus 1 (2 ∷ 1 ∷ []) ++ minus 2 (1 ∷ 2 ∷ [])) (five 0 1 1 8 0) (((1 ∷ 1 ∷ []) ∷ []) ∷ [])
+    ∷ wiringOf 2 (plus 1 (2 ∷ 1 ∷ []) ++ minus 2 (1 ∷ 2 ∷ [])) ((1 ∷ 1 ∷ []) ∷ []) (five 0 1 2 0 0) (wire 1 1 3 1 ∷ back 2 2 3 1 ∷ [])
+    -- P: x1' = x1^2 x2, x2 unfed
+    ∷ usual 2 (plus 1 (2 ∷ 1 ∷ [])) (five 0 1 1 8 0) (((1 ∷ 1 ∷ []) ∷ []) ∷ [])
+    ∷ wiringOf 2 (plus 1 (2 ∷ 1 ∷ [])) ((1 ∷ 1 ∷ []) ∷ []) (five 0 1 2 0 0) (wire 1 1 3 1 ∷ wire 3 3 3 1 ∷ [])
+    -- x' = x^4: the middle pair of x^4 is x^2 twice
+    ∷ usual 1 (plus 1 (4 ∷ [])) (five 0 1 1 8 0) (((3 ∷ []) ∷ []) ∷ [])
+    -- x1' = x2^2 x3^2: four sets
+    ∷ usual 3 (plus 1 (0 ∷ 2 ∷ 2 ∷ [])) (five 0 1 4 11 0) (((0 ∷ 1 ∷ 1 ∷ []) ∷ []) ∷ ((0 ∷ 1 ∷ 2 ∷ []) ∷ []) ∷ ((0 ∷ 2 ∷ 1 ∷ []) ∷ []) ∷ ((0 ∷ 2 ∷ 2 ∷ []) ∷ []) ∷ [])
+    -- n is 0, 7
+    ∷ planning 0 6 1 5 (plus 1 (2 ∷ [])) (five 1 0 0 0 0) []
+    ∷ planning 7 6 1 5 (plus 1 (2 ∷ [])) (five 1 0 0 0 0) []
+    -- the cap is 7
+    ∷ planning 1 7 1 5 (plus 1 (2 ∷ [])) (five 1 0 0 0 0) []
+    -- the limit is 0, 1, 1,000,000,000, one more
+    ∷ planning 1 6 0 36 (plus 1 (2 ∷ [])) (five 1 0 0 0 0) []
+    ∷ planning 1 6 1 36 (plus 1 (2 ∷ [])) (five 0 0 1 1 0) ([] ∷ [])
+    ∷ planning 1 6 1000000000 36 (plus 1 (2 ∷ [])) (five 0 0 1 1 0) ([] ∷ [])
+    ∷ planning 1 6 1000000001 36 (plus 1 (2 ∷ [])) (five 1 0 0 0 0) []
+    -- 11 bytes of terms, 33 records; settings come first
+    ∷ planning 1 6 1 40 (replicate 11 0) (five 2 0 0 0 0) []
+    ∷ planning 1 6 1 40 (replicate 396 0) (five 2 0 0 0 0) []
+    ∷ planning 1 7 1 40 (replicate 11 0) (five 1 0 0 0 0) []
+    -- a wrong record, and one that repeats the first
+    ∷ planning 1 6 1 40 (plus 1 (2 ∷ []) ++ plus 1 (10 ∷ [])) (five 3 0 0 0 2) []
+    ∷ planning 1 6 1 40 (plus 1 (2 ∷ []) ++ plus 1 (2 ∷ [])) (five 4 0 0 0 2) []
+    ∷ []
+
+-- replies, buffers and lists are as written
+worked : map (λ r. r .got) table ≡ map (λ r. r .want) table
+unfolding table usual planning wiringOf plus minus set wire back padded planned settingsRight afterFault said setsBytes plan levels settled run onward
+    kept level opened after tried child added cheaper chosen pairs divisors score setRecord wired listed verdict recordJudged judged firstUnmet
+    countRight records lengthRight exponentsRight coefficientRight termRight faultFrom equation system places sizeOf setOf ascending monomialRight
+    setRight firstOf secondOf rowOf rowsFrom wiring wireRecord signals factor inV2 unmet nonsquares partsFrom derivative coeff times support signed
+    unsigned isZero vars any some all keep place gather below pairwise pointwise dictionary insertBy arrangeBy
+worked = refl
+
+-- one reply does not do for all: x' = x^2 and x' = x^3 with cap 0 have different ones
+pub record TwoSystems : Type 0 where
+  pub square : planned 1 0 1 (plus 1 (2 ∷ [])) 36 .said ≡ five 0 0 1 1 0
+  pub cube : planned 1 0 1 (plus 1 (3 ∷ [])) 36 .said ≡ five 5 1 0 1 0
+
+pub two-systems : TwoSystems
+unfolding plus padded planned settingsRight afterFault said setsBytes plan levels settled run onward kept level opened after tried child added cheaper
+    chosen pairs divisors score setRecord countRight records lengthRight exponentsRight coefficientRight termRight faultFrom equation system signals
+    factor inV2 unmet nonsquares partsFrom derivative coeff times support signed isZero vars any some all keep gather below pairwise pointwise
+    dictionary insertBy arrangeBy
+two-systems = record { square = refl; cube = refl }
+
+pub plan-not-constant : (x : Numbers) → ((n cap limit : ℕ) (terms : List ℕ) (size : ℕ) → x ≡ planned n cap limit terms size .said) → ⊥
+plan-not-constant x h =
+    let done : x ≡ five 0 0 1 1 0 = h 1 0 1 (plus 1 (2 ∷ [])) 36 ∙ two-systems .square in
+    let none : x ≡ five 5 1 0 1 0 = h 1 0 1 (plus 1 (3 ∷ [])) 36 ∙ two-systems .cube in
+    let codes : _≡_ {A = ℕ} 0 5 = ap (λ (y : Numbers). y .code) (sym done ∙ none) in
+    omega arith

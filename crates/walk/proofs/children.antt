@@ -1,0 +1,3 @@
+-- Children of a set.
+pub mod Laws
+pub mod Offers

@@ -1,0 +1,4 @@
+-- The finds in the buffer.
+pub mod Laws
+pub mod Records
+pub mod Finds

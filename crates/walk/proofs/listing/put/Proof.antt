@@ -1,0 +1,56 @@
+-- `put` meets its contract: the loop pastes the bytes of the record over the buffer (`Pasting`). Assumes nothing.
+use Prim.Native.Nat.{_-_}
+use native.Mathlib.Omega.{arith}
+use Rattle.monomial.proofs.Loops.{Pasting, pasting-start, pasting-length, pasting-room, pasting-next, pasting-end}
+use borrow.Author.Needs.{needs}
+use Rattle.walk.proofs.listing.put.Statement.{statement}
+use Rattle.walk.proofs.listing.put.Tie as tie
+
+abbrev Inv-loop : tie.InvT-loop
+Inv-loop out₀ at b i₀ out i = Pasting 0 36 at b out₀ out i
+
+abbrev μ-loop : tie.MeasureT-loop
+μ-loop out₀ at b i₀ out i = 36 - i
+
+loop-holds : tie.Need-loop-holds Inv-loop μ-loop
+loop-holds c = pasting-start 0 36 _ _ _ (search needs) (c .before .pre)
+
+array-read-out : tie.Need-array-read-out Inv-loop μ-loop
+array-read-out c = search needs
+
+add-out : tie.Need-add-out Inv-loop μ-loop
+add-out c = search needs
+
+slice-write-out : tie.Need-slice-write-out Inv-loop μ-loop
+slice-write-out c = pasting-room 0 (c .before .loop .inv) (omega arith)
+
+add-i : tie.Need-add-i Inv-loop μ-loop
+add-i c = search needs
+
+loop-less : tie.Need-loop-less Inv-loop μ-loop
+loop-less c = search needs
+
+loop-again : tie.Need-loop-again Inv-loop μ-loop
+loop-again c = pasting-next 0 (c .before .loop .inv) (omega arith)
+
+same-length : tie.Need-same-length Inv-loop μ-loop
+same-length c = pasting-length 0 (c .before .loop .inv)
+
+returns : tie.Need-returns Inv-loop μ-loop
+returns c = pasting-end 0 (c .before .loop .inv) (omega arith)
+
+pub put-spec : {M : Type 1} → statement M
+put-spec =
+    tie.close
+    (tie.spec
+    Inv-loop
+    μ-loop
+    loop-holds
+    array-read-out
+    add-out
+    slice-write-out
+    add-i
+    loop-less
+    loop-again
+    same-length
+    returns)

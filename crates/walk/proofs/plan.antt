@@ -1,0 +1,3 @@
+-- Planning: what each reply says, and that it is the only one.
+pub mod Laws
+pub mod Exact

@@ -1,0 +1,228 @@
+-- Planning, step by step: what each level leaves to the levels above it, and what each check says of the outcome. Assumes nothing.
+use mathlib.Core.Path.{_≡_, refl, sym, ap, ap₂, _∙_, subst}
+use mathlib.Core.Bool.{true, false}
+use mathlib.Core.List.{List, [], _∷_, _++_, List·Memᴰ·not-nil}
+use Prim.Native.Nat.{ℕ, suc, _+_, _*_, _-_, _/_, _<_, _≤_}
+use native.Mathlib.Omega.{arith}
+use native.Mathlib.Numerals.{add-one}
+use lib.Dec.{leb→le}
+use lib.ListN.{length, replicate}
+use Rattle.monomial.specs.Lists.{gather}
+use Rattle.monomial.specs.Monomial.{Mono}
+use Rattle.monomial.proofs.Tests.{is→T, T→is, and-l, and-r}
+use Rattle.monomial.proofs.order.Ascending.{empty}
+use Rattle.wiring.specs.Reply.{Outcome, outcome}
+use Rattle.wiring.specs.Poly.{Poly}
+use Rattle.wiring.specs.Terms.{records, lengthRight, fault, system, CleanTerms}
+use Rattle.wiring.specs.Answers.{countRight}
+use Rattle.wiring.specs.declared.reply.Reply.{Reply}
+use Rattle.wiring.specs.declared.reply.Reply.the-variants as reply
+use Rattle.wiring.specs.declared.terms.Fault.the-variants.{Clean, Wrong, Repeated}
+use Rattle.wiring.proofs.answers.Laws.{count-few}
+use Rattle.wiring.proofs.terms.Laws.{clean-widens}
+use Rattle.walk.specs.declared.walk.State.{State}
+use Rattle.walk.specs.declared.walk.Turn.{Turn}
+use Rattle.walk.specs.declared.walk.Turn.the-variants.{Going, Spent, Full}
+use Rattle.walk.specs.Walk.{Finds, opened, level, Run, ended, spent, full, run}
+use Rattle.walk.specs.Plan.{Ending, done, none, settled, levels, plan, setsBytes, said, settingsRight, afterFault, planned}
+use Rattle.walk.specs.Listing.{Shown}
+use Rattle.walk.specs.Turns.{Walked, Ended, Tells}
+
+-- ---- a buffer without finds
+-- a buffer of zeros shows no set
+pub shown-none : (out : List ℕ) → out ≡ replicate (length out) 0 → Shown [] 0 out
+unfolding setsBytes gather
+shown-none out e =
+    let n : length out ≡ length out - 36 * 0 = omega arith in
+    record {
+      counted = refl;
+      room = omega arith;
+      bytes = e ∙ ap (λ (k : ℕ). replicate k 0) n;
+      ascending = empty;
+      recorded = λ s h. absurd (List·Memᴰ·not-nil h);
+    }
+
+-- a buffer that shows no set is zeros
+pub none-shown : (l : Finds) (count : ℕ) (out : List ℕ) → Shown l count out → count ≡ 0 → out ≡ replicate (length out) 0
+unfolding setsBytes gather
+none-shown [] count out s z =
+    let n : length out - 36 * count ≡ length out = omega arith in
+    s .bytes ∙ ap (λ (k : ℕ). replicate k 0) n
+none-shown (x ∷ l) count out s z = let y : ⊥ = omega (arith, s .counted) in absurd y
+
+-- the empty set, from which each level starts
+pub empty-walked : Walked []
+empty-walked = record {
+  recorded = record {
+    few = omega arith;
+    ascending = empty;
+    wide = λ m h. absurd (List·Memᴰ·not-nil h);
+    proper = λ m h e. List·Memᴰ·not-nil h;
+  };
+  small = λ m h. absurd (List·Memᴰ·not-nil h);
+}
+
+-- ---- the levels, one turn at a time
+module _ (n : ℕ) (fs : List (Poly Mono)) (limit cap size : ℕ) where
+  -- how `left` levels from k on end, with the steps taken before
+  abbrev pub from : ℕ → ℕ → ℕ → Ending
+  from left k taken = levels n fs limit (size / 36) left k taken
+
+  -- how all of them end
+  abbrev pub climbed : Ending
+  climbed = plan n fs limit (size / 36) cap
+
+  -- no set is found below level k: the buffer is zeros, and the levels from k on are what is left of the plan
+  pub record Climbing (k steps : ℕ) (out : List ℕ) : Type 0 where
+    pub low : k ≤ cap + 1
+    pub long : length out ≡ size
+    pub blank : out ≡ replicate (length out) 0
+    pub rest : from (cap + 1 - k) k steps ≡ climbed
+
+  pub climb-start : (out : List ℕ) → length out ≡ size → out ≡ replicate (length out) 0 → Climbing 0 0 out
+  unfolding plan
+  climb-start out l z =
+      let e : cap + 1 - 0 ≡ suc cap = omega arith in
+      record { low = omega arith; long = l; blank = z; rest = ap (λ (i : ℕ). from i 0 0) e }
+
+  -- what the opener tells of the empty set at level k
+  abbrev pub Opening : ℕ → ℕ → List ℕ → Turn → List ℕ → Type 0
+  Opening k steps out turn out' = (d : ℕ) (finds : Finds) → k - 0 < d → Shown finds 0 out
+      → Tells turn out' (run limit (length out / 36) (opened n fs k d []) steps finds)
+
+  turned : (left k taken : ℕ) (x : Run) → run limit (size / 36) (level n fs k) taken [] ≡ x
+      → from (suc left) k taken ≡ settled n fs limit (size / 36) k (from left (suc k)) x
+  unfolding levels
+  turned left k taken x e = ap (settled n fs limit (size / 36) k (from left (suc k))) e
+
+  settled-none : (k : ℕ) (next : ℕ → Ending) (l : Finds) (taken : ℕ) → length l ≡ 0 → settled n fs limit (size / 36) k next (ended taken l) ≡ next taken
+  unfolding settled
+  settled-none k next [] taken h = refl
+  settled-none k next (x ∷ l) taken h = let z : ⊥ = omega arith in absurd z
+
+  settled-some : (k : ℕ) (next : ℕ → Ending) (l : Finds) (taken : ℕ) → 0 < length l → settled n fs limit (size / 36) k next (ended taken l) ≡ done k taken l
+  unfolding settled
+  settled-some k next [] taken h = let z : ⊥ = omega arith in absurd z
+  settled-some k next (x ∷ l) taken h = refl
+
+module _ {n : ℕ} {fs : List (Poly Mono)} {limit cap size k steps : ℕ} {out : List ℕ} (c : Climbing n fs limit cap size k steps out) where
+  -- the whole plan, as it is said
+  abbrev pub Says : Reply → List ℕ → Type 0
+  Says r bytes = outcome r bytes ≡ said (climbed n fs limit cap size) size
+
+  -- above the cap nothing is left
+  pub climb-none : cap < k → Says (reply.Nothing k steps) out
+  unfolding said levels
+  climb-none h =
+      let e : 0 ≡ cap + 1 - k = omega arith in
+      let zeros : out ≡ replicate size 0 = c .blank ∙ ap (λ (i : ℕ). replicate i 0) (c .long) in
+      let rest : none k steps ≡ climbed n fs limit cap size = ap (λ (i : ℕ). from n fs limit cap size i k steps) e ∙ c .rest in
+      ap (outcome (reply.Nothing k steps)) zeros ∙ ap (λ (x : Ending). said x size) rest
+
+  -- after level k
+  module _ (h : k ≤ cap) (turn : Turn) (out' : List ℕ) (o : Opening n fs limit cap size k steps out turn out') (kept : length out' ≡ length out) where
+    abbrev here : Run
+    here = run limit (size / 36) (level n fs k) steps []
+
+    abbrev next : ℕ → Ending
+    next = from n fs limit cap size (cap - k) (suc k)
+
+    long' : length out' ≡ size
+    long' = kept ∙ c .long
+
+    told : Tells turn out' here
+    unfolding level
+    told =
+        let t = o (suc k) [] (omega arith) (shown-none out (c .blank)) in
+        subst (λ (i : ℕ). Tells turn out' (run limit (i / 36) (opened n fs k (suc k) []) steps [])) (c .long) t
+
+    told-as : (t : Turn) → turn ≡ t → Tells t out' here
+    told-as t e = subst (λ (u : Turn). Tells u out' here) e told
+
+    whole : (x : Run) → here ≡ x → settled n fs limit (size / 36) k next x ≡ climbed n fs limit cap size
+    whole x e =
+        let left : suc (cap - k) ≡ cap + 1 - k = omega arith in
+        sym (turned n fs limit cap size (cap - k) k steps x e) ∙ ap (λ (i : ℕ). from n fs limit cap size i k steps) left ∙ c .rest
+
+    -- no find: the next level
+    pub climb-on : (st : State) → turn ≡ Going st → st .count ≤ 0 → Climbing n fs limit cap size (k + 1) (st .steps) out'
+    climb-on st g z =
+        let e : Ended st out' here = told-as (Going st) g in
+        let blank : length (e .finds) ≡ 0 = omega (arith, e .shown .counted) in
+        let left : cap + 1 - (k + 1) ≡ cap - k = omega arith in
+        record {
+          low = omega arith;
+          long = long';
+          blank = none-shown (e .finds) (st .count) out' (e .shown) (omega arith);
+          rest = ap₂ (λ (i j : ℕ). from n fs limit cap size i j (st .steps)) left (add-one k)
+              ∙ sym (settled-none n fs limit cap size k next (e .finds) (st .steps) blank)
+              ∙ whole (ended (st .steps) (e .finds)) (e .is);
+        }
+
+    -- finds: this level is the last
+    pub climb-done : (st : State) → turn ≡ Going st → 0 < st .count → Says (reply.Done k (st .count) (st .steps)) out'
+    unfolding said
+    climb-done st g z =
+        let e : Ended st out' here = told-as (Going st) g in
+        let some : 0 < length (e .finds) = omega (arith, e .shown .counted) in
+        let end = sym (settled-some n fs limit cap size k next (e .finds) (st .steps) some) ∙ whole (ended (st .steps) (e .finds)) (e .is) in
+        let left : length out' - 36 * st .count ≡ size - 36 * length (e .finds) = omega (arith, e .shown .counted, long') in
+        let bytes : out' ≡ setsBytes (e .finds) ++ replicate (size - 36 * length (e .finds)) 0 = e .shown .bytes ∙ ap (λ (i : ℕ). setsBytes (e .finds) ++ replicate i 0) left in
+        ap₂ (λ (i : ℕ) (b : List ℕ). outcome (reply.Done k i (st .steps)) b) (e .shown .counted) bytes ∙ ap (λ (x : Ending). said x size) end
+
+    -- the limit or the room ends the walk, and the buffer is cleared
+    module _ (zeros : List ℕ) (z : zeros ≡ replicate (length out') 0) where
+      cleared : zeros ≡ replicate size 0
+      cleared = z ∙ ap (λ (i : ℕ). replicate i 0) long'
+
+      pub climb-spent : turn ≡ Spent → Says (reply.Spent k limit) zeros
+      unfolding said settled
+      climb-spent g = ap (outcome (reply.Spent k limit)) cleared ∙ ap (λ (x : Ending). said x size) (whole spent (told-as Spent g))
+
+      pub climb-full : (taken : ℕ) → turn ≡ Full taken → Says (reply.Full k taken) zeros
+      unfolding said settled
+      climb-full taken g = ap (outcome (reply.Full k taken)) cleared ∙ ap (λ (x : Ending). said x size) (whole (full taken) (told-as (Full taken) g))
+
+-- ---- the checks in their order
+module _ (n cap limit : ℕ) (e : settingsRight n cap limit ≡ true) where
+  pub settings-few : n ≤ 6
+  unfolding settingsRight
+  settings-few = let t = is→T (settingsRight n cap limit) e in count-few n (T→is (countRight n) (search (and-l, and-r, t)))
+
+  pub settings-low : cap ≤ 6
+  unfolding settingsRight
+  settings-low = let t = is→T (settingsRight n cap limit) e in leb→le cap 6 (search (and-l, and-r, t))
+
+  -- what the climb asks of the records
+  pub settings-clean : (terms : List ℕ) → fault n (records terms) ≡ Clean → CleanTerms terms
+  settings-clean terms = clean-widens n (records terms) settings-few
+
+module _ (n cap limit : ℕ) (terms : List ℕ) (size : ℕ) where
+  -- what is refused leaves zeros
+  module _ (zeros : List ℕ) (z : zeros ≡ replicate size 0) where
+    pub said-setting : settingsRight n cap limit ≡ false → outcome reply.Setting zeros ≡ planned n cap limit terms size
+    unfolding planned
+    said-setting e = rw (e, z)
+
+    module _ (e : settingsRight n cap limit ≡ true) where
+      pub said-length : lengthRight terms ≡ false → outcome reply.Length zeros ≡ planned n cap limit terms size
+      unfolding planned
+      said-length h = rw (e, h, z)
+
+      pub said-wrong : lengthRight terms ≡ true → (place : ℕ) → fault n (records terms) ≡ Wrong place → outcome (reply.Term place) zeros ≡ planned n cap limit terms size
+      unfolding planned afterFault
+      said-wrong h place q = rw (e, h, q, z)
+
+      pub said-repeated : lengthRight terms ≡ true → (place : ℕ) → fault n (records terms) ≡ Repeated place → outcome (reply.Twice place) zeros ≡ planned n cap limit terms size
+      unfolding planned afterFault
+      said-repeated h place q = rw (e, h, q, z)
+
+  -- what is not refused is walked, in the buffer that was cleared
+  pub said-walked : (answer : Outcome) (size' : ℕ) → answer ≡ said (plan n (system (records terms)) limit (size' / 36) cap) size' → size' ≡ size
+      → settingsRight n cap limit ≡ true → lengthRight terms ≡ true → fault n (records terms) ≡ Clean → answer ≡ planned n cap limit terms size
+  unfolding planned afterFault
+  said-walked answer size' a k e h q = rw (e, h, q, sym k) a
+
+-- zeros are so many zeros as they are long
+pub zeros-long : (size : ℕ) (out : List ℕ) → length out ≡ size → out ≡ replicate size 0 → out ≡ replicate (length out) 0
+zeros-long size out k z = z ∙ ap (λ (i : ℕ). replicate i 0) (sym k)

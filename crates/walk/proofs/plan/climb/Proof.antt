@@ -1,0 +1,135 @@
+-- `climb` meets its contract: no set is found below level k, and the levels from k on are the plan (`Climbing`). Assumes nothing.
+use mathlib.Core.Path.{refl, _∙_}
+use mathlib.Core.List.{[]}
+use Prim.Native.Nat.{_+_, _-_}
+use native.Mathlib.Omega.{arith}
+use lib.ListN.{length}
+use Rattle.wiring.specs.Terms.{records, system}
+use Rattle.walk.proofs.plan.Laws.{Climbing, shown-none, empty-walked, climb-start, climb-none, climb-on, climb-done, climb-spent, climb-full}
+use borrow.Author.Needs.{needs}
+use Rattle.walk.proofs.plan.climb.Statement.{statement}
+use Rattle.walk.proofs.plan.climb.Tie as tie
+
+abbrev Inv-loop : tie.InvT-loop
+Inv-loop terms out₀ n cap limit steps₀ k₀ out steps k = Climbing n (system (records terms)) limit cap (length out₀) k steps out
+
+abbrev μ-loop : tie.MeasureT-loop
+μ-loop terms out₀ n cap limit steps₀ k₀ out steps k = cap + 1 - k
+
+loop-holds : tie.Need-loop-holds Inv-loop μ-loop
+loop-holds c =
+    let s = c .before .before in
+    let a = s .args in
+    climb-start (a .n) (system (records (a .terms .now))) (a .limit) (a .cap) (length (a .out .now)) (a .out .now) refl (s .pre .1 .1 .1)
+
+open-requires : tie.Need-open-requires Inv-loop μ-loop
+open-requires c κs =
+    let p = c .before .before .before .before .before .pre in
+    let k = c .before .before .loop in
+    record {
+      size = refl;
+      within = omega arith;
+      low = omega (arith, p .1 .0, c .before .loop-test .taken);
+      few = p .0;
+      clean = p .1 .1 .0;
+      walked = empty-walked;
+      sheet = record { finds = []; shown = shown-none (k .out) (k .inv .blank) };
+    }
+
+enum-known-s : tie.Need-enum-known-s Inv-loop μ-loop
+enum-known-s c = search needs
+
+same-length : tie.Need-same-length Inv-loop μ-loop
+same-length c =
+    c .before .before .before .before .before .before .«open» .kept .1 .0 ∙ c .before .before .before .before .before .before .before .before .before .loop .inv .long
+
+returns : tie.Need-returns Inv-loop μ-loop
+returns c =
+    let k = c .before .before .before .before .before .before .before .before .before .loop in
+    let r = c .before .before .before .before .before .before .«open» in
+    let low = c .before .before .before .before .before .before .before .before .loop-test .taken in
+    let s = c .before .before .s .given in
+    climb-done (k .inv) low (r .result) (r .last .1 .0) (r .ensures) (r .kept .1 .0) (s .0 .0) (s .1) (c .if1 .taken)
+
+enum-told : tie.Need-enum-told Inv-loop μ-loop
+enum-told c = search needs
+
+clear-requires : tie.Need-clear-requires Inv-loop μ-loop
+clear-requires c κs = search needs
+
+same-length-2 : tie.Need-same-length-2 Inv-loop μ-loop
+same-length-2 c =
+    c .before .before .clear .kept .0 ∙ c .before .before .before .before .before .before .before .before .«open» .kept .1 .0
+    ∙ c .before .before .before .before .before .before .before .before .before .before .before .loop .inv .long
+
+returns-2 : tie.Need-returns-2 Inv-loop μ-loop
+returns-2 c =
+    let k = c .before .before .before .before .before .before .before .before .before .before .before .loop in
+    let r = c .before .before .before .before .before .before .before .before .«open» in
+    let low = c .before .before .before .before .before .before .before .before .before .before .loop-test .taken in
+    climb-spent (k .inv) low (r .result) (r .last .1 .0) (r .ensures) (r .kept .1 .0) _ (c .before .before .clear .ensures)
+    (c .before .before .before .before .enum-told .given .1)
+
+enum-known-taken : tie.Need-enum-known-taken Inv-loop μ-loop
+enum-known-taken c = search needs
+
+clear-requires-2 : tie.Need-clear-requires-2 Inv-loop μ-loop
+clear-requires-2 c κs = search needs
+
+same-length-3 : tie.Need-same-length-3 Inv-loop μ-loop
+same-length-3 c =
+    c .before .before .clear2 .kept .0 ∙ c .before .before .before .before .before .before .before .before .before .«open» .kept .1 .0
+    ∙ c .before .before .before .before .before .before .before .before .before .before .before .before .loop .inv .long
+
+returns-3 : tie.Need-returns-3 Inv-loop μ-loop
+returns-3 c =
+    let k = c .before .before .before .before .before .before .before .before .before .before .before .before .loop in
+    let r = c .before .before .before .before .before .before .before .before .before .«open» in
+    let low = c .before .before .before .before .before .before .before .before .before .before .before .loop-test .taken in
+    let t = c .before .before .before .before .before .taken .given in
+    climb-full (k .inv) low (r .result) (r .last .1 .0) (r .ensures) (r .kept .1 .0) _ (c .before .before .clear2 .ensures) (t .0 .0) (t .1)
+
+add-k : tie.Need-add-k Inv-loop μ-loop
+add-k c = search needs
+
+loop-less : tie.Need-loop-less Inv-loop μ-loop
+loop-less c = search needs
+
+loop-again : tie.Need-loop-again Inv-loop μ-loop
+loop-again c =
+    let k = c .before .before .before .before .before .before .before .before .before .loop in
+    let r = c .before .before .before .before .before .before .«open» in
+    let low = c .before .before .before .before .before .before .before .before .loop-test .taken in
+    let s = c .before .before .s .given in
+    climb-on (k .inv) low (r .result) (r .last .1 .0) (r .ensures) (r .kept .1 .0) (s .0 .0) (s .1) (c .if1 .left)
+
+same-length-4 : tie.Need-same-length-4 Inv-loop μ-loop
+same-length-4 c = c .before .loop .inv .long
+
+returns-4 : tie.Need-returns-4 Inv-loop μ-loop
+returns-4 c = climb-none (c .before .loop .inv) (c .loop-test .left)
+
+pub climb-spec : {M : Type 1} → statement M
+climb-spec =
+    tie.close
+    (tie.spec
+    Inv-loop
+    μ-loop
+    loop-holds
+    open-requires
+    enum-known-s
+    same-length
+    returns
+    enum-told
+    clear-requires
+    same-length-2
+    returns-2
+    enum-known-taken
+    clear-requires-2
+    same-length-3
+    returns-3
+    add-k
+    loop-less
+    loop-again
+    same-length-4
+    returns-4)

@@ -1,0 +1,3 @@
+-- The opener and the pair runner, held to the run of the list of steps.
+pub mod Laws
+pub mod Runner

@@ -1,0 +1,389 @@
+-- The opener and the pair runner meet their contracts, each by the other's at a smaller measure: twice the room left below the level, and one more
+-- for the opener. Assumes nothing.
+use mathlib.Core.Path.{_≡_, refl, sym, _∙_, subst}
+use mathlib.Core.Bool.{true}
+use mathlib.Core.Logic.{⊎-elim}
+use mathlib.Core.List.{List}
+use Prim.Native.Nat.{ℕ, _+_, _*_, _-_, _/_, _<_, _≤_}
+use native.Mathlib.Omega.{arith}
+use borrow.Author.Needs.{needs}
+use borrow.Author.Tests.{not-true, not-false}
+use borrow.Fn.Kinds.{In}
+use borrow.Fn.PlainCycle.{Measures, is, falls, and}
+use lib.Dec.{T}
+use lib.ListN.{length}
+use Rattle.monomial.specs.Monomial.{Mono, one}
+use Rattle.monomial.specs.Quotient.{quo}
+use Rattle.monomial.specs.Divisors.{leads, divisors}
+use Rattle.monomial.proofs.Tests.{is→T, is→nT}
+use Rattle.monomial.proofs.order.Laws.{mono-order}
+use Rattle.monomial.proofs.order.Ascending.{from}
+use Rattle.wiring.specs.Sets.{monomialsOf}
+use Rattle.wiring.specs.Terms.{records, system}
+use Rattle.walk.specs.Walk.{Finds, child, opened, run}
+use Rattle.walk.specs.Listing.{Shown}
+use Rattle.walk.specs.Turns.{Child, Tells}
+use Rattle.walk.specs.declared.walk.State.{State}
+use Rattle.walk.specs.declared.walk.Turn.{Turn}
+use Rattle.walk.specs.declared.walk.Turn.the-variants.{Going, Spent, Full}
+use Rattle.walk.proofs.walk.Laws.{judged-closed, judged-split, Running, running-start, running-sheet, running-end, running-spent, running-shut, running-going, running-child-spent, running-child-full}
+use Rattle.walk.proofs.walk.Runner.{fewer-left, gap-wide, gap-proper, child-more, child-within, child-ready, told-as, split-member, split-ready, split-tells}
+use Rattle.walk.proofs.walk.open.Reads as opener
+use Rattle.walk.proofs.walk.open.Kinds as opener-kinds
+use Rattle.walk.proofs.walk.+open+pairs.Lts-open as opener-lts
+use Rattle.walk.proofs.walk.pairs.Reads as runner
+use Rattle.walk.proofs.walk.pairs.Kinds as runner-kinds
+use Rattle.walk.proofs.walk.+open+pairs.Lts-pairs as runner-lts
+use Rattle.monomial.proofs.Monomial.leads.Reads as leads-reads
+use Rattle.monomial.proofs.Monomial.next_divisor.Reads as next-divisor-reads
+use Rattle.monomial.proofs.Monomial.over.Reads as over-reads
+use Rattle.walk.proofs.children.offer.Reads as offer-reads
+use Rattle.walk.proofs.walk.judge.Reads as judge-reads
+use Rattle.wiring.proofs.signals.signals_of.Reads as signals-of-reads
+use Rattle.walk.proofs.walk.+open+pairs.{statement}
+use Rattle.walk.proofs.walk.+open+pairs.Tie.{close}
+
+abbrev μ-opener : Measures 2 opener-kinds.ps ℕ
+μ-opener κs a = 2 * (a .1 .1 .0 .level - a .1 .1 .1 .0 .len) + 1
+
+abbrev μ-runner : Measures 2 runner-kinds.ps ℕ
+μ-runner κs a = 2 * (a .1 .1 .0 .level - a .1 .1 .1 .0 .len)
+
+abbrev opener-at : ℕ → In 2 opener-kinds.ps
+opener-at t = and 2 opener-kinds.ps (is 2 opener-kinds.ps μ-opener t) opener.Pre
+
+abbrev opener-below : ℕ → In 2 opener-kinds.ps
+opener-below t = and 2 opener-kinds.ps (falls 2 opener-kinds.ps _<_ μ-opener t) opener.Pre
+
+abbrev runner-at : ℕ → In 2 runner-kinds.ps
+runner-at t = and 2 runner-kinds.ps (is 2 runner-kinds.ps μ-runner t) runner.Pre
+
+abbrev runner-below : ℕ → In 2 runner-kinds.ps
+runner-below t = and 2 runner-kinds.ps (falls 2 runner-kinds.ps _<_ μ-runner t) runner.Pre
+
+-- ---- the opener
+abbrev opener-claims : ℕ → opener-lts.Claims
+opener-claims t = (judge-reads.Asked, judge-reads.Learnt, runner-below t, runner.Post)
+
+opener-judge-requires : (t : ℕ) → opener-lts.Need-judge-requires (opener-claims t) (opener-at t) opener.Post
+opener-judge-requires t c κs = c .before .before .before .pre .1
+
+opener-same-length : (t : ℕ) → opener-lts.Need-same-length (opener-claims t) (opener-at t) opener.Post
+opener-same-length t c = c .before .before .before .before .judge .kept .1 .0
+
+opener-returns : (t : ℕ) → opener-lts.Need-returns (opener-claims t) (opener-at t) opener.Post
+opener-returns t c =
+    λ d finds h sh.
+    let a = c .before .before .before .before .before .before .before .before .args in
+    let j = c .before .before .before .before .judge in
+    judged-closed (a .f .n) (a .terms .now) (a .f .level) (a .f .limit) (a .set) (a .st) (a .out .now) (j .result) (j .last .1 .0)
+    (not-true _ (c .if1 .taken)) (j .ensures) d finds (omega arith) sh
+
+opener-add-t12 : (t : ℕ) → opener-lts.Need-add-t12 (opener-claims t) (opener-at t) opener.Post
+opener-add-t12 t c =
+    let a = c .before .before .before .before .before .before .before .before .before .before .args in
+    let j = c .before .before .before .before .before .before .judge in
+    let sp = judged-split (a .f .n) (a .terms .now) (a .f .level) (a .f .limit) (a .set) (a .st) (a .out .now) (j .result) (j .last .1 .0)
+    (not-false _ (c .before .before .if1 .left)) (j .ensures) in
+    search (needs, sp .taken, c .before .before .before .before .before .before .before .before .before .before .good)
+
+opener-pairs-requires : (t : ℕ) → opener-lts.Need-pairs-requires (opener-claims t) (opener-at t) opener.Post
+opener-pairs-requires t c κs =
+    let s = c .before .before .before .before .before .before .before .before .before .before .before in
+    let a = s .args in
+    let j = c .before .before .before .before .before .before .before .judge in
+    let sp = judged-split (a .f .n) (a .terms .now) (a .f .level) (a .f .limit) (a .set) (a .st) (a .out .now) (j .result) (j .last .1 .0)
+    (not-false _ (c .before .before .before .if1 .left)) (j .ensures) in
+    let step : 2 * (a .f .level - a .set .len) < t = omega (arith, s .pre .0) in
+    (step, (split-ready (a .f .n) (a .terms .now) (a .f .level) (a .f .limit) (a .set) (a .st) (a .out .now) _ _ sp (s .pre .1), split-member (a .f .n) (a .terms .now) (a .f .level) (a .f .limit) (a .set) (a .st) (a .out .now) _ _ sp))
+
+opener-same-length-2 : (t : ℕ) → opener-lts.Need-same-length-2 (opener-claims t) (opener-at t) opener.Post
+opener-same-length-2 t c =
+    c .before .before .pairs .kept .1 .0 ∙ c .before .before .before .before .before .before .before .before .before .before .judge .kept .1 .0
+
+opener-returns-2 : (t : ℕ) → opener-lts.Need-returns-2 (opener-claims t) (opener-at t) opener.Post
+opener-returns-2 t c =
+    λ d finds h sh.
+    let s = c .before .before .before .before .before .before .before .before .before .before .before .before .before .before in
+    let a = s .args in
+    let j = c .before .before .before .before .before .before .before .before .before .before .judge in
+    let r = c .before .before .pairs in
+    let sp = judged-split (a .f .n) (a .terms .now) (a .f .level) (a .f .limit) (a .set) (a .st) (a .out .now) (j .result) (j .last .1 .0)
+    (not-false _ (c .before .before .before .before .before .before .if1 .left)) (j .ensures) in
+    let low : length (monomialsOf (a .set)) < a .f .level = omega (arith, sp .below, s .pre .1 .size) in
+    split-tells (a .f .n) (a .terms .now) (a .f .level) (a .f .limit) (a .set) (a .st) (a .out .now) _ _ sp (r .result) (r .last .1 .0) low (r .ensures) d finds h sh
+
+-- ---- the pair runner
+abbrev runner-claims : ℕ → runner-lts.Claims
+runner-claims t = (
+  signals-of-reads.Asked,
+  signals-of-reads.Learnt,
+  leads-reads.Asked,
+  leads-reads.Learnt,
+  over-reads.Asked,
+  over-reads.Learnt,
+  offer-reads.Asked,
+  offer-reads.Learnt,
+  opener-below t,
+  opener.Post,
+  next-divisor-reads.Asked,
+  next-divisor-reads.Learnt,
+)
+
+abbrev Inv-loop : runner-lts.InvT-loop
+Inv-loop terms out₀ f set m v cur₀ a₀ out cur a = Running (f .n) terms (f .level) (f .limit) set (m .e) cur₀ out₀ (a .e) cur out
+
+abbrev μ-loop : runner-lts.MeasureT-loop
+μ-loop terms out₀ f set m v cur₀ a₀ out cur a = length (from mono-order (a .e) (divisors (m .e)))
+
+-- ---- the place where a child was offered
+abbrev Offered : ℕ → Type 0
+Offered t = runner-lts.After-offer (runner-claims t) (runner-at t) runner.Post Inv-loop μ-loop
+
+module _ (t : ℕ) (c : Offered t) where
+  abbrev begun : runner-lts.Start (runner-claims t) (runner-at t) runner.Post Inv-loop μ-loop
+  begun = c .before .before .before .before .before .before .before .before .before .before
+
+  -- the state and the buffer before the turn, the first of the pair, and the child
+  abbrev reached : State
+  reached = c .before .before .before .before .before .before .loop .cur
+
+  abbrev sheet : List ℕ
+  sheet = c .before .before .before .before .before .before .loop .out
+
+  abbrev first : Mono
+  first = c .before .before .before .before .before .before .loop .a .e
+
+  abbrev offspring : List Mono
+  offspring = child (begun .args .f .n) (monomialsOf (begun .args .set)) (first, quo (begun .args .m .e) first)
+
+  offered-lead : T (leads (begun .args .m .e) first)
+  offered-lead = is→T (leads (begun .args .m .e) first) (sym (c .before .before .before .before .before .leads .ensures) ∙ c .before .before .before .before .if1 .taken)
+
+  offered-proper : begun .args .m .e ≡ one (length (begun .args .m .e)) → ⊥
+  offered-proper =
+      let a = begun .args in
+      gap-proper (a .f .n) (a .terms .now) (a .f .level) (a .set) (a .m .e) (a .st .count) (a .out .now) (begun .pre .1 .0) (begun .pre .1 .1)
+
+  offered-child : Child (begun .args .f .level) offspring (c .offer .result)
+  offered-child =
+      let a = begun .args in
+      subst (λ (b : Mono). Child (a .f .level) (child (a .f .n) (monomialsOf (a .set)) (first, b)) (c .offer .result)) (c .before .over .ensures)
+      (c .offer .ensures (a .f .n) (c .before .before .before .before .before .before .before .signals-of .ensures .0))
+
+  -- the child is opened
+  module _ (go : c .offer .result .go ≡ true) where
+    offered-more : begun .args .set .len < c .offer .result .set .len
+    offered-more =
+        let a = begun .args in
+        child-more (a .f .n) (a .terms .now) (a .f .level) (a .set) (a .m .e) (a .st .count) (a .out .now) (begun .pre .1 .0) (begun .pre .1 .1)
+        first (c .before .before .before .before .before .before .loop .inv .divisor) offered-lead (c .offer .result) offered-child go
+
+    offered-within : c .offer .result .set .len ≤ begun .args .f .level
+    offered-within =
+        let a = begun .args in
+        child-within (a .f .n) (a .terms .now) (a .f .level) (a .set) (a .m .e) (a .st .count) (a .out .now) (begun .pre .1 .0) (begun .pre .1 .1)
+        first (c .before .before .before .before .before .before .loop .inv .divisor) offered-lead (c .offer .result) offered-child go
+
+    -- what the opener told of it
+    abbrev told-of : Turn → ℕ → List Mono → List ℕ → Type 0
+    told-of turn size s out' =
+        (d : ℕ) (finds : Finds) → begun .args .f .level - c .offer .result .set .len < d → Shown finds (reached .count) sheet
+        → Tells turn out'
+        (run (begun .args .f .limit) (size / 36) (opened (begun .args .f .n) (system (records (begun .args .terms .now))) (begun .args .f .level) d s) (reached .steps + 1) finds)
+
+    offered-told : (turn turn' : Turn) (out' : List ℕ) → turn ≡ turn' → told-of turn (length sheet) (monomialsOf (c .offer .result .set)) out'
+        → told-of turn' (length (begun .args .out .now)) offspring out'
+    offered-told turn turn' out' e f =
+        let a = begun .args in
+        told-as (a .f .n) (a .terms .now) (a .f .level) (a .f .limit) (reached .steps + 1) (reached .count) (c .offer .result) offspring (a .out .now) sheet out' turn turn'
+        (offered-child .is go) (c .before .before .before .before .before .before .loop .inv .long) e f
+
+runner-signals-of-requires : (t : ℕ) → runner-lts.Need-signals-of-requires (runner-claims t) (runner-at t) runner.Post Inv-loop μ-loop
+runner-signals-of-requires t c κs =
+    let p = c .before .before .pre .1 .0 in
+    (p .few, omega (arith, p .within, p .low))
+
+runner-loop-holds : (t : ℕ) → runner-lts.Need-loop-holds (runner-claims t) (runner-at t) runner.Post Inv-loop μ-loop
+runner-loop-holds t c =
+    let s = c .before .before .before in
+    let a = s .args in
+    let wide = gap-wide (a .f .n) (a .terms .now) (a .f .level) (a .set) (a .m .e) (a .st .count) (a .out .now) (s .pre .1 .0) (s .pre .1 .1) in
+    subst (λ (w : ℕ). Running (a .f .n) (a .terms .now) (a .f .level) (a .f .limit) (a .set) (a .m .e) (a .st) (a .out .now) (one w) (a .st) (a .out .now)) wide
+    (running-start (a .f .n) (a .terms .now) (a .f .level) (a .f .limit) (a .set) (a .m .e) (a .st) (a .out .now))
+
+runner-leads-requires : (t : ℕ) → runner-lts.Need-leads-requires (runner-claims t) (runner-at t) runner.Post Inv-loop μ-loop
+runner-leads-requires t c κs = c .loop .inv .divisor
+
+runner-same-length : (t : ℕ) → runner-lts.Need-same-length (runner-claims t) (runner-at t) runner.Post Inv-loop μ-loop
+runner-same-length t c = c .before .before .before .before .loop .inv .long
+
+runner-returns : (t : ℕ) → runner-lts.Need-returns (runner-claims t) (runner-at t) runner.Post Inv-loop μ-loop
+runner-returns t c =
+    λ d finds h sh.
+    let s = c .before .before .before .before .before .before .before .before in
+    let a = s .args in
+    let proper = gap-proper (a .f .n) (a .terms .now) (a .f .level) (a .set) (a .m .e) (a .st .count) (a .out .now) (s .pre .1 .0) (s .pre .1 .1) in
+    let lead = is→T _ (sym (c .before .before .before .leads .ensures) ∙ c .before .before .if1 .taken) in
+    running-spent (a .f .n) (a .terms .now) (a .f .level) (a .f .limit) (a .set) (a .m .e) (a .st) (a .out .now)
+    (c .before .before .before .before .loop .inv) proper lead (omega arith) d finds h sh
+
+runner-add-t19 : (t : ℕ) → runner-lts.Need-add-t19 (runner-claims t) (runner-at t) runner.Post Inv-loop μ-loop
+runner-add-t19 t c = search needs
+
+runner-over-requires : (t : ℕ) → runner-lts.Need-over-requires (runner-claims t) (runner-at t) runner.Post Inv-loop μ-loop
+runner-over-requires t c κs = c .before .before .before .before .loop .inv .divisor
+
+runner-offer-requires : (t : ℕ) → runner-lts.Need-offer-requires (runner-claims t) (runner-at t) runner.Post Inv-loop μ-loop
+runner-offer-requires t c κs =
+    let p = c .before .before .before .before .before .before .before .before .before .pre .1 .0 in
+    let v = c .before .before .before .before .before .before .signals-of .ensures in
+    (p .low, (p .within, (omega (arith, p .within, p .low, p .few), p .walked .recorded .ascending)))
+
+runner-open-requires : (t : ℕ) → runner-lts.Need-open-requires (runner-claims t) (runner-at t) runner.Post Inv-loop μ-loop
+runner-open-requires t c κs =
+    let s = c .before .before .before .before .before .before .before .before .before .before .before .before .before in
+    let a = s .args in
+    let k = c .before .before .before .before .before .before .before .before .before .loop in
+    let o = c .before .before .before in
+    let go = c .before .before .if3 .taken in
+    let sheet = running-sheet (a .f .n) (a .terms .now) (a .f .level) (a .f .limit) (a .set) (a .m .e) (a .st) (a .out .now) (k .a .e) (k .cur)
+    (k .out) (k .inv) (s .pre .1 .0 .sheet) in
+    let ready = child-ready (a .f .n) (a .terms .now) (a .f .level) (a .set) (a .m .e) (a .st .count) (a .out .now) (s .pre .1 .0) (s .pre .1 .1)
+    (k .a .e) (k .inv .divisor) (offered-lead t o) (o .offer .result) (offered-child t o) go (k .cur .count) (k .out) sheet in
+    let more = offered-more t o go in
+    let within = offered-within t o go in
+    let step : 2 * (a .f .level - o .offer .result .set .len) + 1 < t = omega (arith, s .pre .0) in
+    (step, ready)
+
+runner-enum-known-s : (t : ℕ) → runner-lts.Need-enum-known-s (runner-claims t) (runner-at t) runner.Post Inv-loop μ-loop
+runner-enum-known-s t c = search needs
+
+runner-enum-told : (t : ℕ) → runner-lts.Need-enum-told (runner-claims t) (runner-at t) runner.Post Inv-loop μ-loop
+runner-enum-told t c = search needs
+
+runner-same-length-2 : (t : ℕ) → runner-lts.Need-same-length-2 (runner-claims t) (runner-at t) runner.Post Inv-loop μ-loop
+runner-same-length-2 t c =
+    c .before .before .before .before .«open» .kept .1 .0 ∙ c .before .before .before .before .before .before .before .before .before .before .before
+    .before .before .before .loop .inv .long
+
+runner-returns-2 : (t : ℕ) → runner-lts.Need-returns-2 (runner-claims t) (runner-at t) runner.Post Inv-loop μ-loop
+runner-returns-2 t c =
+    λ d finds h sh.
+    let s = c .before .before .before .before .before .before .before .before .before .before .before .before .before .before .before .before .before .before in
+    let a = s .args in
+    let k = c .before .before .before .before .before .before .before .before .before .before .before .before .before .before .loop in
+    let o = c .before .before .before .before .before .before .before .before in
+    let r = o .offer .result in
+    let go = c .before .before .before .before .before .before .before .if3 .taken in
+    let ch = offered-child t o in
+    let told = offered-told t o go (c .before .before .before .before .«open» .result) Spent (c .before .before .before .before .«open» .last .1 .0)
+    (c .enum-told .given .1) (c .before .before .before .before .«open» .ensures) in
+    running-child-spent (a .f .n) (a .terms .now) (a .f .level) (a .f .limit) (a .set) (a .m .e) (a .st) (a .out .now) (k .inv) (offered-proper t o) (offered-lead t o)
+    (r .set .len) (offered-more t o go) (s .pre .1 .1 .below)
+    (omega (arith, c .before .before .before .before .before .before .before .before .before .before .if2 .left)) (sym (ch .go) ∙ go)
+    (c .before .before .before .before .«open» .last .1 .0) told d finds h sh
+
+runner-enum-known-s-2 : (t : ℕ) → runner-lts.Need-enum-known-s-2 (runner-claims t) (runner-at t) runner.Post Inv-loop μ-loop
+runner-enum-known-s-2 t c = search needs
+
+runner-same-length-3 : (t : ℕ) → runner-lts.Need-same-length-3 (runner-claims t) (runner-at t) runner.Post Inv-loop μ-loop
+runner-same-length-3 t c =
+    c .before .before .before .before .before .«open» .kept .1 .0 ∙ c .before .before .before .before .before .before .before .before .before .before
+    .before .before .before .before .before .loop .inv .long
+
+runner-returns-3 : (t : ℕ) → runner-lts.Need-returns-3 (runner-claims t) (runner-at t) runner.Post Inv-loop μ-loop
+runner-returns-3 t c =
+    λ d finds h sh.
+    let s = c .before .before .before .before .before .before .before .before .before .before .before .before .before .before .before .before .before .before .before in
+    let a = s .args in
+    let k = c .before .before .before .before .before .before .before .before .before .before .before .before .before .before .before .loop in
+    let o = c .before .before .before .before .before .before .before .before .before in
+    let r = o .offer .result in
+    let go = c .before .before .before .before .before .before .before .before .if3 .taken in
+    let ch = offered-child t o in
+    let told = offered-told t o go (c .before .before .before .before .before .«open» .result) (Full (c .before .s2 .given .0 .0))
+    (c .before .before .before .before .before .«open» .last .1 .0) (c .before .s2 .given .1)
+    (c .before .before .before .before .before .«open» .ensures) in
+    running-child-full (a .f .n) (a .terms .now) (a .f .level) (a .f .limit) (a .set) (a .m .e) (a .st) (a .out .now) (k .inv) (offered-proper t o) (offered-lead t o)
+    (r .set .len) (offered-more t o go) (s .pre .1 .1 .below)
+    (omega (arith, c .before .before .before .before .before .before .before .before .before .before .before .if2 .left)) (sym (ch .go) ∙ go)
+    (c .before .s2 .given .0 .0) (c .before .before .before .before .before .«open» .last .1 .0) told d finds h sh
+
+runner-next-divisor-requires : (t : ℕ) → runner-lts.Need-next-divisor-requires (runner-claims t) (runner-at t) runner.Post Inv-loop μ-loop
+runner-next-divisor-requires t c κs = search needs
+
+runner-loop-less : (t : ℕ) → runner-lts.Need-loop-less (runner-claims t) (runner-at t) runner.Post Inv-loop μ-loop
+runner-loop-less t c =
+    let s = c .before .before .before .before .before .before .before .before .before .before .before .before in
+    let a = s .args in
+    let k = c .before .before .before .before .before .before .before .before .loop in
+    let proper = gap-proper (a .f .n) (a .terms .now) (a .f .level) (a .set) (a .m .e) (a .st .count) (a .out .now) (s .pre .1 .0) (s .pre .1 .1) in
+    let lead = is→T _ (sym (c .before .before .before .before .before .before .before .leads .ensures) ∙ c .before .before .before .before .before .before .if1 .taken) in
+    fewer-left (k .a .e) (a .m .e) (c .next-divisor .result .e) (k .inv .divisor) proper lead (c .next-divisor .ensures)
+
+runner-loop-again : (t : ℕ) → runner-lts.Need-loop-again (runner-claims t) (runner-at t) runner.Post Inv-loop μ-loop
+runner-loop-again t c =
+    let s = c .before .before .before .before .before .before .before .before .before .before .before .before in
+    let a = s .args in
+    let k = c .before .before .before .before .before .before .before .before .loop in
+    let o = c .before .before in
+    let r = o .offer .result in
+    let ch = offered-child t o in
+    let room = c .before .before .before .before .if2 .left in
+    ⊎-elim
+    (λ w.
+    let go = w .0 .taken in
+    let told = offered-told t o go (w .3 .result) (Going (w .7 .given .0 .0)) (w .3 .last .1 .0) (w .7 .given .1) (w .3 .ensures) in
+    rw (c .next-divisor .ensures, w .9, w .10)
+    (running-going (a .f .n) (a .terms .now) (a .f .level) (a .f .limit) (a .set) (a .m .e) (a .st) (a .out .now) (k .inv) (offered-proper t o) (offered-lead t o)
+    (r .set .len) (offered-more t o go) (s .pre .1 .1 .below) (omega (arith, room)) (sym (ch .go) ∙ go) (w .7 .given .0 .0) (w .3 .last .1 .0) (w .3 .kept .1 .0) told))
+    (λ w.
+    rw (c .next-divisor .ensures, w .1, w .2)
+    (running-shut (a .f .n) (a .terms .now) (a .f .level) (a .f .limit) (a .set) (a .m .e) (a .st) (a .out .now) (k .inv) (offered-proper t o) (offered-lead t o)
+    _ refl refl (omega (arith, room)) (sym (ch .go) ∙ w .0 .left)))
+    (c .before .if3 .came)
+
+runner-same-length-4 : (t : ℕ) → runner-lts.Need-same-length-4 (runner-claims t) (runner-at t) runner.Post Inv-loop μ-loop
+runner-same-length-4 t c = c .before .before .loop .inv .long
+
+runner-returns-4 : (t : ℕ) → runner-lts.Need-returns-4 (runner-claims t) (runner-at t) runner.Post Inv-loop μ-loop
+runner-returns-4 t c =
+    λ d finds h sh.
+    let a = c .before .before .before .before .before .before .args in
+    running-end (a .f .n) (a .terms .now) (a .f .level) (a .f .limit) (a .set) (a .m .e) (a .st) (a .out .now) (c .before .before .loop .inv)
+    (is→nT _ (sym (c .before .leads .ensures) ∙ c .if1 .left)) d finds h sh
+
+pub +open+pairs-spec : {M : Type 1} → statement M
++open+pairs-spec =
+    close μ-opener μ-runner
+    (λ t. opener-lts.spec (opener-claims t) (opener-at t) opener.Post
+    (opener-judge-requires t)
+    (opener-same-length t)
+    (opener-returns t)
+    (opener-add-t12 t)
+    (opener-pairs-requires t)
+    (opener-same-length-2 t)
+    (opener-returns-2 t))
+    (λ t. runner-lts.spec (runner-claims t) (runner-at t) runner.Post Inv-loop μ-loop
+    (runner-signals-of-requires t)
+    (runner-loop-holds t)
+    (runner-leads-requires t)
+    (runner-same-length t)
+    (runner-returns t)
+    (runner-add-t19 t)
+    (runner-over-requires t)
+    (runner-offer-requires t)
+    (runner-open-requires t)
+    (runner-enum-known-s t)
+    (runner-enum-told t)
+    (runner-same-length-2 t)
+    (runner-returns-2 t)
+    (runner-enum-known-s-2 t)
+    (runner-same-length-3 t)
+    (runner-returns-3 t)
+    (runner-next-divisor-requires t)
+    (runner-loop-less t)
+    (runner-loop-again t)
+    (runner-same-length-4 t)
+    (runner-returns-4 t))

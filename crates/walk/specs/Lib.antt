@@ -1,0 +1,5 @@
+-- What the contracts of the walk cite.
+pub mod Walk
+pub mod Plan
+pub mod Listing
+pub mod Turns

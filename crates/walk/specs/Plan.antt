@@ -1,0 +1,70 @@
+-- Planning, for all inputs: the reply and every byte of the buffer. Assumes nothing.
+use mathlib.Core.Bool.{Bool, cond, _&&_}
+use mathlib.Core.List.{List, [], _∷_, _++_}
+use Prim.Native.Nat.{ℕ, zero, suc, _*_, _-_, _/_}
+use lib.Dec.{leb}
+use lib.ListN.{length, replicate}
+use Rattle.monomial.specs.Lists.{gather}
+use Rattle.monomial.specs.Monomial.{Mono}
+use Rattle.wiring.specs.Panel.{cards, setBytes}
+use Rattle.wiring.specs.Reply.{Outcome, outcome, refused}
+use Rattle.wiring.specs.Poly.{Poly}
+use Rattle.wiring.specs.Terms.{records, lengthRight, fault, system}
+use Rattle.wiring.specs.Sets.{setRecord}
+use Rattle.wiring.specs.Answers.{countRight}
+use Rattle.wiring.specs.declared.reply.Reply.the-variants.{Done, Setting, Length, Term, Twice, Nothing, Full, Spent}
+use Rattle.wiring.specs.declared.terms.Fault.{Fault}
+use Rattle.wiring.specs.declared.terms.Fault.the-variants.{Clean, Wrong, Repeated}
+use Rattle.walk.specs.Walk.{Finds, level, Run, ended, spent, full, run}
+
+-- how planning a system ends: the level, the steps, and for done the sets
+pub data Ending : Type 0 where
+  done : ℕ → ℕ → Finds → Ending
+  none : ℕ → ℕ → Ending
+  fullAt : ℕ → ℕ → Ending
+  spentAt : ℕ → ℕ → Ending
+
+module _ (n : ℕ) (fs : List (Poly Mono)) (limit room : ℕ) where
+  -- what follows level k, where `next` is the levels above it
+  unfoldable pub settled : ℕ → (ℕ → Ending) → Run → Ending
+  settled k next (ended taken []) = next taken
+  settled k next (ended taken (s ∷ l)) = done k taken (s ∷ l)
+  settled k next spent = spentAt k limit
+  settled k next (full taken) = fullAt k taken
+
+  -- the levels from k on, `left` of them, with the steps taken before
+  unfoldable pub levels : ℕ → ℕ → ℕ → Ending
+  levels zero k taken = none k taken
+  levels (suc left) k taken = settled k (levels left (suc k)) (run limit room (level n fs k) taken [])
+
+  -- levels 0 to the cap
+  unfoldable pub plan : ℕ → Ending
+  plan cap = levels (suc cap) 0 0
+
+-- the bytes of a list of sets
+unfoldable pub setsBytes : Finds → List ℕ
+setsBytes l = gather setRecord l
+
+-- an ending as it is said: the sets and then zeros; or only zeros
+unfoldable pub said : Ending → ℕ → Outcome
+said (done order steps sets) size = outcome (Done order (length sets) steps) (setsBytes sets ++ replicate (size - setBytes * length sets) 0)
+said (none order steps) size = refused (Nothing order steps) size
+said (fullAt order steps) size = refused (Full order steps) size
+said (spentAt order steps) size = refused (Spent order steps) size
+
+-- n 1 to 6, the cap at most 6, the limit 1 to 1,000,000,000
+unfoldable pub settingsRight : ℕ → ℕ → ℕ → Bool
+settingsRight n cap limit = countRight n && leb cap cards && leb 1 limit && leb limit 1000000000
+
+-- what is said of the records
+unfoldable pub afterFault : Fault → ℕ → Outcome → Outcome
+afterFault Clean size rest = rest
+afterFault (Wrong place) size rest = refused (Term place) size
+afterFault (Repeated place) size rest = refused (Twice place) size
+
+unfoldable pub planned : ℕ → ℕ → ℕ → List ℕ → ℕ → Outcome
+planned n cap limit terms size =
+    let walk = said (plan n (system (records terms)) limit (size / setBytes) cap) size in
+    let read = afterFault (fault n (records terms)) size walk in
+    let long = cond (lengthRight terms) read (refused Length size) in
+    cond (settingsRight n cap limit) long (refused Setting size)

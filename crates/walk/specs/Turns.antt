@@ -1,0 +1,100 @@
+-- What the functions of the walk ask and tell of a run. Assumes nothing.
+use mathlib.Core.Path.{_≡_}
+use mathlib.Core.Bool.{Bool, true, false}
+use mathlib.Core.List.{List, _∷_, List·Memᴰ}
+use Prim.Native.Nat.{ℕ, _*_, _/_, _≤_, _<_}
+use lib.Dec.{leb}
+use lib.ListN.{length}
+use Rattle.monomial.specs.Monomial.{Mono}
+use Rattle.monomial.specs.Product.{AtMost}
+use Rattle.wiring.specs.Panel.{width, cards, termExponent}
+use Rattle.wiring.specs.Poly.{plain}
+use Rattle.wiring.specs.Derivative.{derivative}
+use Rattle.wiring.specs.Quadratic.{nonsquares}
+use Rattle.wiring.specs.Signals.{signals}
+use Rattle.wiring.specs.Sets.{monomialsOf}
+use Rattle.wiring.specs.Terms.{records, system, CleanTerms}
+use Rattle.wiring.specs.declared.sets.Set.{Set}
+use Rattle.walk.specs.declared.children.Tried.{Tried}
+use Rattle.walk.specs.declared.walk.State.{State}
+use Rattle.walk.specs.declared.walk.Turn.{Turn}
+use Rattle.walk.specs.declared.walk.Turn.the-variants.{Going, Spent, Full}
+use Rattle.wiring.specs.Choice.{chosen}
+use Rattle.walk.specs.declared.walk.Opened.{Opened}
+use Rattle.walk.specs.Walk.{Finds, Run, ended, spent, full, run, opened}
+use Rattle.walk.specs.Listing.{Recorded, Shown}
+
+-- what each set of the walk keeps: it has a record, and its exponents are at most 9 for each of its monomials
+pub record Walked (s : List Mono) : Type 0 where
+  pub recorded : Recorded s
+  pub small : (m : Mono) → List·Memᴰ m s → AtMost (termExponent * length s) m
+
+-- the child c, where it has at most `level` monomials
+pub record Child (level : ℕ) (c : List Mono) (t : Tried) : Type 0 where
+  pub go : t .go ≡ leb (length c) level
+  pub is : t .go ≡ true → monomialsOf (t .set) ≡ c
+  pub size : t .go ≡ true → t .set .len ≡ length c
+
+-- a run that ended, with its steps and its finds in the buffer
+pub record Ended (st : State) (out : List ℕ) (r : Run) : Type 0 where
+  pub finds : Finds
+  pub shown : Shown finds (st .count) out
+  pub is : r ≡ ended (st .steps) finds
+
+-- how a turn of the walk ends, with the buffer that it leaves
+abbrev pub Tells : Turn → List ℕ → Run → Type 0
+Tells (Going st) out r = Ended st out r
+Tells Spent out r = r ≡ spent
+Tells (Full steps) out r = r ≡ full steps
+
+-- the buffer shows some finds
+pub record Sheet (count : ℕ) (out : List ℕ) : Type 0 where
+  pub finds : Finds
+  pub shown : Shown finds count out
+
+-- what the opener asks
+pub record Ready (n : ℕ) (terms : List ℕ) (level : ℕ) (set : Set) (count : ℕ) (out : List ℕ) : Type 0 where
+  pub size : set .len ≡ length (monomialsOf set)
+  pub within : set .len ≤ level
+  pub low : level ≤ cards
+  pub few : n ≤ width
+  pub clean : CleanTerms terms
+  pub walked : Walked (monomialsOf set)
+  pub sheet : Sheet count out
+
+-- a found set, with the buffer that is to show it
+pub record Found (set : Set) (count : ℕ) (out : List ℕ) : Type 0 where
+  pub recorded : Recorded (monomialsOf set)
+  pub sheet : Sheet count out
+
+-- what the pair runner asks besides
+pub record Splits (n : ℕ) (terms : List ℕ) (level : ℕ) (set : Set) (m : Mono) : Type 0 where
+  pub below : set .len < level
+  pub member : List·Memᴰ m (nonsquares plain (signals width n (monomialsOf set)) (derivative (system (records terms))))
+
+-- ---- what taking the step of an opening tells
+module _ (n : ℕ) (terms : List ℕ) (level limit : ℕ) (set : Set) (st : State) (out₀ : List ℕ) where
+  abbrev gaps : List Mono
+  gaps = nonsquares plain (signals width n (monomialsOf set)) (derivative (system (records terms)))
+
+  -- nothing follows: the turn is that of the opening, whatever the bound on the depth
+  abbrev pub Closed : Turn → List ℕ → Type 0
+  Closed turn out = (d : ℕ) (finds : Finds) → 0 < d → Shown finds (st .count) out₀
+      → Tells turn out (run limit (length out₀ / 36) (opened n (system (records terms)) level d (monomialsOf set)) (st .steps) finds)
+
+  -- the pairs of a nonsquare follow: its step is taken, and the buffer is as it was
+  pub record Split (m : Mono) (out : List ℕ) : Type 0 where
+    pub taken : st .steps < limit
+    pub below : set .len < level
+    pub first : Mono
+    pub others : List Mono
+    pub are : gaps ≡ first ∷ others
+    pub is : m ≡ chosen first others
+    pub kept : out ≡ out₀
+
+  abbrev pub JudgedBy : Bool → Opened → List ℕ → Type 0
+  JudgedBy false r out = Closed (r .turn) out
+  JudgedBy true r out = Split (r .m .e) out
+
+  abbrev pub Judged : Opened → List ℕ → Type 0
+  Judged r out = JudgedBy (r .split) r out

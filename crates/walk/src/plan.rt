@@ -1,0 +1,95 @@
+// Planning: the settings, the records, and the levels from 0 on.
+use super::walk;
+use super::walk::Frame;
+use super::walk::State;
+use super::walk::Turn;
+use wiring::answers;
+use wiring::reply::Reply;
+use wiring::sets::Set;
+use wiring::terms;
+use wiring::terms::Fault;
+use wiring::wires;
+ghost use mathlib.Core.Path.{_≡_};
+ghost use Prim.Native.Nat.{_+_, _*_, _/_, _≤_, _<_};
+ghost use lib.ListN.{length, replicate};
+ghost use Rattle.wiring.specs.Reply.{outcome};
+ghost use Rattle.wiring.specs.Terms.{records, system, CleanTerms};
+ghost use Rattle.walk.specs.Plan.{plan, said, settingsRight, planned};
+
+// Whether n, the cap and the limit are in range.
+fn settings_right(n: u64, cap: u64, limit: u64) -> bool
+    ensures { λ r. ⌜ r ≡ settingsRight n cap limit ⌝ }
+{
+    if !answers::count_right(n) {
+        return false;
+    }
+    if 6 < cap {
+        return false;
+    }
+    if limit < 1 {
+        return false;
+    }
+    limit <= 1000000000
+}
+
+// The levels from 0 to the cap; the buffer is all zeros at the start.
+fn climb(terms: &[u8], out: &mut [u8], n: usize, cap: usize, limit: u64) -> Reply
+    requires { ⌜ (n ≤ 6) × ((cap ≤ 6) × (CleanTerms (now terms) × (now out ≡ replicate (length (now out)) 0))) ⌝ }
+    ensures { λ r. ⌜ outcome r (now (out .exit)) ≡ said (plan n (system (records (now (terms .entry)))) limit (length (now (out .entry)) / 36) cap) (length (now (out .entry))) ⌝ }
+{
+    let mut steps: u64 = 0;
+    let mut k: usize = 0;
+    while k <= cap {
+        let f = Frame { n, level: k, limit };
+        match walk::open(terms, out, f, Set::EMPTY, State { steps, count: 0 }) {
+            Turn::Going(s) => {
+                let count = s.count;
+                steps = s.steps;
+                if 0 < count {
+                    return Reply::Done {
+                        order: k as u64,
+                        count: count as u64,
+                        steps,
+                    };
+                }
+            }
+            Turn::Spent => {
+                wires::clear(out);
+                return Reply::Spent {
+                    order: k as u64,
+                    steps: limit,
+                };
+            }
+            Turn::Full(taken) => {
+                wires::clear(out);
+                return Reply::Full {
+                    order: k as u64,
+                    steps: taken,
+                };
+            }
+        }
+        k += 1;
+    }
+    Reply::Nothing {
+        order: k as u64,
+        steps,
+    }
+}
+
+// Plans: every smallest quadratic set, or how far the walk got.
+pub fn plan(n: u64, cap: u64, limit: u64, terms: &[u8], out: &mut [u8]) -> Reply
+    ensures { λ r. ⌜ outcome r (now (out .exit)) ≡ planned n cap limit (now (terms .entry)) (length (now (out .entry))) ⌝ }
+{
+    wires::clear(out);
+    if !settings_right(n, cap, limit) {
+        return Reply::Setting;
+    }
+    if !answers::length_right(terms) {
+        return Reply::Length;
+    }
+    match terms::fault_of(n as usize, terms) {
+        Fault::Clean => climb(terms, out, n as usize, cap as usize, limit),
+        Fault::Wrong(place) => Reply::Term { place },
+        Fault::Repeated(place) => Reply::Twice { place },
+    }
+}

@@ -1,0 +1,163 @@
+// Opening a set and running its pairs: each calls for the other, and the room left below the level falls.
+use super::children;
+use super::listing;
+use super::listing::Kept;
+use monomial::Monomial;
+use wiring::quadratic;
+use wiring::sets::Set;
+use wiring::signals;
+ghost use mathlib.Core.Path.{_≡_};
+ghost use mathlib.Core.Bool.{true, false};
+ghost use mathlib.Core.List.{List};
+ghost use Prim.Native.Nat.{ℕ, _+_, _*_, _-_, _/_, _≤_, _<_};
+ghost use lib.ListN.{length};
+ghost use Rattle.monomial.specs.Lists.{gather};
+ghost use Rattle.monomial.specs.Divisors.{pairs};
+ghost use Rattle.wiring.specs.Terms.{records, system};
+ghost use Rattle.wiring.specs.Sets.{monomialsOf};
+ghost use Rattle.walk.specs.Walk.{Finds, opened, tried, run, kept};
+ghost use Rattle.walk.specs.Listing.{Shown};
+ghost use Rattle.walk.specs.Turns.{Tells, Ready, Splits, Found, Judged};
+
+// What stays the same through a level.
+pub struct Frame {
+    pub n: usize,
+    pub level: usize,
+    pub limit: u64,
+}
+
+// The steps taken and the number of finds.
+pub struct State {
+    pub steps: u64,
+    pub count: usize,
+}
+
+// How a turn ends: the walk goes on, the next step would pass the limit, or a find had no room after so many steps.
+pub enum Turn {
+    Going(State),
+    Spent,
+    Full(u64),
+}
+
+// What opening a set comes to: its turn, and where split is true the nonsquare whose pairs are to be run.
+pub struct Opened {
+    pub turn: Turn,
+    pub split: bool,
+    pub m: Monomial,
+}
+
+// A found set, once its step is taken.
+fn found(out: &mut [u8], set: Set, st: State) -> Turn
+    requires { ⌜ Found set (st .count) (now out) ⌝ }
+    ensures { λ r. ⌜ ((finds : Finds) → Shown finds (st .count) (now (out .entry)) →
+        Tells r (now (out .exit)) (kept (length (now (out .entry)) / 36) (monomialsOf set) (st .steps) finds)) ⌝ }
+{
+    let steps = st.steps;
+    match listing::keep(out, st.count, set) {
+        Kept::Held(count) => Turn::Going(State { steps, count }),
+        Kept::NoRoom => Turn::Full(steps),
+    }
+}
+
+// Takes the step of opening a set, and says what follows.
+fn judge(terms: &[u8], out: &mut [u8], f: Frame, set: Set, st: State) -> Opened
+    requires { ⌜ Ready (f .n) (now terms) (f .level) set (st .count) (now out) ⌝ }
+    ensures { λ r. ⌜ Judged (f .n) (now (terms .entry)) (f .level) (f .limit) set st (now (out .entry)) r (now (out .exit)) ⌝ }
+{
+    let taken = st.steps;
+    if f.limit <= taken {
+        return Opened {
+            turn: Turn::Spent,
+            split: false,
+            m: Monomial::ONE,
+        };
+    }
+    let next = State {
+        steps: taken + 1,
+        count: st.count,
+    };
+    let v = signals::signals_of(f.n, set);
+    let sq = signals::products_of(v);
+    if v.len <= quadratic::first_unmet(terms, v, sq) {
+        return Opened {
+            turn: found(out, set, next),
+            split: false,
+            m: Monomial::ONE,
+        };
+    }
+    if f.level <= set.len {
+        return Opened {
+            turn: Turn::Going(next),
+            split: false,
+            m: Monomial::ONE,
+        };
+    }
+    let p = quadratic::choose(terms, v, sq);
+    let m = p.m;
+    Opened {
+        turn: Turn::Going(next),
+        split: true,
+        m,
+    }
+}
+
+// Opens a set: one step, and then its pairs.
+pub fn open(terms: &[u8], out: &mut [u8], f: Frame, set: Set, st: State) -> Turn
+    requires { ⌜ Ready (f .n) (now terms) (f .level) set (st .count) (now out) ⌝ }
+    ensures { λ r. ⌜ ((d : ℕ) (finds : Finds) → f .level - set .len < d → Shown finds (st .count) (now (out .entry)) →
+        Tells r (now (out .exit))
+        (run (f .limit) (length (now (out .entry)) / 36) (opened (f .n) (system (records (now (terms .entry)))) (f .level) d (monomialsOf set)) (st .steps) finds)) ⌝ }
+{
+    let o = judge(terms, out, f, set, st);
+    if !o.split {
+        return o.turn;
+    }
+    let m = o.m;
+    let next = State {
+        steps: st.steps + 1,
+        count: st.count,
+    };
+    pairs(terms, out, f, set, m, next)
+}
+
+// Runs the factor pairs of m: one step each, and a child is walked to its end before the next pair.
+fn pairs(terms: &[u8], out: &mut [u8], f: Frame, set: Set, m: Monomial, st: State) -> Turn
+    requires { ⌜ Ready (f .n) (now terms) (f .level) set (st .count) (now out) × Splits (f .n) (now terms) (f .level) set (m .e) ⌝ }
+    ensures { λ r. ⌜ ((d : ℕ) (finds : Finds) → f .level - set .len ≤ d → Shown finds (st .count) (now (out .entry)) →
+        Tells r (now (out .exit))
+        (run (f .limit) (length (now (out .entry)) / 36)
+        (gather (tried (f .n) (system (records (now (terms .entry)))) (f .level) (opened (f .n) (system (records (now (terms .entry)))) (f .level) d) (monomialsOf set)) (pairs (m .e)))
+        (st .steps) finds)) ⌝ }
+{
+    let v = signals::signals_of(f.n, set);
+    let mut cur = st;
+    let mut a = Monomial::ONE;
+    while a.leads(m) {
+        let taken = cur.steps;
+        if f.limit <= taken {
+            return Turn::Spent;
+        }
+        let seen = cur.count;
+        cur = State {
+            steps: taken + 1,
+            count: seen,
+        };
+        let t = children::offer(f.level, v, set, a, m.over(a));
+        if t.go {
+            let c = t.set;
+            match open(terms, out, f, c, cur) {
+                Turn::Going(s) => {
+                    cur = s;
+                }
+                Turn::Spent => {
+                    return Turn::Spent;
+                }
+                Turn::Full(s) => {
+                    return Turn::Full(s);
+                }
+            }
+        }
+        a = a.next_divisor(m);
+    }
+    Turn::Going(cur)
+}
