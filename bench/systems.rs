@@ -1,0 +1,159 @@
+// The systems that are walked, as term records of 12 bytes. No system of one variable has a longer walk than the first.
+
+pub struct System {
+    pub name: &'static str,
+    pub n: u64,
+    pub limit: u64,
+    pub terms: &'static [[u8; 12]],
+}
+
+// A record: equation, exponents, coefficient.
+const fn t(equation: u8, e: [u8; 6], c: i32) -> [u8; 12] {
+    let k = c.to_le_bytes();
+    [equation, 0, e[0], e[1], e[2], e[3], e[4], e[5], k[0], k[1], k[2], k[3]]
+}
+
+// Six variables, each fed by five products of two, and two records that need new signals.
+const CROWDED: [[u8; 12]; 32] = {
+    let mut all = [[0; 12]; 32];
+    let mut i = 0;
+    while i < 6 {
+        let mut j = 0;
+        while j < 5 {
+            let mut e = [0; 6];
+            e[i] += 1;
+            e[(i + j) % 6] += 1;
+            all[5 * i + j] = t(i as u8 + 1, e, 1);
+            j += 1;
+        }
+        i += 1;
+    }
+    all[30] = t(1, [0, 0, 4, 4, 0, 0], 1);
+    all[31] = t(2, [4, 0, 0, 0, 0, 1], -1);
+    all
+};
+
+pub const SYSTEMS: &[System] = &[
+    System {
+        name: "1: ninth to sixth power",
+        n: 1,
+        limit: 1_000_000,
+        terms: &[
+            t(1, [9, 0, 0, 0, 0, 0], 1),
+            t(1, [8, 0, 0, 0, 0, 0], 1),
+            t(1, [7, 0, 0, 0, 0, 0], 1),
+            t(1, [6, 0, 0, 0, 0, 0], 1),
+        ],
+    },
+    System {
+        name: "2: ninth powers crossed",
+        n: 2,
+        limit: 1_000_000,
+        terms: &[t(1, [0, 9, 0, 0, 0, 0], 1), t(2, [9, 0, 0, 0, 0, 0], 1)],
+    },
+    System {
+        name: "2: six records",
+        n: 2,
+        limit: 1_000_000,
+        terms: &[
+            t(1, [2, 4, 0, 0, 0, 0], 2),
+            t(1, [4, 4, 0, 0, 0, 0], 2),
+            t(1, [0, 0, 0, 0, 0, 0], 3),
+            t(2, [4, 1, 0, 0, 0, 0], 2),
+            t(2, [6, 0, 0, 0, 0, 0], -1),
+            t(2, [4, 0, 0, 0, 0, 0], 1),
+        ],
+    },
+    System {
+        name: "3: ninth powers in a ring",
+        n: 3,
+        limit: 1_000_000,
+        terms: &[t(1, [0, 9, 0, 0, 0, 0], 1), t(2, [0, 0, 9, 0, 0, 0], 1), t(3, [9, 0, 0, 0, 0, 0], 1)],
+    },
+    System {
+        name: "3: ninth power of a product",
+        n: 3,
+        limit: 3_000_000,
+        terms: &[t(1, [9, 9, 9, 0, 0, 0], 1), t(2, [1, 0, 0, 0, 0, 0], 1)],
+    },
+    System {
+        name: "3: seven records",
+        n: 3,
+        limit: 1_000_000,
+        terms: &[
+            t(1, [0, 0, 4, 0, 0, 0], -1),
+            t(1, [0, 0, 3, 0, 0, 0], -1),
+            t(1, [0, 0, 1, 0, 0, 0], -1),
+            t(2, [2, 3, 2, 0, 0, 0], 2),
+            t(2, [0, 1, 0, 0, 0, 0], 3),
+            t(2, [0, 0, 0, 0, 0, 0], -1),
+            t(3, [1, 0, 1, 0, 0, 0], 2),
+        ],
+    },
+    System {
+        name: "4: ninth power and a feed",
+        n: 4,
+        limit: 1_000_000,
+        terms: &[
+            t(1, [9, 0, 0, 0, 0, 0], 1),
+            t(1, [0, 1, 1, 1, 0, 0], 5),
+            t(2, [1, 1, 0, 0, 0, 0], -1),
+            t(3, [0, 0, 1, 1, 0, 0], 1),
+        ],
+    },
+    System {
+        name: "4: three records",
+        n: 4,
+        limit: 1_000_000,
+        terms: &[t(1, [4, 3, 3, 0, 0, 0], 2), t(2, [0, 0, 0, 6, 0, 0], 3), t(4, [0, 3, 2, 0, 0, 0], 1)],
+    },
+    // The derivative of x1 x2 is 0: a walk that drops signs takes other steps.
+    System {
+        name: "4: two that cancel",
+        n: 4,
+        limit: 1_000_000,
+        terms: &[t(1, [5, 2, 3, 0, 0, 0], 1), t(2, [4, 3, 3, 0, 0, 0], -1), t(3, [0, 6, 0, 2, 0, 0], 2)],
+    },
+    System {
+        name: "5: four records",
+        n: 5,
+        limit: 1_000_000,
+        terms: &[
+            t(1, [6, 1, 0, 0, 4, 0], 1),
+            t(2, [0, 0, 0, 0, 6, 0], -1),
+            t(3, [0, 0, 0, 4, 0, 0], 3),
+            t(3, [3, 6, 0, 5, 5, 0], 1),
+        ],
+    },
+    System {
+        name: "5: three records",
+        n: 5,
+        limit: 3_000_000,
+        terms: &[t(4, [0, 1, 2, 0, 1, 0], -1), t(5, [0, 3, 2, 0, 7, 0], 3), t(5, [0, 0, 2, 7, 6, 0], 1)],
+    },
+    System {
+        name: "6: many finds",
+        n: 6,
+        limit: 1_000_000,
+        terms: &[
+            t(1, [0, 2, 0, 1, 5, 5], 3),
+            t(1, [0, 0, 0, 0, 0, 3], 2),
+            t(1, [1, 0, 3, 0, 0, 5], 1),
+            t(1, [0, 2, 0, 0, 0, 4], -1),
+            t(5, [0, 0, 0, 0, 0, 0], -1),
+        ],
+    },
+    System {
+        name: "6: three records",
+        n: 6,
+        limit: 1_000_000,
+        terms: &[t(1, [4, 0, 0, 0, 1, 0], 2), t(1, [0, 2, 0, 0, 0, 0], 3), t(6, [4, 0, 3, 5, 0, 5], 1)],
+    },
+    System {
+        name: "6: ninth power of all",
+        n: 6,
+        limit: 3_000_000,
+        terms: &[t(1, [9, 9, 9, 9, 9, 9], 1), t(2, [9, 9, 9, 9, 9, 9], 1)],
+    },
+    System { name: "6: as many records as fit", n: 6, limit: 1_000_000, terms: &CROWDED },
+];
