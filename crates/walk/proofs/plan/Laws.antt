@@ -26,7 +26,7 @@ use Rattle.walk.specs.declared.walk.Turn.the-variants.{Going, Spent, Ful
 use Rattle.walk.specs.Walk.{Finds, opened, level, Run, ended, spent, full, run}
 use Rattle.walk.specs.Plan.{Ending, done, none, settled, levels, plan, setsBytes, said, settingsRight, afterFault, planned}
 use Rattle.walk.specs.Listing.{Shown}
-use Rattle.walk.specs.Turns.{Walked, Ended, Tells}
+use Rattle.walk.specs.Turns.{Ended, Tells}
 
 -- ---- a buffer without finds
 -- a buffer of zeros shows no set
@@ -49,18 +49,6 @@ none-shown [] count out s z =
     let n : length out - 36 * count ≡ length out = omega arith in
     s .bytes ∙ ap (λ (k : ℕ). replicate k 0) n
 none-shown (x ∷ l) count out s z = let y : ⊥ = omega (arith, s .counted) in absurd y
-
--- the empty set, from which each level starts
-pub empty-walked : Walked []
-empty-walked = record {
-  recorded = record {
-    few = omega arith;
-    ascending = empty;
-    wide = λ m h. absurd (List·Memᴰ·not-nil h);
-    proper = λ m h e. List·Memᴰ·not-nil h;
-  };
-  small = λ m h. absurd (List·Memᴰ·not-nil h);
-}
 
 -- ---- the levels, one turn at a time
 module _ (n : ℕ) (fs : List (Poly Mono)) (limit cap size : ℕ) where

@@ -29,7 +29,6 @@ use Rattle.wiring.specs.declared.choice.Pick.{Pick}
 use Rattle.wiring.specs.declared.sets.Set.{Set}
 use Rattle.wiring.proofs.choice.Laws.{chosen-best}
 use Rattle.wiring.proofs.signals.Laws.{signals-fitting, fitting-weaken}
-use Rattle.monomial.proofs.product.Laws.{atMost-weaken}
 use Rattle.walk.specs.declared.walk.Opened.{Opened}
 use Rattle.walk.specs.declared.walk.State.{State}
 use Rattle.walk.specs.declared.walk.Turn.{Turn}
@@ -37,6 +36,7 @@ use Rattle.walk.specs.declared.walk.Turn.the-variants.{Going, Spent, Ful
 use Rattle.walk.specs.Walk.{Finds, child, Step, other, tried, after, opened, Run, ended, spent, full, kept, onward, run}
 use Rattle.walk.specs.Listing.{Shown}
 use Rattle.walk.specs.Turns.{Walked, Ended, Tells, Sheet, Closed, Split, JudgedBy, Judged}
+use Rattle.walk.proofs.children.Laws.{walked-54}
 use Rattle.walk.proofs.Steps.{run-append}
 
 -- ---- a step without a find
@@ -294,9 +294,7 @@ module _ (n : ℕ) (terms : List ℕ) (level limit : ℕ) (set : Set) (m : Mono)
 
 -- ---- a set of the walk fits the tables of its signals
 pub walked-fitting : (s : List Mono) → Walked s → Fitting 54 s
-walked-fitting s w m h =
-    let few : length s ≤ 6 = w .recorded .few in
-    (w .recorded .wide m h, atMost-weaken m (omega arith) (w .small m h))
+walked-fitting s w m h = (w .recorded .wide m h, walked-54 s w m h)
 
 -- of V, told by its maker
 pub signals-fit : (b n : ℕ) (v s : List Mono) → 54 ≤ b → v ≡ signals 6 n s → Walked s → Fitting b v

@@ -5,9 +5,10 @@ use Prim.Native.Nat.{_+_, _-_}
 use native.Mathlib.Omega.{arith}
 use lib.ListN.{length}
 use Rattle.wiring.specs.Terms.{records, system}
-use Rattle.walk.proofs.plan.Laws.{Climbing, shown-none, empty-walked, climb-start, climb-none, climb-on, climb-done, climb-spent, climb-full}
+use Rattle.walk.proofs.plan.Laws.{Climbing, shown-none, climb-start, climb-none, climb-on, climb-done, climb-spent, climb-full}
 use borrow.Author.Needs.{needs}
 use Rattle.walk.proofs.plan.climb.Statement.{statement}
+use Rattle.walk.proofs.children.Laws.{empty-walked}
 use Rattle.walk.proofs.plan.climb.Tie as tie
 
 abbrev Inv-loop : tie.InvT-loop
