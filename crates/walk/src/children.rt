@@ -4,9 +4,8 @@ use wiring::sets::Set;
 use wiring::signals;
 use wiring::signals::Signals;
 ghost use mathlib.Core.Path.{_≡_};
-ghost use mathlib.Core.Bool.{false};
+ghost use mathlib.Core.Bool.{false, _||_};
 ghost use Prim.Native.Nat.{ℕ, _+_, _≤_, _<_};
-ghost use lib.ListN.{length};
 ghost use Rattle.monomial.specs.Lists.{any, insertBy};
 ghost use Rattle.monomial.specs.Order.{same, before};
 ghost use Rattle.monomial.proofs.order.Ascending.{Ascending};
@@ -42,32 +41,62 @@ pub fn with(set: Set, m: Monomial) -> Set
     next
 }
 
-// The set plus those of a, b not in V, where it has at most level monomials.
+// The set with m, where there is room.
+fn with_one(level: usize, set: Set, m: Monomial) -> Tried
+    requires { ⌜ (level ≤ 6) × (set .len ≤ level) ⌝ }
+    ensures { λ r. ⌜ (Ascending before (monomialsOf set) → any (same (m .e)) (monomialsOf set) ≡ false →
+        Child level (insertBy same before (m .e) (monomialsOf set)) r) ⌝ }
+{
+    if level <= set.len {
+        return Tried { go: false, set };
+    }
+    Tried {
+        go: true,
+        set: with(set, m),
+    }
+}
+
+// The set with a and b, where there is room for both.
+fn with_two(level: usize, set: Set, a: Monomial, b: Monomial) -> Tried
+    requires { ⌜ (level ≤ 6) × (set .len ≤ level) ⌝ }
+    ensures { λ r. ⌜ (Ascending before (monomialsOf set) → any (same (b .e)) (monomialsOf set) ≡ false →
+        any (same (a .e)) (insertBy same before (b .e) (monomialsOf set)) ≡ false →
+        Child level (insertBy same before (a .e) (insertBy same before (b .e) (monomialsOf set))) r) ⌝ }
+{
+    if level <= set.len + 1 {
+        return Tried { go: false, set };
+    }
+    Tried {
+        go: true,
+        set: with(with(set, b), a),
+    }
+}
+
+// Whether the first of a pair adds nothing to the second: they are one, or V has it.
+fn is_met(v: Signals, a: Monomial, b: Monomial) -> bool
+    requires { ⌜ v .len ≤ 13 ⌝ }
+    ensures { λ r. ⌜ r ≡ same (a .e) (b .e) || any (same (a .e)) (signalsOf v) ⌝ }
+{
+    if a.same(b) {
+        return true;
+    }
+    signals::is_signal(v, a)
+}
+
+// The set plus those of a, b not in V, where it has at most level monomials. What is to be added is known before anything is copied.
 pub fn offer(level: usize, v: Signals, set: Set, a: Monomial, b: Monomial) -> Tried
     requires { ⌜ (level ≤ 6) × ((set .len ≤ level) × ((v .len ≤ 13) × Ascending before (monomialsOf set))) ⌝ }
     ensures { λ r. ⌜ ((n : ℕ) → signalsOf v ≡ signals 6 n (monomialsOf set) → Child level (child n (monomialsOf set) (a .e, b .e)) r) ⌝ }
 {
-    let mut next = set;
-    if !signals::is_signal(v, b) {
-        if level <= next.len {
-            return Tried { go: false, set };
+    let known = signals::is_signal(v, b);
+    if is_met(v, a, b) {
+        if known {
+            return Tried { go: true, set };
         }
-        next = with(next, b);
+        return with_one(level, set, b);
     }
-    if a.same(b) {
-        return Tried {
-            go: true,
-            set: next,
-        };
+    if known {
+        return with_one(level, set, a);
     }
-    if !signals::is_signal(v, a) {
-        if level <= next.len {
-            return Tried { go: false, set };
-        }
-        next = with(next, a);
-    }
-    Tried {
-        go: true,
-        set: next,
-    }
+    with_two(level, set, a, b)
 }

@@ -10,7 +10,7 @@ use wiring::terms;
 use wiring::terms::Fault;
 use wiring::wires;
 ghost use mathlib.Core.Path.{_≡_};
-ghost use Prim.Native.Nat.{_+_, _*_, _/_, _≤_, _<_};
+ghost use Prim.Native.Nat.{_/_, _≤_, _<_};
 ghost use lib.ListN.{length, replicate};
 ghost use Rattle.wiring.specs.Reply.{outcome};
 ghost use Rattle.wiring.specs.Terms.{records, system, CleanTerms};

@@ -2,7 +2,7 @@
 -- are put in one after the other. Assumes nothing.
 use mathlib.Core.Path.{_≡_, refl, sym, ap, ap₂, _∙_, subst}
 use mathlib.Core.Logic.{⊎-elim}
-use mathlib.Core.Bool.{Bool, true, false}
+use mathlib.Core.Bool.{Bool, true, false, _||_}
 use mathlib.Core.List.{List, [], _∷_, _++_, map, List·Memᴰ·cases-cons, List·Memᴰ·not-nil, Memᴰ·append-right, Memᴰ·cast}
 use Prim.Native.Nat.{ℕ, zero, suc, _+_, _-_, _<_, _≤_}
 use native.Mathlib.Omega.{arith}
@@ -14,7 +14,7 @@ use Rattle.monomial.specs.Lists.{any, insertBy}
 use Rattle.monomial.specs.Monomial.{Mono}
 use Rattle.monomial.specs.Order.{same, before}
 use Rattle.monomial.specs.declared.Monomial.{Monomial}
-use Rattle.monomial.proofs.Tests.{Tested, passed, failed, test, T→is, is→T, nT→is, is→nT}
+use Rattle.monomial.proofs.Tests.{Tested, passed, failed, test, T→is, is→T, nT→is, is→nT, or-l, or-r, or-e}
 use Rattle.monomial.proofs.Members.{_∈_, here, there}
 use Rattle.monomial.proofs.Counting.{at-in}
 use Rattle.monomial.proofs.order.Laws.{Order, not-both, not-same, same-flip, behind, mono-order}
@@ -26,7 +26,7 @@ use Rattle.wiring.proofs.signals.Laws.{entry, front-length, front-at, front-set
 use Rattle.walk.specs.declared.children.Tried.{Tried}
 use Rattle.walk.specs.Walk.{added, child}
 use Rattle.walk.specs.Turns.{Child}
-use Rattle.walk.proofs.children.Laws.{set-in, added-sub, added-out, added-asc}
+use Rattle.walk.proofs.children.Laws.{set-in, added-asc}
 
 -- ---- where an insertion puts its entry
 module _ {A : Type 0} {alike ahead : A → A → Bool} (o : Order alike ahead) where
@@ -198,6 +198,63 @@ module _ {m : Mono} {len : ℕ} {u now : List Monomial} {i : ℕ} (w : Moving m 
         let inside : i - 1 < length s = omega (arith, size, w .within) in
         placed (λ y k. front-before mono-order m s (i - 1) [] a inside last y (subst (λ (n : ℕ). y ∈ take n s) q k))
 
+-- ---- the child that is tried: refused where it is too long, or made
+module _ (level : ℕ) (c : List Mono) (t : Tried) where
+  refused : t .go ≡ false → level < length c → Child level c t
+  refused e h =
+      let no : t .go ≡ true → ⊥ = λ d. is→nT (t .go) e (is→T (t .go) d) in
+      record { go = e ∙ sym (lt-leb (length c) level h); is = λ d. absurd (no d); size = λ d. absurd (no d) }
+
+  made : t .go ≡ true → monomialsOf (t .set) ≡ c → t .set .len ≡ length c → t .set .len ≤ level → Child level c t
+  made e is size h = record { go = e ∙ sym (le-leb (length c) level (omega arith)); is = λ d. is; size = λ d. size }
+
+pub same-child : {level : ℕ} {c d : List Mono} {t : Tried} → d ≡ c → Child level c t → Child level d t
+same-child {level} {c} {d} {t} e w = subst (λ (l : List Mono). Child level l t) (sym e) w
+
+-- the set as it comes
+pub made-own : (level : ℕ) (t : Tried) → t .go ≡ true → t .set .len ≤ level → t .set .len ≤ length (t .set .m) → Child level (monomialsOf (t .set)) t
+made-own level t e h k = made level (monomialsOf (t .set)) t e refl (sym (front-length (t .set .len) (t .set .m) k)) h
+
+-- r is `next` with m in its place, where `next` is ascending and lacks m
+abbrev pub Inserted : Mono → Set → Set → Type 0
+Inserted m next r =
+    (Ascending before (monomialsOf next) → any (same m) (monomialsOf next) ≡ false → monomialsOf r ≡ insertBy same before m (monomialsOf next))
+    × (r .len ≡ next .len + 1)
+
+-- one more
+insert-more : (m : Mono) (s : List Mono) → any (same m) s ≡ false → length (insertBy same before m s) ≡ suc (length s)
+insert-more m s f = insert-length mono-order m s (λ k. is→nT (any (same m) s) f (among-in mono-order k))
+
+module _ (level : ℕ) (set : Set) (room : set .len ≤ length (set .m)) (m : Mono) (t : Tried) where
+  abbrev s : List Mono
+  s = monomialsOf set
+
+  size-is : length s ≡ set .len
+  size-is = front-length (set .len) (set .m) room
+
+  pub one-refused : t .go ≡ false → level ≤ set .len → any (same m) s ≡ false → Child level (insertBy same before m s) t
+  one-refused e h f = refused level (insertBy same before m s) t e (omega (arith, insert-more m s f, size-is))
+
+  pub one-made : t .go ≡ true → set .len < level → Inserted m set (t .set) → Ascending before s → any (same m) s ≡ false
+      → Child level (insertBy same before m s) t
+  one-made e h i a f = made level (insertBy same before m s) t e (i .0 a f) (omega (arith, i .1, insert-more m s f, size-is)) (omega (arith, i .1))
+
+  module _ (x : Mono) (f : any (same m) s ≡ false) (g : any (same x) (insertBy same before m s) ≡ false) where
+    both-more : length (insertBy same before x (insertBy same before m s)) ≡ suc (suc (set .len))
+    both-more = insert-more x (insertBy same before m s) g ∙ ap suc (insert-more m s f ∙ ap suc size-is)
+
+    pub two-refused : t .go ≡ false → level ≤ set .len + 1 → Child level (insertBy same before x (insertBy same before m s)) t
+    two-refused e h = refused level (insertBy same before x (insertBy same before m s)) t e (omega (arith, both-more))
+
+    pub two-made : t .go ≡ true → set .len + 1 < level → (next : Set) → Inserted m set next → Inserted x next (t .set) → Ascending before s
+        → Child level (insertBy same before x (insertBy same before m s)) t
+    two-made e h next i j a =
+        let half : monomialsOf next ≡ insertBy same before m s = i .0 a f in
+        let up : Ascending before (monomialsOf next) = rw half (insert-asc mono-order m s a) in
+        let lacks : any (same x) (monomialsOf next) ≡ false = rw half g in
+        let whole = j .0 up lacks ∙ ap (insertBy same before x) half in
+        made level (insertBy same before x (insertBy same before m s)) t e whole (omega (arith, i .1, j .1, both-more)) (omega (arith, i .1, j .1))
+
 -- ---- one monomial of a pair
 module _ (v : List Mono) (m : Mono) where
   added-old : (s : List Mono) → any (same m) v ≡ true → added v m s ≡ s
@@ -218,107 +275,55 @@ module _ (v : List Mono) (m : Mono) where
           let inside : m ∈ added v m s = subst (λ (r : List Mono). m ∈ r) (sym (added-fresh s e)) (insert-new mono-order m s) in
           added-fresh (added v m s) e ∙ insert-same mono-order m (added v m s) (added-asc v m s a) inside
 
--- a set held by value, of at most level monomials
-pub record Holds (level : ℕ) (t : List Mono) (next : Set) : Type 0 where
-  pub is : monomialsOf next ≡ t
-  pub size : next .len ≡ length t
-  pub within : next .len ≤ level
-
-pub holds-own : (level : ℕ) (next : Set) → next .len ≤ level → next .len ≤ length (next .m) → Holds level (monomialsOf next) next
-holds-own level next h k = record { is = refl; size = sym (front-length (next .len) (next .m) k); within = h }
-
--- r is `next` with m in its place, where `next` is ascending and lacks m
-abbrev pub Inserted : Mono → Set → Set → Type 0
-Inserted m next r =
-    (Ascending before (monomialsOf next) → any (same m) (monomialsOf next) ≡ false → monomialsOf r ≡ insertBy same before m (monomialsOf next))
-    × (r .len ≡ next .len + 1)
-
--- the set after m is offered to it: as it was, or with m
-pub data Offered (v : List Mono) (level : ℕ) (m : Mono) (next r : Set) : Type 0 where
-  had : any (same m) v ≡ true → r ≡ next → Offered v level m next r
-  got : any (same m) v ≡ false → next .len < level → (y : Set) → r ≡ y → Inserted m next y → Offered v level m next r
-
-module _ {level : ℕ} {t : List Mono} {next : Set} (w : Holds level t next) (v : List Mono) (m : Mono) where
-  holds-old : any (same m) v ≡ true → Holds level (added v m t) next
-  holds-old e = rw (added-old v m t e) w
-
-  holds-new : Ascending before t → any (same m) v ≡ false → (m ∈ t → ⊥) → next .len < level → (r : Set) → Inserted m next r → Holds level (added v m t) r
-  holds-new a f new h r i =
-      let lacks : any (same m) (monomialsOf next) ≡ false = rw (w .is) (nT→is (any (same m) t) (λ k. new (among-out mono-order m t k))) in
-      let up : Ascending before (monomialsOf next) = rw (w .is) a in
-      let size : length (insertBy same before m t) ≡ suc (length t) = insert-length mono-order m t new in
-      rw (added-fresh v m t f) (record {
-        is = i .0 up lacks ∙ ap (insertBy same before m) (w .is);
-        size = omega (arith, w .size, i .1);
-        within = omega (arith, i .1);
-      })
-
-  pub holds-offered : Ascending before t → (any (same m) v ≡ false → m ∈ t → ⊥) → (r : Set) → Offered v level m next r → Holds level (added v m t) r
-  holds-offered a new r (had e q) = rw q (holds-old e)
-  holds-offered a new r (got f h y q i) = rw q (holds-new a f (new f) h y i)
-
 -- ---- the child by a pair, in V of n variables and the set
-module _ (level n : ℕ) (v s : List Mono) (signs : v ≡ signals 6 n s) (a : Ascending before s) (left right : Mono) where
-  abbrev first : List Mono
-  first = added v right s
-
+module _ (n : ℕ) (v s : List Mono) (signs : v ≡ signals 6 n s) (left right : Mono) where
   abbrev whole : List Mono
   whole = child n s (left, right)
 
-  child-is : whole ≡ added v left first
+  abbrev met : Bool
+  met = same left right || any (same left) v
+
+  child-is : whole ≡ added v left (added v right s)
   unfolding child
   child-is = ap (λ (l : List Mono). added l left (added l right s)) (sym signs)
 
-  outside : (m : Mono) → any (same m) v ≡ false → m ∈ s → ⊥
-  outside m f k = is→nT (any (same m) v) f (among-in mono-order (subst (λ (l : List Mono). m ∈ l) (sym signs) (set-in n s k)))
+  -- the first is the second once more, or V has it: it adds nothing
+  child-met : Ascending before s → met ≡ true → whole ≡ added v right s
+  child-met a e =
+      child-is ∙ ⊎-elim (λ t. ap (λ (z : Mono). added v z (added v right s)) (mono-order .same-eq left right t) ∙ added-twice v right s a)
+      (λ t. added-old v left (added v right s) (T→is (any (same left) v) t))
+      (or-e (same left right) (any (same left) v) (is→T met e))
 
-  outside-first : same left right ≡ false → any (same left) v ≡ false → left ∈ first → ⊥
-  outside-first d f k =
-      ⊎-elim (λ q. is→nT (same left right) d (subst (λ (z : Mono). T (same left z)) (q .0) (mono-order .same-refl left))) (outside left f)
-      (added-out v right s k)
+  -- the first adds to what the second made
+  unmet-fresh : met ≡ false → any (same left) v ≡ false
+  unmet-fresh e = nT→is (any (same left) v) (λ t. is→nT met e (or-r (same left right) (any (same left) v) t))
 
-  first-asc : Ascending before first
-  first-asc = added-asc v right s a
+  pub child-none : Ascending before s → any (same right) v ≡ true → met ≡ true → whole ≡ s
+  child-none a k e = child-met a e ∙ added-old v right s k
 
-  -- the set with the second of the pair
-  pub half : (set next : Set) → Holds level s set → Offered v level right set next → Holds level first next
-  half set next w h = holds-offered w v right a (outside right) next h
+  pub child-second : Ascending before s → any (same right) v ≡ false → met ≡ true → whole ≡ insertBy same before right s
+  child-second a k e = child-met a e ∙ added-fresh v right s k
 
-  -- too long
-  large : (t : Tried) → t .go ≡ false → level < length whole → Child level whole t
-  large t e h =
-      let no : t .go ≡ true → ⊥ = λ d. is→nT (t .go) e (is→T (t .go) d) in
-      record { go = e ∙ sym (lt-leb (length whole) level h); is = λ d. absurd (no d); size = λ d. absurd (no d) }
+  pub child-first : any (same right) v ≡ true → met ≡ false → whole ≡ insertBy same before left s
+  child-first k e = child-is ∙ ap (added v left) (added-old v right s k) ∙ added-fresh v left s (unmet-fresh e)
 
-  -- and made
-  small : (t : Tried) → t .go ≡ true → Holds level whole (t .set) → Child level whole t
-  small t e w = record {
-    go = e ∙ sym (le-leb (length whole) level (omega (arith, w .size, w .within)));
-    is = λ d. w .is;
-    size = λ d. w .size;
-  }
+  pub child-both : any (same right) v ≡ false → met ≡ false → whole ≡ insertBy same before left (insertBy same before right s)
+  child-both k e = child-is ∙ ap (added v left) (added-fresh v right s k) ∙ added-fresh v left (insertBy same before right s) (unmet-fresh e)
 
-  pub large-first : (t : Tried) → t .go ≡ false → (next : Set) → Holds level s next → level ≤ next .len → any (same right) v ≡ false → Child level whole t
-  large-first t e next w h f =
-      let more : length first ≡ suc (length s) = ap length (added-fresh v right s f) ∙ insert-length mono-order right s (outside right f) in
-      let up : length first ≤ length (added v left first) =
-      sub-length mono-order first (added v left first) first-asc (added-asc v left first first-asc) (added-sub v left first) in
-      large t e (omega (arith, ap length child-is, w .size))
+  -- what V lacks, the set lacks
+  pub set-lacks : (m : Mono) → any (same m) v ≡ false → any (same m) s ≡ false
+  set-lacks m f =
+      nT→is (any (same m) s) (λ t. is→nT (any (same m) v) f
+      (among-in mono-order (subst (λ (l : List Mono). m ∈ l) (sym signs) (set-in n s (among-out mono-order m s t)))))
 
-  pub large-second : (t : Tried) → t .go ≡ false → (next : Set) → Holds level first next → level ≤ next .len
-      → same left right ≡ false → any (same left) v ≡ false → Child level whole t
-  large-second t e next w h d f =
-      let more : length whole ≡ suc (length first) =
-      ap length (child-is ∙ added-fresh v left first f) ∙ insert-length mono-order left first (outside-first d f) in
-      large t e (omega (arith, w .size))
+  pub first-lacks : met ≡ false → any (same left) s ≡ false
+  first-lacks e = set-lacks left (unmet-fresh e)
 
-  -- the two are one, so that the second time adds nothing
-  pub small-square : (t : Tried) → t .go ≡ true → Holds level first (t .set) → same left right ≡ true → Child level whole t
-  small-square t e w d =
-      let eq : left ≡ right = mono-order .same-eq left right (is→T (same left right) d) in
-      let all : whole ≡ first = child-is ∙ ap (λ (z : Mono). added v z first) eq ∙ added-twice v right s a in
-      small t e (rw all w)
-
-  pub small-second : (t : Tried) → t .go ≡ true → (next : Set) → Holds level first next → same left right ≡ false
-      → Offered v level left next (t .set) → Child level whole t
-  small-second t e next w d h = small t e (rw child-is (holds-offered w v left first-asc (outside-first d) (t .set) h))
+  -- and so does the set with the second, unless the two are one
+  pub both-lack : met ≡ false → any (same left) (insertBy same before right s) ≡ false
+  both-lack e =
+      let apart : T (same left right) → ⊥ = λ t. is→nT met e (or-l (same left right) (any (same left) v) t) in
+      nT→is (any (same left) (insertBy same before right s)) (λ t.
+      ⊎-elim (λ q. apart (subst (λ (z : Mono). T (same left z)) q (mono-order .same-refl left)))
+      (λ k. is→nT (any (same left) s) (first-lacks e) (among-in mono-order k))
+      (insert-out mono-order right s (among-out mono-order left (insertBy same before right s) t)))
