@@ -3,4 +3,5 @@ pub mod Tests
 pub mod Members
 pub mod Counting
 pub mod Loops
+pub mod Strips
 pub mod Samples

@@ -75,8 +75,9 @@ fn judge(terms: &[u8], out: &mut [u8], f: Frame, set: Set, st: State) -> Opened
         count: st.count,
     };
     let v = signals::signals_of(f.n, set);
-    let sq = signals::products_of(v);
-    if v.len <= quadratic::first_unmet(terms, v, sq) {
+    let mut table = [0u8; 546];
+    let used = signals::products_of(v, &mut table);
+    if v.len <= quadratic::first_unmet(terms, v, &table[..used]) {
         return Opened {
             turn: found(out, set, next),
             split: false,
@@ -90,7 +91,7 @@ fn judge(terms: &[u8], out: &mut [u8], f: Frame, set: Set, st: State) -> Opened
             m: Monomial::ONE,
         };
     }
-    let p = quadratic::choose(terms, v, sq);
+    let p = quadratic::choose(terms, v, &table[..used]);
     let m = p.m;
     Opened {
         turn: Turn::Going(next),

@@ -5,11 +5,11 @@ use mathlib.Core.List.{List, [], _∷_, _++_, map}
 use Prim.Native.Nat.{ℕ, _*_, _-_, _≤_}
 use lib.Dec.{eqb}
 use lib.ListN.{length, take, drop, replicate}
-use Rattle.monomial.specs.Lists.{any, all, gather, place, below}
+use Rattle.monomial.specs.Lists.{any, all, place, below}
 use Rattle.monomial.specs.Monomial.{Mono, one, constants}
 use Rattle.monomial.specs.Order.{same, before}
 use Rattle.wiring.specs.Panel.{width, cards, setBytes, setExponent}
-use Rattle.wiring.specs.Signals.{front}
+use Rattle.wiring.specs.Signals.{front, flat}
 use Rattle.wiring.specs.Terms.{exponentsRight}
 use Rattle.wiring.specs.declared.sets.Set.{Set}
 use Rattle.wiring.specs.declared.sets.SetRead.{SetRead}
@@ -39,7 +39,7 @@ setRight n bytes = all (eqb 0) (drop (width * sizeOf bytes) bytes) && ascending 
 
 -- the record of a set
 unfoldable pub setRecord : List Mono → List ℕ
-setRecord s = gather (λ m. m) s ++ replicate (setBytes - width * length s) 0
+setRecord s = flat s ++ replicate (setBytes - width * length s) 0
 
 -- the monomials of a set held by value
 abbrev pub monomialsOf : Set → List Mono

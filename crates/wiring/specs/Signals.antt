@@ -2,14 +2,14 @@
 -- Assumes nothing.
 use mathlib.Core.Path.{_≡_}
 use mathlib.Core.List.{List, _++_, map, List·Memᴰ}
-use Prim.Native.Nat.{ℕ, suc}
-use lib.ListN.{length, take}
+use Prim.Native.Nat.{ℕ, suc, _*_, _/_}
+use lib.ListN.{length, take, drop}
+use Rattle.monomial.specs.Lists.{gather, below}
 use Rattle.monomial.specs.Monomial.{Mono, constants}
 use Rattle.monomial.specs.Product.{AtMost}
 use Rattle.monomial.specs.declared.Monomial.{Monomial}
 use Rattle.wiring.specs.Panel.{width}
 use Rattle.wiring.specs.declared.signals.Signals.{Signals}
-use Rattle.wiring.specs.declared.signals.Products.{Products}
 
 unfoldable pub signals : ℕ → ℕ → List Mono → List Mono
 signals w n s = take (suc n) (constants w) ++ s
@@ -18,12 +18,16 @@ signals w n s = take (suc n) (constants w) ++ s
 abbrev pub front : ℕ → List Monomial → List Mono
 front len ms = take len (map (λ m. m .e) ms)
 
+-- monomials side by side, and the monomials that stand so in bytes
+abbrev pub flat : List Mono → List ℕ
+flat l = gather (λ m. m) l
+
+unfoldable pub tabled : List ℕ → List Mono
+tabled bytes = map (λ i. take width (drop (width * i) bytes)) (below (length bytes / width))
+
 -- each monomial of the list has six exponents, none above b
 abbrev pub Fitting : ℕ → List Mono → Type 0
 Fitting b l = (m : Mono) → List·Memᴰ m l → (length m ≡ width) × AtMost b m
 
 abbrev pub signalsOf : Signals → List Mono
 signalsOf v = front (v .len) (v .m)
-
-abbrev pub productsOf : Products → List Mono
-productsOf p = front (p .len) (p .m)

@@ -43,9 +43,10 @@ fn judge(n: usize, terms: &[u8], set: Set) -> Reply
     ensures { λ r. ⌜ r ≡ judged n (system (records (now (terms .entry)))) (monomialsOf set) ⌝ }
 {
     let v = signals::signals_of(n, set);
-    let sq = signals::products_of(v);
+    let mut table = [0u8; 546];
+    let used = signals::products_of(v, &mut table);
     let order = set.len as u64;
-    let at = quadratic::first_unmet(terms, v, sq);
+    let at = quadratic::first_unmet(terms, v, &table[..used]);
     if at < v.len {
         return Reply::NotQuadratic {
             order,

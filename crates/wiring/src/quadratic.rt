@@ -4,7 +4,6 @@ use super::choice::Pick;
 use super::coefficient;
 use super::derivative;
 use super::signals;
-use super::signals::Products;
 use super::signals::Signals;
 use monomial::Monomial;
 ghost use mathlib.Core.Path.{_≡_};
@@ -19,14 +18,14 @@ ghost use Rattle.monomial.specs.Product.{AtMost};
 ghost use Rattle.wiring.specs.Poly.{plain};
 ghost use Rattle.wiring.specs.Derivative.{derivative, image, offers};
 ghost use Rattle.wiring.specs.Quadratic.{products, unmet, nonsquares};
-ghost use Rattle.wiring.specs.Signals.{Fitting, signalsOf, productsOf};
+ghost use Rattle.wiring.specs.Signals.{Fitting, signalsOf, tabled};
 ghost use Rattle.wiring.specs.Terms.{recordAt, records, system, CleanTerms};
 ghost use Rattle.wiring.specs.Choice.{cheaper, Picked, Best, Offered};
 
 // The monomial of record t in the derivative of z, where it has a coefficient and is not in V2. The total, which is dear, is asked last.
-fn missing(terms: &[u8], t: usize, z: Monomial, sq: Products) -> Pick
-    requires { ⌜ CleanTerms (now terms) × ((12 * t + 12 ≤ length (now terms)) × (AtMost 72 (z .e) × (sq .len ≤ 91))) ⌝ }
-    ensures { λ r. ⌜ Offered (offers (λ m. not (any (same m) (productsOf sq))) (system (records (now (terms .entry)))) (z .e) (recordAt (now (terms .entry)) t)) (image (recordAt (now (terms .entry)) t) (z .e)) r ⌝ }
+fn missing(terms: &[u8], t: usize, z: Monomial, sq: &[u8]) -> Pick
+    requires { ⌜ CleanTerms (now terms) × ((12 * t + 12 ≤ length (now terms)) × AtMost 72 (z .e)) ⌝ }
+    ensures { λ r. ⌜ Offered (offers (λ m. not (any (same m) (tabled (now (sq .entry))))) (system (records (now (terms .entry)))) (z .e) (recordAt (now (terms .entry)) t)) (image (recordAt (now (terms .entry)) t) (z .e)) r ⌝ }
 {
     if derivative::power(terms, t, z) < 1 {
         return Pick::NONE;
@@ -42,9 +41,9 @@ fn missing(terms: &[u8], t: usize, z: Monomial, sq: Products) -> Pick
 }
 
 // Whether the derivative of z has a monomial that is not in V2.
-pub fn has_nonsquare(terms: &[u8], z: Monomial, sq: Products) -> bool
-    requires { ⌜ CleanTerms (now terms) × (AtMost 72 (z .e) × (sq .len ≤ 91)) ⌝ }
-    ensures { λ r. ⌜ ((v : List Mono) → productsOf sq ≡ products plain v → r ≡ some (unmet plain v (derivative (system (records (now (terms .entry)))) (z .e)))) ⌝ }
+pub fn has_nonsquare(terms: &[u8], z: Monomial, sq: &[u8]) -> bool
+    requires { ⌜ CleanTerms (now terms) × AtMost 72 (z .e) ⌝ }
+    ensures { λ r. ⌜ ((v : List Mono) → tabled (now (sq .entry)) ≡ products plain v → r ≡ some (unmet plain v (derivative (system (records (now (terms .entry)))) (z .e)))) ⌝ }
 {
     let count = terms.len() / 12;
     let mut t: usize = 0;
@@ -59,8 +58,8 @@ pub fn has_nonsquare(terms: &[u8], z: Monomial, sq: Products) -> bool
 }
 
 // The number of the first signal whose derivative has a nonsquare; as many as there are signals where none has.
-pub fn first_unmet(terms: &[u8], v: Signals, sq: Products) -> usize
-    requires { ⌜ CleanTerms (now terms) × ((v .len ≤ 13) × ((0 < v .len) × (Fitting 72 (signalsOf v) × ((sq .len ≤ 91) × (productsOf sq ≡ products plain (signalsOf v)))))) ⌝ }
+pub fn first_unmet(terms: &[u8], v: Signals, sq: &[u8]) -> usize
+    requires { ⌜ CleanTerms (now terms) × ((v .len ≤ 13) × ((0 < v .len) × (Fitting 72 (signalsOf v) × (tabled (now sq) ≡ products plain (signalsOf v))))) ⌝ }
     ensures { λ r. ⌜ r ≡ place (λ z. some (unmet plain (signalsOf v) (derivative (system (records (now (terms .entry)))) z))) (signalsOf v) ⌝ }
 {
     let len = v.len;
@@ -76,9 +75,9 @@ pub fn first_unmet(terms: &[u8], v: Signals, sq: Products) -> usize
 }
 
 // The cheapest, once the nonsquares of the derivative of z are met too.
-fn choose_in(p: Pick, terms: &[u8], z: Monomial, sq: Products) -> Pick
-    requires { ⌜ CleanTerms (now terms) × (AtMost 72 (z .e) × (sq .len ≤ 91)) ⌝ }
-    ensures { λ r. ⌜ ((v l : List Mono) → productsOf sq ≡ products plain v → Best cheaper l p →
+fn choose_in(p: Pick, terms: &[u8], z: Monomial, sq: &[u8]) -> Pick
+    requires { ⌜ CleanTerms (now terms) × AtMost 72 (z .e) ⌝ }
+    ensures { λ r. ⌜ ((v l : List Mono) → tabled (now (sq .entry)) ≡ products plain v → Best cheaper l p →
         Best cheaper (unmet plain v (derivative (system (records (now (terms .entry)))) (z .e)) ++ l) r) ⌝ }
 {
     let count = terms.len() / 12;
@@ -95,8 +94,8 @@ fn choose_in(p: Pick, terms: &[u8], z: Monomial, sq: Products) -> Pick
 }
 
 // The nonsquare of a set that is split, where there is one.
-pub fn choose(terms: &[u8], v: Signals, sq: Products) -> Pick
-    requires { ⌜ CleanTerms (now terms) × ((v .len ≤ 13) × (Fitting 72 (signalsOf v) × ((sq .len ≤ 91) × (productsOf sq ≡ products plain (signalsOf v))))) ⌝ }
+pub fn choose(terms: &[u8], v: Signals, sq: &[u8]) -> Pick
+    requires { ⌜ CleanTerms (now terms) × ((v .len ≤ 13) × (Fitting 72 (signalsOf v) × (tabled (now sq) ≡ products plain (signalsOf v)))) ⌝ }
     ensures { λ r. ⌜ Picked (nonsquares plain (signalsOf v) (derivative (system (records (now (terms .entry)))))) r ⌝ }
 {
     let len = v.len;

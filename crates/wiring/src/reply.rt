@@ -1,6 +1,5 @@
 // The reply: one case for each kind of answer, with only the numbers that it has.
 ghost use mathlib.Core.Path.{_≡_};
-ghost use mathlib.Core.List.{[], _∷_};
 ghost use Rattle.wiring.specs.Reply.{numbers, inOrder};
 
 pub enum Reply {

@@ -3,13 +3,13 @@ use super::terms;
 use monomial::Monomial;
 ghost use mathlib.Core.Path.{_≡_};
 ghost use mathlib.Core.Bool.{true};
-ghost use Prim.Native.Nat.{_+_, _*_, _≤_, _<_};
+ghost use Prim.Native.Nat.{_*_, _≤_, _<_};
 ghost use lib.Dec.{eqb};
-ghost use lib.ListN.{length, drop, take, getD};
+ghost use lib.ListN.{length, drop, take};
 ghost use Rattle.monomial.specs.Lists.{any, all};
 ghost use Rattle.monomial.specs.Monomial.{constants};
 ghost use Rattle.monomial.specs.Order.{same};
-ghost use Rattle.wiring.specs.Sets.{places, sizeOf, setOf, ascending, monomialRight, setRight, monomialsOf, SetReads};
+ghost use Rattle.wiring.specs.Sets.{places, sizeOf, ascending, monomialRight, monomialsOf, SetReads};
 
 pub struct Set {
     pub m: [Monomial; 6],

@@ -2,24 +2,18 @@
 use super::sets::Set;
 use monomial::Monomial;
 ghost use mathlib.Core.Path.{_≡_};
-ghost use mathlib.Core.List.{List};
 ghost use Prim.Native.Nat.{_+_, _≤_};
+ghost use lib.ListN.{length, take};
 ghost use Rattle.monomial.specs.Lists.{any};
 ghost use Rattle.monomial.specs.Order.{same};
 ghost use Rattle.wiring.specs.Poly.{plain};
 ghost use Rattle.wiring.specs.Quadratic.{products};
-ghost use Rattle.wiring.specs.Signals.{signals, Fitting, signalsOf, productsOf};
+ghost use Rattle.wiring.specs.Signals.{signals, Fitting, signalsOf, tabled};
 ghost use Rattle.wiring.specs.Sets.{monomialsOf};
 
 // 1, up to six variables, up to six new monomials.
 pub struct Signals {
     pub m: [Monomial; 13],
-    pub len: usize,
-}
-
-// 13 * 14 / 2 products.
-pub struct Products {
-    pub m: [Monomial; 91],
     pub len: usize,
 }
 
@@ -63,12 +57,11 @@ pub fn is_signal(v: Signals, m: Monomial) -> bool
     false
 }
 
-// V2 of V, as a table.
-pub fn products_of(v: Signals) -> Products
-    requires { ⌜ (v .len ≤ 13) × Fitting 127 (signalsOf v) ⌝ }
-    ensures { λ r. ⌜ (productsOf r ≡ products plain (signalsOf v)) × (r .len ≤ 91) ⌝ }
+// V2 of V, side by side in the lent table; the number of its bytes. At most 13 * 14 / 2 products.
+pub fn products_of(v: Signals, table: &mut [u8]) -> usize
+    requires { ⌜ (v .len ≤ 13) × (Fitting 127 (signalsOf v) × (546 ≤ length (now table))) ⌝ }
+    ensures { λ r. ⌜ (tabled (take r (now (table .exit))) ≡ products plain (signalsOf v)) × (r ≤ 546) ⌝ }
 {
-    let mut m = [Monomial::ONE; 91];
     let len = v.len;
     let mut at: usize = 0;
     let mut a: usize = 0;
@@ -77,25 +70,23 @@ pub fn products_of(v: Signals) -> Products
         let mut b = a;
         while b < len {
             let y = v.m[b];
-            m[at] = x.times(y);
-            at += 1;
+            x.times(y).write(table, at);
+            at += 6;
             b += 1;
         }
         a += 1;
     }
-    Products { m, len: at }
+    at
 }
 
-// Whether m is in V2.
-pub fn is_product(p: Products, m: Monomial) -> bool
-    requires { ⌜ p .len ≤ 91 ⌝ }
-    ensures { λ r. ⌜ r ≡ any (same (m .e)) (productsOf p) ⌝ }
+// Whether m is in the table. It is lent: a copy for each question would cost more than the search.
+pub fn is_product(table: &[u8], m: Monomial) -> bool
+    ensures { λ r. ⌜ r ≡ any (same (m .e)) (tabled (now (table .entry))) ⌝ }
 {
-    let len = p.len;
+    let count = table.len() / 6;
     let mut i: usize = 0;
-    while i < len {
-        let x = p.m[i];
-        if m.same(x) {
+    while i < count {
+        if m.same(Monomial::read(table, 6 * i)) {
             return true;
         }
         i += 1;

@@ -2,7 +2,6 @@
 use super::coefficient;
 use monomial::Monomial;
 ghost use mathlib.Core.Path.{_≡_};
-ghost use mathlib.Core.List.{List};
 ghost use Prim.Native.Nat.{_+_, _*_, _/_, _≤_, _<_};
 ghost use lib.ListN.{length, take};
 ghost use Rattle.monomial.specs.Lists.{any};

@@ -12,6 +12,7 @@ use Rattle.monomial.specs.Lists.{any, place, gather, insertBy}
 use Rattle.monomial.specs.Monomial.{Mono}
 use Rattle.monomial.specs.Order.{same, before, sameSet, beforeSet}
 use Rattle.monomial.proofs.Tests.{is→nT}
+use Rattle.monomial.proofs.Strips.{strip-at}
 use Rattle.monomial.proofs.Members.{_∈_}
 use Rattle.monomial.proofs.Counting.{at-in}
 use Rattle.monomial.proofs.order.Laws.{set-order}
@@ -22,7 +23,7 @@ use Rattle.walk.specs.Walk.{Finds, kept}
 use Rattle.walk.specs.Plan.{setsBytes}
 use Rattle.walk.specs.Listing.{Recorded, Shown, KeptAs}
 use Rattle.walk.specs.declared.listing.Kept.the-variants.{Held, NoRoom}
-use Rattle.walk.proofs.listing.Laws.{gather-at, gather-more, insert-place}
+use Rattle.walk.proofs.listing.Laws.{gather-more, insert-place}
 use Rattle.walk.proofs.listing.Records.{record-before, record-same}
 
 recorded-length : (s : List Mono) → Recorded s → length (setRecord s) ≡ 36
@@ -45,7 +46,7 @@ module _ {finds : Finds} {count : ℕ} {out : List ℕ} (s : Shown finds count o
   shown-at i h =
       let e : 36 * i + 36 - 36 * i ≡ 36 = omega arith in
       ap₂ (λ (n : ℕ) (l : List ℕ). take n (drop (36 * i) l)) e (s .bytes)
-      ∙ gather-at setRecord 36 finds even (replicate (length out - 36 * count) 0) i [] (omega (arith, s .counted))
+      ∙ strip-at setRecord 36 finds even (replicate (length out - 36 * count) 0) i [] (omega (arith, s .counted))
 
   module _ (x : List Mono) (r : Recorded x) (b : List ℕ) (own : b ≡ setRecord x) (i : ℕ) (h : i < count) where
     found : Recorded (getD finds i [])

@@ -6,15 +6,14 @@ use mathlib.Core.List.{List, [], _∷_, _++_, append-assoc}
 use Prim.Native.Nat.{ℕ, suc, _+_, _*_, _-_, _<_, _≤_}
 use native.Mathlib.Omega.{arith}
 use native.Mathlib.Numerals.{add-one}
-use native.Mathlib.Nat.{mul-suc, mul-zero}
 use lib.Dec.{T}
-use lib.ListN.{length, getD, take, drop, set, length-append, length-drop, List·getD-append, take-append-drop}
-use lib.Seq.{paste, paste-zero, getD-take, drop-cons, take-take, take-append-le, take-append-seam, take-at, take-all, drop-at, drop-append-add, drop-append-seam, length-take-le, length-paste}
+use lib.ListN.{length, getD, take, drop, set, length-append, length-drop, List·getD-append}
+use lib.Seq.{paste, paste-zero, getD-take, drop-cons, take-take, take-append-le, take-append-seam, take-all, drop-at, drop-append-add, drop-append-seam, length-take-le, length-paste}
 use Rattle.monomial.specs.Lists.{any, place, gather, insertBy}
 use Rattle.monomial.proofs.Tests.{or-l, or-r, T→is, nT→is}
 use Rattle.monomial.proofs.Loops.{set-front}
-use Rattle.monomial.proofs.Members.{_∈_, here, there, take-in, gather-append}
-use Rattle.monomial.proofs.Counting.{at-in}
+use Rattle.monomial.proofs.Members.{_∈_, gather-append}
+use Rattle.monomial.proofs.Strips.{strip-length, strip-split, strip-front}
 use Rattle.monomial.proofs.order.Laws.{Order, Compared, less, equal, more, not-both, not-same, same-flip}
 
 -- ---- a buffer in parts
@@ -112,57 +111,32 @@ module _ {A : Type 0} where
 
 -- ---- records of w bytes, one behind the other
 module _ {A : Type 0} (f : A → List ℕ) where
-  module _ (w : ℕ) where
-    gather-length : (l : List A) → ((x : A) → x ∈ l → length (f x) ≡ w) → length (gather f l) ≡ w * length l
+  module _ (w : ℕ) (l : List A) (even : (x : A) → x ∈ l → length (f x) ≡ w) where
+    -- one more record behind the others, where the bytes y are free
+    pub gather-last : (x : A) (y z : List ℕ) → length y ≡ w → length (f x) ≡ w → paste (gather f l ++ (y ++ z)) (w * length l) (f x) w ≡ gather f l ++ (f x ++ z)
+    gather-last x y z gone new =
+        let a = gather f l in
+        let b = a ++ (y ++ z) in
+        let e : w * length l ≡ length a = sym (strip-length f w l even) in
+        ap (λ (n : ℕ). paste b n (f x) w) e
+        ∙ ap (λ (u : List ℕ). paste u (length a) (f x) w) (paste-zero b (length a + w) (drop (length a) b)) ∙ placed w a [] y z (f x) gone new
+
+    -- one more record, at place p, where the bytes y are free behind the others
+    pub gather-more : (x : A) (y z : List ℕ) (p : ℕ) → p ≤ length l → length y ≡ w → length (f x) ≡ w
+        → let b = gather f l ++ (y ++ z) in
+        paste (paste b (w * p + w) (drop (w * p) b) (w * length l - w * p)) (w * p) (f x) w ≡ gather f (take p l ++ x ∷ drop p l) ++ z
     unfolding gather
-    gather-length [] h = sym (mul-zero w)
-    gather-length (x ∷ l) h =
-        length-append (f x) (gather f l) ∙ omega (arith, h x here, gather-length l (λ y m. h y (there m)), mul-suc w (length l))
-
-    module _ (l : List A) (even : (x : A) → x ∈ l → length (f x) ≡ w) where
-      split : (i : ℕ) → gather f l ≡ gather f (take i l) ++ gather f (drop i l)
-      split i = sym (ap (gather f) (take-append-drop i l)) ∙ gather-append f (take i l) (drop i l)
-
-      front-length : (i : ℕ) → i ≤ length l → length (gather f (take i l)) ≡ w * i
-      front-length i h = gather-length (take i l) (λ x m. even x (take-in i l m)) ∙ ap (λ (n : ℕ). w * n) (length-take-le i l h)
-
-      -- record number i
-      pub gather-at : (z : List ℕ) (i : ℕ) (d : A) → i < length l → take w (drop (w * i) (gather f l ++ z)) ≡ f (getD l i d)
-      unfolding gather
-      gather-at z i d h =
-          let a = gather f (take i l) in
-          let x = getD l i d in
-          let c = gather f (drop (suc i) l) in
-          let parts : gather f l ++ z ≡ a ++ (f x ++ (c ++ z)) =
-          ap (λ (u : List ℕ). u ++ z) (split i ∙ ap (λ (t : List A). a ++ gather f t) (drop-cons l i d h)) ∙ append-assoc a (f x ++ c) z
-          ∙ ap (λ (u : List ℕ). a ++ u) (append-assoc (f x) c z) in
-          rw (parts, drop-at a (f x ++ (c ++ z)) (w * i) (front-length i (omega arith))) (take-at (f x) (c ++ z) w (even x (at-in l i d h)))
-
-      -- one more record behind the others, where the bytes y are free
-      pub gather-last : (x : A) (y z : List ℕ) → length y ≡ w → length (f x) ≡ w → paste (gather f l ++ (y ++ z)) (w * length l) (f x) w ≡ gather f l ++ (f x ++ z)
-      gather-last x y z gone new =
-          let a = gather f l in
-          let b = a ++ (y ++ z) in
-          let e : w * length l ≡ length a = sym (gather-length l even) in
-          ap (λ (n : ℕ). paste b n (f x) w) e
-          ∙ ap (λ (u : List ℕ). paste u (length a) (f x) w) (paste-zero b (length a + w) (drop (length a) b)) ∙ placed w a [] y z (f x) gone new
-
-      -- one more record, at place p, where the bytes y are free behind the others
-      pub gather-more : (x : A) (y z : List ℕ) (p : ℕ) → p ≤ length l → length y ≡ w → length (f x) ≡ w
-          → let b = gather f l ++ (y ++ z) in
-          paste (paste b (w * p + w) (drop (w * p) b) (w * length l - w * p)) (w * p) (f x) w ≡ gather f (take p l ++ x ∷ drop p l) ++ z
-      unfolding gather
-      gather-more x y z p h gone new =
-          let a = gather f (take p l) in
-          let b = gather f (drop p l) in
-          let low : w * p ≡ length a = sym (front-length p h) in
-          let high : w * length l - w * p ≡ length b = omega (arith, gather-length l even, ap length (split p), length-append a b, low) in
-          let parts : gather f l ++ (y ++ z) ≡ a ++ (b ++ (y ++ z)) = ap (λ (u : List ℕ). u ++ (y ++ z)) (split p) ∙ append-assoc a b (y ++ z) in
-          let whole : gather f (take p l ++ x ∷ drop p l) ++ z ≡ a ++ (f x ++ (b ++ z)) =
-          ap (λ (u : List ℕ). u ++ z) (gather-append f (take p l) (x ∷ drop p l)) ∙ append-assoc a (f x ++ b) z ∙ ap (λ (u : List ℕ). a ++ u) (append-assoc (f x) b z) in
-          ap (λ (u : List ℕ). paste (paste u (w * p + w) (drop (w * p) u) (w * length l - w * p)) (w * p) (f x) w) parts
-          ∙ ap₂ (λ (m n : ℕ). let u = a ++ (b ++ (y ++ z)) in paste (paste u (m + w) (drop m u) n) m (f x) w) low high
-          ∙ placed w a b y z (f x) gone new ∙ sym whole
+    gather-more x y z p h gone new =
+        let a = gather f (take p l) in
+        let b = gather f (drop p l) in
+        let low : w * p ≡ length a = sym (strip-front f w l even p h) in
+        let high : w * length l - w * p ≡ length b = omega (arith, strip-length f w l even, ap length (strip-split f w l even p), length-append a b, low) in
+        let parts : gather f l ++ (y ++ z) ≡ a ++ (b ++ (y ++ z)) = ap (λ (u : List ℕ). u ++ (y ++ z)) (strip-split f w l even p) ∙ append-assoc a b (y ++ z) in
+        let whole : gather f (take p l ++ x ∷ drop p l) ++ z ≡ a ++ (f x ++ (b ++ z)) =
+        ap (λ (u : List ℕ). u ++ z) (gather-append f (take p l) (x ∷ drop p l)) ∙ append-assoc a (f x ++ b) z ∙ ap (λ (u : List ℕ). a ++ u) (append-assoc (f x) b z) in
+        ap (λ (u : List ℕ). paste (paste u (w * p + w) (drop (w * p) u) (w * length l - w * p)) (w * p) (f x) w) parts
+        ∙ ap₂ (λ (m n : ℕ). let u = a ++ (b ++ (y ++ z)) in paste (paste u (m + w) (drop m u) n) m (f x) w) low high
+        ∙ placed w a b y z (f x) gone new ∙ sym whole
 
 -- ---- the place of an entry that is not yet there
 module _ {A : Type 0} {same before : A → A → Bool} (o : Order same before) (s : A) where

@@ -17,21 +17,15 @@ use Rattle.monomial.proofs.Tests.{same-test}
 use Rattle.monomial.proofs.Members.{_∈_, here, there, take-in, gather-append}
 use Rattle.monomial.proofs.Counting.{at-in}
 use Rattle.monomial.proofs.order.Laws.{Order, Compared, less, equal, more, not-both, Ahead, smaller, tied, ahead, ahead-is, ℕ-order, mono-order, set-order}
-use Rattle.wiring.specs.Signals.{front}
+use Rattle.wiring.specs.Signals.{front, flat}
 use Rattle.wiring.specs.Sets.{setRecord, setOf}
-use Rattle.wiring.proofs.signals.Laws.{entry, front-at}
+use Rattle.wiring.proofs.signals.Laws.{Wide, entry, front-at}
 use Rattle.wiring.proofs.sets.Exact.{record-holds}
 use Rattle.walk.specs.Listing.{Recorded}
 use Rattle.walk.proofs.listing.Laws.{gather-last}
 
-abbrev Wide : List Mono → Type 0
-Wide s = (m : Mono) → m ∈ s → length m ≡ 6
-
 abbrev zeros : ℕ → List ℕ
 zeros n = replicate n 0
-
-abbrev bytesOf : List Mono → List ℕ
-bytesOf s = gather (λ (m : Mono). m) s
 
 -- ---- a loop that makes the record of s, and has written the first i monomials
 pub record Making (s : List Mono) (b : List ℕ) (i : ℕ) : Type 0 where
@@ -56,9 +50,9 @@ made-more s i wide few h =
     let spare : 36 - 6 * length t ≡ 6 + rest = omega arith in
     let free : zeros (36 - 6 * length t) ≡ zeros 6 ++ zeros rest = ap zeros spare ∙ sym (replicate-append-replicate 6 rest 0) in
     let left : 36 - 6 * length (t ++ (m ∷ [])) ≡ rest = omega (arith, length-append t (m ∷ [])) in
-    let all : bytesOf (t ++ (m ∷ [])) ≡ bytesOf t ++ m = gather-append (λ (x : Mono). x) t (m ∷ []) ∙ ap (λ (l : List ℕ). bytesOf t ++ l) (append-nil m) in
+    let all : flat (t ++ (m ∷ [])) ≡ flat t ++ m = gather-append (λ (x : Mono). x) t (m ∷ []) ∙ ap (λ (l : List ℕ). flat t ++ l) (append-nil m) in
     let written = gather-last (λ (x : Mono). x) 6 t (λ x k. wide x (take-in i s k)) m (zeros 6) (zeros rest) refl (wide m (at-in s i [] h)) in
-    rw (free, at, next, left, all) (written ∙ sym (append-assoc (bytesOf t) m (zeros rest)))
+    rw (free, at, next, left, all) (written ∙ sym (append-assoc (flat t) m (zeros rest)))
 
 module _ {s : List Mono} {b : List ℕ} {i : ℕ} (k : Making s b i) where
   pub making-next : (m : Mono) → Recorded s → i < length s → m ≡ getD s i [] → Making s (paste b (6 * i) m 6) (i + 1)
@@ -121,7 +115,7 @@ padded zero s = []
 padded (suc n) [] = one 6 ++ padded n []
 padded (suc n) (m ∷ s) = m ++ padded n s
 
-padded-is : (n : ℕ) (s : List Mono) → length s ≤ n → bytesOf s ++ zeros (6 * n - 6 * length s) ≡ padded n s
+padded-is : (n : ℕ) (s : List Mono) → length s ≤ n → flat s ++ zeros (6 * n - 6 * length s) ≡ padded n s
 unfolding padded gather
 padded-is zero [] h = refl
 padded-is zero (m ∷ s) h = let z : ⊥ = omega arith in absurd z
@@ -131,7 +125,7 @@ padded-is (suc n) [] h =
     rw (e, first) (ap (λ (l : List ℕ). one 6 ++ l) (padded-is n [] (omega arith)))
 padded-is (suc n) (m ∷ s) h =
     let e : 6 * suc n - 6 * suc (length s) ≡ 6 * n - 6 * length s = omega arith in
-    rw e (append-assoc m (bytesOf s) (zeros (6 * n - 6 * length s)) ∙ ap (λ (l : List ℕ). m ++ l) (padded-is n s (omega arith)))
+    rw e (append-assoc m (flat s) (zeros (6 * n - 6 * length s)) ∙ ap (λ (l : List ℕ). m ++ l) (padded-is n s (omega arith)))
 
 padded-before : (n : ℕ) (x y : List Mono) → length y ≤ n → Wide x → Wide y → ((m : Mono) → m ∈ y → m ≡ one 6 → ⊥) → T (beforeSet x y) → T (before (padded n x) (padded n y))
 unfolding padded dictionary

@@ -3,22 +3,25 @@
 use mathlib.Core.Path.{_≡_, refl, sym, ap, ap₂, subst, _∙_}
 use mathlib.Core.Logic.{_↔_}
 use mathlib.Core.Bool.{Bool, cond, not, _&&_}
-use mathlib.Core.List.{List, [], _∷_, _++_, append-nil, append-assoc, List·Memᴰ·head}
+use mathlib.Core.List.{List, [], _∷_, _++_, append-nil, List·Memᴰ·head}
 use Prim.Native.Nat.{ℕ, zero, suc, _+_, _*_, _-_, _<_, _≤_}
 use native.Mathlib.Omega.{arith}
 use lib.Dec.{T, eqb, eqb→eq, not-T, T-not}
 use lib.ListN.{length, getD, take, drop, replicate, length-append, length-drop, length-replicate, take-append-drop}
-use lib.Seq.{length-take-le, take-suc, take-at, take-add, drop-append-add, getD-append-add, getD-take, getD-drop, ext-getD}
+use lib.Seq.{length-take-le, take-suc, take-add, getD-append-add, getD-take, getD-drop, ext-getD}
 use Rattle.monomial.specs.Lists.{any, all, gather, place}
 use Rattle.monomial.specs.Monomial.{Mono, one, constants}
 use Rattle.monomial.specs.Order.{same, before}
 use Rattle.monomial.proofs.Tests.{Tested, passed, failed, test, T→is, nT→is, and-l, and-r, and-i}
-use Rattle.monomial.proofs.Members.{_∈_, here, there, all-in, all-out, take-in, gather-append}
+use Rattle.monomial.proofs.Members.{_∈_, here, all-in, all-out, take-in, gather-append}
 use Rattle.monomial.proofs.Counting.{at-in}
+use Rattle.monomial.proofs.Strips.{strip-length, strip-at}
 use Rattle.monomial.proofs.order.Laws.{mono-order}
 use Rattle.monomial.proofs.order.Ascending.{Ascending, among-in, among-out}
+use Rattle.wiring.specs.Signals.{flat}
 use Rattle.wiring.specs.Terms.{exponentsRight}
 use Rattle.wiring.specs.Sets.{places, sizeOf, setOf, ascending, monomialRight, setRight, setRecord}
+use Rattle.wiring.proofs.signals.Laws.{Wide}
 use Rattle.wiring.proofs.terms.Laws.{Fit, exponents-in, exponents-everywhere}
 use Rattle.wiring.proofs.sets.Laws.{placeAt, places-length, places-at, places-width, used-length, used-at, ascending-in, ascending-out}
 
@@ -130,48 +133,26 @@ module _ {A : Type 0} (f : A → Bool) where
       rw (nT→is (f x) (least 0 (omega arith))) (ap suc (place-is l i d (omega arith) (λ j k. least (suc j) (omega arith)) (λ k. here (omega arith))))
 
 -- ---- the record of a set, place by place
-abbrev Wide : List Mono → Type 0
-Wide s = (m : Mono) → m ∈ s → length m ≡ 6
-
-abbrev bytesOf : List Mono → List ℕ
-bytesOf s = gather (λ m. m) s
-
-bytes-length : (s : List Mono) → Wide s → length (bytesOf s) ≡ 6 * length s
-unfolding gather
-bytes-length [] w = refl
-bytes-length (x ∷ s) w =
-    let ih : length (bytesOf s) ≡ 6 * length s = bytes-length s (λ m h. w m (there h)) in
-    let six : length x ≡ 6 = w x here in
-    length-append x (bytesOf s) ∙ omega arith
-
-bytes-at : (s : List Mono) (tail : List ℕ) → Wide s → (i : ℕ) → i < length s → placeAt (bytesOf s ++ tail) i ≡ getD s i []
-unfolding gather
-bytes-at [] tail w i h = let z : ⊥ = omega arith in absurd z
-bytes-at (x ∷ s) tail w zero h = ap (take 6) (append-assoc x (bytesOf s) tail) ∙ take-at x (bytesOf s ++ tail) 6 (w x here)
-bytes-at (x ∷ s) tail w (suc i) h =
-    let skip : 6 * suc i ≡ length x + 6 * i = omega (arith, w x here) in
-    rw (append-assoc x (bytesOf s) tail, skip, drop-append-add x (bytesOf s ++ tail) (6 * i)) (bytes-at s tail (λ m k. w m (there k)) i (omega arith))
-
 module _ (s : List Mono) (few : length s ≤ 6) (wide : Wide s) where
   pub record-length : length (setRecord s) ≡ 36
   unfolding setRecord
   record-length =
-      let long : length (bytesOf s) ≡ 6 * length s = bytes-length s wide in
+      let long : length (flat s) ≡ 6 * length s = strip-length (λ m. m) 6 s wide in
       let tail : length {A = ℕ} (replicate (36 - 6 * length s) 0) ≡ 36 - 6 * length s = length-replicate (36 - 6 * length s) 0 in
-      length-append (bytesOf s) (replicate (36 - 6 * length s) 0) ∙ omega arith
+      length-append (flat s) (replicate (36 - 6 * length s) 0) ∙ omega arith
 
   record-zeros : (k : ℕ) → 6 * length s ≤ k → getD (setRecord s) k 0 ≡ 0
   unfolding setRecord
   record-zeros k h =
-      let g = bytesOf s in
-      let long : length g ≡ 6 * length s = bytes-length s wide in
+      let g = flat s in
+      let long : length g ≡ 6 * length s = strip-length (λ m. m) 6 s wide in
       let e : length g + (k - length g) ≡ k = omega arith in
       rw (sym e) (getD-append-add g (replicate (36 - 6 * length s) 0) (k - length g) 0 ∙ zeros-at (36 - 6 * length s) (k - length g))
 
   -- a place of the set, and an unused one
   record-at : (i : ℕ) → i < length s → placeAt (setRecord s) i ≡ getD s i []
   unfolding setRecord
-  record-at i h = bytes-at s (replicate (36 - 6 * length s) 0) wide i h
+  record-at i h = strip-at (λ m. m) 6 s wide (replicate (36 - 6 * length s) 0) i [] h
 
   record-unused : (i : ℕ) → length s ≤ i → i < 6 → placeAt (setRecord s) i ≡ one 6
   record-unused i h k =
@@ -226,7 +207,7 @@ module _ (n : ℕ) (s : List Mono) (r : Recordable n s) where
       })
 
 -- the first k places, one behind the other, are the first 6 * k bytes
-bytes-used : (bytes : List ℕ) (k : ℕ) → k ≤ 6 → bytesOf (take k (places bytes)) ≡ take (6 * k) bytes
+bytes-used : (bytes : List ℕ) (k : ℕ) → k ≤ 6 → flat (take k (places bytes)) ≡ take (6 * k) bytes
 unfolding gather
 bytes-used bytes zero h = refl
 bytes-used bytes (suc k) h =
@@ -234,7 +215,7 @@ bytes-used bytes (suc k) h =
     let next : take (suc k) t ≡ take k t ++ (placeAt bytes k ∷ []) =
     take-suc t k [] (omega (arith, places-length bytes)) ∙ ap (λ m. take k t ++ (m ∷ [])) (places-at bytes k [] (omega arith)) in
     let e : 6 * suc k ≡ 6 * k + 6 = omega arith in
-    ap bytesOf next ∙ gather-append (λ m. m) (take k t) (placeAt bytes k ∷ []) ∙ ap₂ _++_ (bytes-used bytes k (omega arith)) (append-nil (placeAt bytes k))
+    ap flat next ∙ gather-append (λ m. m) (take k t) (placeAt bytes k ∷ []) ∙ ap₂ _++_ (bytes-used bytes k (omega arith)) (append-nil (placeAt bytes k))
     ∙ sym (take-add (6 * k) 6 bytes) ∙ ap (λ (j : ℕ). take j bytes) (sym e)
 
 module _ (n : ℕ) (bytes : List ℕ) (t : T (setRight n bytes)) (l : length bytes ≡ 36) where
@@ -255,7 +236,7 @@ module _ (n : ℕ) (bytes : List ℕ) (t : T (setRight n bytes)) (l : length byt
     permitted = right-iff n bytes .0 t .permitted;
   }
 
-  right-front : bytesOf (setOf bytes) ≡ take (6 * sizeOf bytes) bytes
+  right-front : flat (setOf bytes) ≡ take (6 * sizeOf bytes) bytes
   unfolding setOf
   right-front = bytes-used bytes (sizeOf bytes) size-few
 

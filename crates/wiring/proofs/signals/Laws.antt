@@ -1,25 +1,26 @@
 -- Arrays of monomials as lists: what their first places hold, the loops that search and fill them, V and V2. Assumes nothing.
-use mathlib.Core.Path.{_≡_, refl, sym, ap, subst, _∙_}
+use mathlib.Core.Path.{_≡_, refl, sym, ap, ap₂, subst, _∙_}
 use mathlib.Core.Logic.{⊎-elim}
 use mathlib.Core.Bool.{Bool, true, false}
-use mathlib.Core.List.{List, [], _∷_, _++_, map, append-nil, List·Memᴰ·cases-cons, List·Memᴰ·not-nil, List·Memᴰ·append-cases, Memᴰ·of-map}
-use Prim.Native.Nat.{ℕ, zero, suc, _+_, _*_, _<_, _≤_}
+use mathlib.Core.List.{List, [], _∷_, _++_, map, append-nil, List·Memᴰ·cases-cons, List·Memᴰ·not-nil, List·Memᴰ·append-cases, Memᴰ·append-right, Memᴰ·of-map}
+use Prim.Native.Nat.{ℕ, zero, suc, _+_, _*_, _/_, _<_, _≤_}
 use native.Mathlib.Omega.{arith}
 use native.Mathlib.Numerals.{add-one}
 use native.Mathlib.Nat.{mul-le-mul-left}
 use lib.ListN.{length, getD, take, drop, set, length-append, length-map, length-set, length-replicate, drop-of-length-le, List·getD-append}
-use lib.Seq.{length-take-le, getD-take, take-set-lt, take-suc-set, drop-cons, append-snoc, getD-append-add}
-use Rattle.monomial.specs.Lists.{any}
+use lib.Seq.{paste, length-take-le, getD-take, take-set-lt, take-suc-set, take-all, take-paste, length-paste, drop-cons, append-snoc, getD-append-add, ext-getD}
+use Rattle.monomial.specs.Lists.{any, gather, below}
 use Rattle.monomial.specs.Monomial.{Mono, one, vars, constants}
 use Rattle.monomial.specs.Product.{mul, AtMost, FitsBytes}
 use Rattle.monomial.specs.declared.Monomial.{Monomial}
-use Rattle.monomial.proofs.Loops.{Seeking, seeking-start, seeking-found, seeking-on, seeking-ends}
-use Rattle.monomial.proofs.Members.{_∈_, take-in}
-use Rattle.monomial.proofs.Counting.{at-in}
+use Rattle.monomial.proofs.Loops.{Seeking, seeking-start, seeking-found, seeking-on, seeking-ends, pointwise-length}
+use Rattle.monomial.proofs.Members.{_∈_, here, there, take-in, gather-append}
+use Rattle.monomial.proofs.Counting.{at-in, below-length, below-at}
+use Rattle.monomial.proofs.Strips.{strip-length, strip-at}
 use Rattle.monomial.proofs.product.Laws.{atMost-weaken, atMost-mul}
 use Rattle.wiring.specs.Poly.{Kind, plain}
 use Rattle.wiring.specs.Quadratic.{products}
-use Rattle.wiring.specs.Signals.{signals, front, Fitting}
+use Rattle.wiring.specs.Signals.{signals, front, flat, tabled, Fitting}
 
 -- ---- an array and its first places
 -- what owning an array of monomials tells of its length: `search (needs, array-length)`
@@ -239,52 +240,158 @@ module _ {M : Type 0} (k : Kind M) where
       let low : length v * suc (length v) ≤ length v * 14 = mul-le-mul-left (length v) (omega arith) in
       omega (arith, products-length v)
 
--- ---- two loops that write V2 of the first len places of u into m: the outer one has come to the row of a, the inner one to the place of b in it
-pub record Rows (len : ℕ) (u m : List Monomial) (at a : ℕ) : Type 0 where
-  pub source : len ≤ length u
-  pub writing : Writing 91 (products plain (front len u)) m at (products plain (drop a (front len u)))
+  pub products-wide : (v : List M) (P : M → Type 0) → ((x y : M) → P x → P y → P (k .mul x y)) → ((x : M) → x ∈ v → P x) → (m : M) → m ∈ products k v → P m
+  unfolding products
+  products-wide [] P h f m i = absurd (List·Memᴰ·not-nil i)
+  products-wide (x ∷ v) P h f m i =
+      ⊎-elim
+      (λ j. let p = Memᴰ·of-map (k .mul x) (x ∷ v) j in subst P (p .2) (h x (p .0) (f x here) (f (p .0) (p .1))))
+      (products-wide v P h (λ y j. f y (there j)) m)
+      (List·Memᴰ·append-cases (map (k .mul x) (x ∷ v)) i)
 
-pub record Row (len : ℕ) (u m : List Monomial) (at a b : ℕ) : Type 0 where
-  pub source : len ≤ length u
-  pub writing : Writing 91 (products plain (front len u)) m at (map (mul (entry u a)) (drop b (front len u)) ++ products plain (drop (a + 1) (front len u)))
+-- ---- monomials side by side in bytes
+-- each has six exponents
+abbrev pub Wide : List Mono → Type 0
+Wide l = (m : Mono) → m ∈ l → length m ≡ 6
 
-pub rows-start : (len : ℕ) (u m : List Monomial) → len ≤ 13 → length u ≡ 13 → length m ≡ 91 → Rows len u m 0 0
-rows-start len u m h k l =
+pub tabled-length : (bytes : List ℕ) → length (tabled bytes) ≡ length bytes / 6
+unfolding tabled
+tabled-length bytes = length-map (below (length bytes / 6)) (λ i. take 6 (drop (6 * i) bytes)) ∙ below-length (length bytes / 6)
+
+pub tabled-at : (bytes : List ℕ) (i : ℕ) (d : Mono) → i < length bytes / 6 → getD (tabled bytes) i d ≡ take 6 (drop (6 * i) bytes)
+unfolding tabled
+tabled-at bytes i d h = below-at (λ j. take 6 (drop (6 * j) bytes)) (length bytes / 6) i d h
+
+pub tabled-flat : (l : List Mono) → Wide l → tabled (flat l) ≡ l
+tabled-flat l w = ext-getD [] (tabled (flat l)) l many at
+  where
+    long : length (flat l) ≡ 6 * length l
+    long = strip-length (λ m. m) 6 l w
+
+    many : length (tabled (flat l)) ≡ length l
+    many = tabled-length (flat l) ∙ omega (arith, long)
+
+    at : (i : ℕ) → i < length (tabled (flat l)) → getD (tabled (flat l)) i [] ≡ getD l i []
+    at i h =
+        let few : i < length (flat l) / 6 = omega (arith, tabled-length (flat l)) in
+        tabled-at (flat l) i [] few
+        ∙ ap (λ (u : List ℕ). take 6 (drop (6 * i) u)) (sym (append-nil (flat l)))
+        ∙ strip-at (λ m. m) 6 l w [] i [] (omega (arith, many))
+
+-- a loop that looks through a table for a monomial that passes f, and has come to place i
+module _ (f : Mono → Bool) (bytes : List ℕ) {i : ℕ} (s : Seeking f (tabled bytes) i) where
+  pub tabled-found : i < length bytes / 6 → f (take 6 (drop (6 * i) bytes)) ≡ true → true ≡ any f (tabled bytes)
+  tabled-found h e = seeking-found f [] s (omega (arith, tabled-length bytes)) (ap f (tabled-at bytes i [] h) ∙ e)
+
+  pub tabled-on : i < length bytes / 6 → f (take 6 (drop (6 * i) bytes)) ≡ false → Seeking f (tabled bytes) (i + 1)
+  tabled-on h e = seeking-on f [] s (omega (arith, tabled-length bytes)) (ap f (tabled-at bytes i [] h) ∙ e)
+
+  pub tabled-ends : length bytes / 6 ≤ i → false ≡ any f (tabled bytes)
+  tabled-ends h = seeking-ends f s (omega (arith, tabled-length bytes))
+
+-- a loop that writes the list t into bytes, and has written `done`, up to byte at; the rest is left
+pub record Laying (t : List Mono) (bytes : List ℕ) (at : ℕ) (left : List Mono) : Type 0 where
+  pub done : List Mono
+  pub wide : Wide t
+  pub room : 6 * length t ≤ length bytes
+  pub reached : at ≡ 6 * length done
+  pub laid : take at bytes ≡ flat done
+  pub whole : done ++ left ≡ t
+
+pub laying-start : (t : List Mono) (bytes : List ℕ) → Wide t → 6 * length t ≤ length bytes → Laying t bytes 0 t
+unfolding gather
+laying-start t bytes w h = record { done = []; wide = w; room = h; reached = refl; laid = refl; whole = refl }
+
+module _ {t : List Mono} {bytes : List ℕ} {at : ℕ} where
+  -- something is left, so there is room for it
+  pub laying-room : {y : Mono} {left : List Mono} → Laying t bytes at (y ∷ left) → at + 6 ≤ length bytes
+  laying-room {y} {left} w =
+      let all : length (w .done) + length (y ∷ left) ≡ length t = sym (length-append (w .done) (y ∷ left)) ∙ ap length (w .whole) in
+      omega (arith, w .room, w .reached)
+
+  pub laying-put : {y : Mono} {left : List Mono} → Laying t bytes at (y ∷ left) → (x : Mono) → x ≡ y → Laying t (paste bytes at x 6) (at + 6) left
+  unfolding gather
+  laying-put {y} {left} w x e =
+      let h : at + 6 ≤ length bytes = laying-room w in
+      let six : length x ≡ 6 = ap length e ∙ w .wide y (subst (λ (l : List Mono). y ∈ l) (w .whole) (Memᴰ·append-right (w .done) here)) in
+      let more : flat (w .done ++ (y ∷ [])) ≡ flat (w .done) ++ y =
+      gather-append (λ m. m) (w .done) (y ∷ []) ∙ ap (λ (l : List ℕ). flat (w .done) ++ l) (append-nil y) in
+      record {
+        done = w .done ++ (y ∷ []);
+        wide = w .wide;
+        room = omega (arith, w .room, length-paste bytes at x 6 h (omega arith));
+        reached = omega (arith, w .reached, length-append (w .done) (y ∷ []));
+        laid = take-paste bytes at x 6 (omega arith) (omega arith) ∙ ap₂ _++_ (w .laid) (take-all 6 x (omega arith) ∙ e) ∙ sym more;
+        whole = append-snoc (w .done) y left ∙ w .whole;
+      }
+
+  pub laying-end : Laying t bytes at [] → tabled (take at bytes) ≡ t
+  laying-end w =
+      let all : w .done ≡ t = sym (append-nil (w .done)) ∙ w .whole in
+      ap tabled (w .laid ∙ ap flat all) ∙ tabled-flat t (w .wide)
+
+  pub laying-within : {left : List Mono} → Laying t bytes at left → at ≤ 6 * length t
+  laying-within {left} w = omega (arith, w .reached, length-append (w .done) left, ap length (w .whole))
+
+-- ---- two loops that write V2 of the first len places of u into bytes: the outer one has come to the row of a, the inner one to the place of b in it
+pub record Rows (len : ℕ) (u : List Monomial) (bytes : List ℕ) (at a : ℕ) : Type 0 where
+  pub source : len ≤ length u
+  pub few : len ≤ 13
+  pub laying : Laying (products plain (front len u)) bytes at (products plain (drop a (front len u)))
+
+pub record Row (len : ℕ) (u : List Monomial) (bytes : List ℕ) (at a b : ℕ) : Type 0 where
+  pub source : len ≤ length u
+  pub few : len ≤ 13
+  pub laying : Laying (products plain (front len u)) bytes at (map (mul (entry u a)) (drop b (front len u)) ++ products plain (drop (a + 1) (front len u)))
+
+-- V2 of so few has room
+rows-few : (len : ℕ) (u : List Monomial) → len ≤ 13 → len ≤ length u → length (products plain (front len u)) ≤ 91
+rows-few len u h k = products-room plain (front len u) (omega (arith, front-length len u k))
+
+pub rows-start : (len : ℕ) (u : List Monomial) (bytes : List ℕ) → len ≤ 13 → length u ≡ 13 → 546 ≤ length bytes → Fitting 127 (front len u) → Rows len u bytes 0 0
+rows-start len u bytes h k l f =
     let v = front len u in
     let source : len ≤ length u = omega arith in
-    let small : length v ≤ 13 = omega (arith, front-length len u source) in
-    record { source = source; writing = writing-start 91 (products plain v) m l (products-room plain v small) }
+    let wide : Wide (products plain v) = products-wide plain v (λ m. length m ≡ 6) (λ x y p q. pointwise-length _+_ x y (p ∙ sym q) ∙ p) (λ x i. f x i .0) in
+    record { source = source; few = h; laying = laying-start (products plain v) bytes wide (omega (arith, rows-few len u h source)) }
 
-module _ {len : ℕ} {u m : List Monomial} {at a : ℕ} (r : Rows len u m at a) where
-  pub rows-in : a < len → Row len u m at a a
+module _ {len : ℕ} {u : List Monomial} {bytes : List ℕ} {at a : ℕ} (r : Rows len u bytes at a) where
+  pub rows-in : a < len → Row len u bytes at a a
   unfolding products
   rows-in h =
       let v = front len u in
       let next : drop a v ≡ entry u a ∷ drop (a + 1) v = front-drop len u a h (r .source) in
-      record { source = r .source; writing = rw next (rw next at (r .writing)) }
+      record { source = r .source; few = r .few; laying = rw next (rw next at (r .laying)) }
 
-  pub rows-end : len ≤ a → front at m ≡ products plain (front len u)
+  pub rows-end : len ≤ a → tabled (take at bytes) ≡ products plain (front len u)
   unfolding products
-  rows-end h = writing-end (rw (drop-of-length-le (front len u) {i = a} (omega (arith, front-length len u (r .source)))) at (r .writing))
+  rows-end h = laying-end (rw (drop-of-length-le (front len u) {i = a} (omega (arith, front-length len u (r .source)))) at (r .laying))
 
-module _ {len : ℕ} {u m : List Monomial} {at a b : ℕ} (r : Row len u m at a b) where
+  pub rows-within : at ≤ 546
+  rows-within = omega (arith, laying-within (r .laying), rows-few len u (r .few) (r .source))
+
+module _ {len : ℕ} {u : List Monomial} {bytes : List ℕ} {at a b : ℕ} (r : Row len u bytes at a b) where
   -- a product is left to be written
   left : b < len
-      → Writing 91 (products plain (front len u)) m at
+      → Laying (products plain (front len u)) bytes at
       (mul (entry u a) (entry u b) ∷ (map (mul (entry u a)) (drop (b + 1) (front len u)) ++ products plain (drop (a + 1) (front len u))))
-  left h = rw (front-drop len u b h (r .source)) at (r .writing)
+  left h = rw (front-drop len u b h (r .source)) at (r .laying)
 
-  pub row-room : b < len → at < 91
-  row-room h = writing-room (left h)
+  pub row-room : b < len → at + 6 ≤ length bytes
+  row-room h = laying-room (left h)
 
-  pub row-put : (x : Monomial) → b < len → x .e ≡ mul (entry u a) (entry u b) → Row len u (set m at x) (at + 1) a (b + 1)
-  row-put x h e = record { source = r .source; writing = writing-put x (left h) e }
+  pub row-within : at ≤ 546
+  row-within = omega (arith, laying-within (r .laying), rows-few len u (r .few) (r .source))
 
-  pub row-out : len ≤ b → Rows len u m at (a + 1)
+  pub row-put : (x : Mono) → b < len → x ≡ mul (entry u a) (entry u b) → (now : List ℕ) → now ≡ paste bytes at x 6 → Row len u now (at + 6) a (b + 1)
+  row-put x h e now w = rw w (record { source = r .source; few = r .few; laying = laying-put (left h) x e })
+
+  pub row-out : len ≤ b → Rows len u bytes at (a + 1)
   row-out h =
       record {
         source = r .source;
-        writing = rw (drop-of-length-le (front len u) {i = b} (omega (arith, front-length len u (r .source)))) at (r .writing);
+        few = r .few;
+        laying = rw (drop-of-length-le (front len u) {i = b} (omega (arith, front-length len u (r .source)))) at (r .laying);
       }
 
   -- the product of two entries fits

@@ -4,6 +4,7 @@ use mathlib.Core.List.{List}
 use Prim.Native.Nat.{_/_}
 use native.Mathlib.Omega.{arith}
 use lib.ListN.{length}
+use lib.Seq.{length-take-le}
 use Rattle.monomial.specs.Monomial.{Mono}
 use Rattle.wiring.specs.Sets.{monomialsOf}
 use Rattle.wiring.specs.Terms.{records, system}
@@ -19,7 +20,6 @@ use Rattle.wiring.proofs.answers.Laws.{first-as, first-some, first-none}
 use Rattle.walk.specs.Turns.{Tells}
 use Rattle.walk.proofs.walk.Laws.{open-spent, open-none, open-stops, picked-choice, signals-fit}
 use borrow.Author.Needs.{needs}
-use borrow.Author.Needs.{needs}
 use Rattle.walk.proofs.walk.judge.Statement.{statement}
 use Rattle.walk.proofs.walk.judge.Tie as tie
 
@@ -29,35 +29,46 @@ returns c =
     let a = c .before .before .before .before .args in
     open-spent (a .f .n) (system (records (a .terms .now))) (a .f .level) (a .f .limit) (length (a .out .now) / 36) (a .st .steps) finds (monomialsOf (a .set)) d p (omega arith)
 
-add-t16 : tie.Need-add-t16
-add-t16 c = search needs
+add-t17 : tie.Need-add-t17
+add-t17 c = search needs
 
 signals-of-requires : tie.Need-signals-of-requires
 signals-of-requires c κs =
     let p = c .before .before .before .before .pre in
     (p .few, omega (arith, p .within, p .low))
 
+slice-aggregate-products-of : tie.Need-slice-aggregate-products-of
+slice-aggregate-products-of c = search needs
+
 products-of-requires : tie.Need-products-of-requires
 products-of-requires c κs =
-    let s = c .before .before .before .before .before in
-    let v = c .signals-of .ensures in
-    (omega (arith, s .pre .within, s .pre .low, s .pre .few), signals-fit 127 (s .args .f .n) _ _ (omega arith) (v .0) (s .pre .walked))
+    let s = c .before .before .before .before .before .before in
+    let v = c .before .signals-of .ensures in
+    (omega (arith, s .pre .within, s .pre .low, s .pre .few), (signals-fit 127 (s .args .f .n) _ _ (omega arith) (v .0) (s .pre .walked), omega arith))
+
+array-share-prefix-table : tie.Need-array-share-prefix-table
+array-share-prefix-table c = omega (arith, c .before .products-of .kept .1 .0, c .before .products-of .ensures .1)
+
+slice-aggregate-first-unmet : tie.Need-slice-aggregate-first-unmet
+slice-aggregate-first-unmet c =
+    let made = c .before .before .products-of in
+    sym (length-take-le (made .result) (made .last .1 .0) (omega (arith, made .kept .1 .0, made .ensures .1)))
 
 first-unmet-requires : tie.Need-first-unmet-requires
 first-unmet-requires c κs =
-    let s = c .before .before .before .before .before .before in
-    let v = c .before .signals-of .ensures in
-    let sq = c .products-of .ensures in (
+    let s = c .before .before .before .before .before .before .before .before .before in
+    let v = c .before .before .before .before .signals-of .ensures in
+    let sq = c .before .before .products-of .ensures in (
       s .pre .clean,
       (
         omega (arith, s .pre .within, s .pre .low, s .pre .few),
-        (omega arith, (signals-fit 72 (s .args .f .n) _ _ (omega arith) (v .0) (s .pre .walked), (sq .1, sq .0))),
+        (omega arith, (signals-fit 72 (s .args .f .n) _ _ (omega arith) (v .0) (s .pre .walked), sq .0)),
       ),
     )
 
 found-requires : tie.Need-found-requires
 found-requires c κs =
-    let p = c .before .before .before .before .before .before .before .before .before .before .pre in
+    let p = c .before .before .before .before .before .before .before .before .before .before .before .before .before .pre in
     record { recorded = p .walked .recorded; sheet = p .sheet }
 
 same-length : tie.Need-same-length
@@ -66,12 +77,12 @@ same-length c = c .before .before .found .kept .0
 returns-2 : tie.Need-returns-2
 returns-2 c =
     λ d finds p sh.
-    let s = c .before .before .before .before .before .before .before .before .before .before .before .before .before in
+    let s = c .before .before .before .before .before .before .before .before .before .before .before .before .before .before .before .before in
     let a = s .args in
     let m = monomialsOf (a .set) in
     let fs = system (records (a .terms .now)) in
     let size = s .pre .size in
-    let v = c .before .before .before .before .before .before .before .before .signals-of .ensures in
+    let v = c .before .before .before .before .before .before .before .before .before .before .before .signals-of .ensures in
     let long = signals-length (a .f .n) m (s .pre .few) in
     let at = c .before .before .before .before .before .before .first-unmet .result in
     let first = first-as (a .f .n) fs m _ at (v .0) (c .before .before .before .before .before .before .first-unmet .ensures) in
@@ -82,12 +93,12 @@ returns-2 c =
 returns-3 : tie.Need-returns-3
 returns-3 c =
     λ d finds p sh.
-    let s = c .before .before .before .before .before .before .before .before .before .before .before .before in
+    let s = c .before .before .before .before .before .before .before .before .before .before .before .before .before .before .before in
     let a = s .args in
     let m = monomialsOf (a .set) in
     let fs = system (records (a .terms .now)) in
     let size = s .pre .size in
-    let v = c .before .before .before .before .before .before .before .signals-of .ensures in
+    let v = c .before .before .before .before .before .before .before .before .before .before .signals-of .ensures in
     let long = signals-length (a .f .n) m (s .pre .few) in
     let at = c .before .before .before .before .before .first-unmet .result in
     let first = first-as (a .f .n) fs m _ at (v .0) (c .before .before .before .before .before .first-unmet .ensures) in
@@ -98,36 +109,46 @@ returns-3 c =
       is = open-stops (a .f .n) fs (a .f .level) (a .f .limit) (length (a .out .now) / 36) (a .st .steps) finds m d p (omega arith) some (omega arith);
     }
 
+array-share-prefix-table-2 : tie.Need-array-share-prefix-table-2
+array-share-prefix-table-2 c =
+    let made = c .before .before .before .before .before .before .before .before .products-of in
+    omega (arith, made .kept .1 .0, made .ensures .1)
+
+slice-aggregate-choose : tie.Need-slice-aggregate-choose
+slice-aggregate-choose c =
+    let made = c .before .before .before .before .before .before .before .before .before .products-of in
+    sym (length-take-le (made .result) (made .last .1 .0) (omega (arith, made .kept .1 .0, made .ensures .1)))
+
 choose-requires : tie.Need-choose-requires
 choose-requires c κs =
-    let s = c .before .before .before .before .before .before .before .before .before .before .before .before in
-    let v = c .before .before .before .before .before .before .before .signals-of .ensures in
-    let sq = c .before .before .before .before .before .before .products-of .ensures in (
+    let s = c .before .before .before .before .before .before .before .before .before .before .before .before .before .before .before .before in
+    let v = c .before .before .before .before .before .before .before .before .before .before .before .signals-of .ensures in
+    let sq = c .before .before .before .before .before .before .before .before .before .products-of .ensures in (
       s .pre .clean,
       (
         omega (arith, s .pre .within, s .pre .low, s .pre .few),
-        (signals-fit 72 (s .args .f .n) _ _ (omega arith) (v .0) (s .pre .walked), (sq .1, sq .0)),
+        (signals-fit 72 (s .args .f .n) _ _ (omega arith) (v .0) (s .pre .walked), sq .0),
       ),
     )
 
 returns-4 : tie.Need-returns-4
 returns-4 c =
-    let s = c .before .before .before .before .before .before .before .before .before .before .before .before .before .before in
+    let s = c .before .before .before .before .before .before .before .before .before .before .before .before .before .before .before .before .before .before in
     let a = s .args in
     let m = monomialsOf (a .set) in
     let fs = system (records (a .terms .now)) in
     let size = s .pre .size in
-    let v = c .before .before .before .before .before .before .before .before .before .signals-of .ensures in
+    let v = c .before .before .before .before .before .before .before .before .before .before .before .before .before .signals-of .ensures in
     let long = signals-length (a .f .n) m (s .pre .few) in
-    let at = c .before .before .before .before .before .before .before .first-unmet .result in
-    let first = first-as (a .f .n) fs m _ at (v .0) (c .before .before .before .before .before .before .before .first-unmet .ensures) in
+    let at = c .before .before .before .before .before .before .before .before .first-unmet .result in
+    let first = first-as (a .f .n) fs m _ at (v .0) (c .before .before .before .before .before .before .before .before .first-unmet .ensures) in
     let there = is→T (some (missing (a .f .n) fs m)) (first-some (a .f .n) fs m at first (omega arith)) in
     let p = c .before .choose .result in
     let picked = subst (λ (l : List Mono). Picked (nonsquares plain l (derivative fs)) p) (v .0) (c .before .choose .ensures) in
     let choice = picked-choice (missing (a .f .n) fs m) p there picked in
     record {
-      taken = omega (arith, c .before .before .before .before .before .before .before .before .before .before .if1 .left);
-      below = omega (arith, c .before .before .if3 .left);
+      taken = omega (arith, c .before .before .before .before .before .before .before .before .before .before .before .before .before .before .if1 .left);
+      below = omega (arith, c .before .before .before .if3 .left);
       first = choice .first;
       others = choice .others;
       are = choice .are;
@@ -140,13 +161,18 @@ judge-spec =
     tie.close
     (tie.spec
     returns
-    add-t16
+    add-t17
     signals-of-requires
+    slice-aggregate-products-of
     products-of-requires
+    array-share-prefix-table
+    slice-aggregate-first-unmet
     first-unmet-requires
     found-requires
     same-length
     returns-2
     returns-3
+    array-share-prefix-table-2
+    slice-aggregate-choose
     choose-requires
     returns-4)

@@ -5,6 +5,7 @@ use Prim.Native.Nat.{ℕ, _≤_}
 use native.Mathlib.Omega.{arith}
 use borrow.Author.Needs.{needs}
 use lib.ListN.{length}
+use lib.Seq.{length-take-le}
 use Rattle.monomial.specs.Monomial.{Mono}
 use Rattle.wiring.specs.Signals.{signals, Fitting}
 use Rattle.wiring.specs.Sets.{monomialsOf}
@@ -25,27 +26,38 @@ signals-of-requires c κs =
     let p = c .before .pre in
     (p .1 .0, p .1 .1 .0)
 
+slice-aggregate-products-of : tie.Need-slice-aggregate-products-of
+slice-aggregate-products-of c = search needs
+
 products-of-requires : tie.Need-products-of-requires
 products-of-requires c κs =
-    let s = c .before .before in
-    let v = c .signals-of .ensures in
-    (omega arith, fits-as 127 (s .args .n) _ _ (omega arith) (v .0) (s .pre .1 .1 .1))
+    let s = c .before .before .before in
+    let v = c .before .signals-of .ensures in
+    (omega arith, (fits-as 127 (s .args .n) _ _ (omega arith) (v .0) (s .pre .1 .1 .1), omega arith))
+
+array-share-prefix-table : tie.Need-array-share-prefix-table
+array-share-prefix-table c = omega (arith, c .before .products-of .kept .1 .0, c .before .products-of .ensures .1)
+
+slice-aggregate-first-unmet : tie.Need-slice-aggregate-first-unmet
+slice-aggregate-first-unmet c =
+    let made = c .before .before .products-of in
+    sym (length-take-le (made .result) (made .last .1 .0) (omega (arith, made .kept .1 .0, made .ensures .1)))
 
 first-unmet-requires : tie.Need-first-unmet-requires
 first-unmet-requires c κs =
-    let s = c .before .before .before in
-    let v = c .before .signals-of .ensures in
-    let sq = c .products-of .ensures in
-    (s .pre .0, (omega arith, (omega arith, (fits-as 72 (s .args .n) _ _ (omega arith) (v .0) (s .pre .1 .1 .1), (sq .1, sq .0)))))
+    let s = c .before .before .before .before .before .before in
+    let v = c .before .before .before .before .signals-of .ensures in
+    let sq = c .before .before .products-of .ensures in
+    (s .pre .0, (omega arith, (omega arith, (fits-as 72 (s .args .n) _ _ (omega arith) (v .0) (s .pre .1 .1 .1), sq .0))))
 
 returns : tie.Need-returns
 returns c =
-    let s = c .before .before .before .before .before .before in
+    let s = c .before .before .before .before .before .before .before .before .before in
     let m = monomialsOf (s .args .set) in
     let fs = system (records (s .args .terms .now)) in
     let room : length (s .args .set .m) ≡ 6 = search (needs, array-length) in
     let size : s .args .set .len ≡ length m = sym (front-length (s .args .set .len) (s .args .set .m) (omega arith)) in
-    let v = c .before .before .before .before .signals-of .ensures in
+    let v = c .before .before .before .before .before .before .before .signals-of .ensures in
     let long = signals-length (s .args .n) m (omega arith) in
     let at = c .before .before .first-unmet .result in
     let first = first-as (s .args .n) fs m _ at (v .0) (c .before .before .first-unmet .ensures) in
@@ -53,12 +65,12 @@ returns c =
 
 returns-2 : tie.Need-returns-2
 returns-2 c =
-    let s = c .before .before .before .before .before .before in
+    let s = c .before .before .before .before .before .before .before .before .before in
     let m = monomialsOf (s .args .set) in
     let fs = system (records (s .args .terms .now)) in
     let room : length (s .args .set .m) ≡ 6 = search (needs, array-length) in
     let size : s .args .set .len ≡ length m = sym (front-length (s .args .set .len) (s .args .set .m) (omega arith)) in
-    let v = c .before .before .before .before .signals-of .ensures in
+    let v = c .before .before .before .before .before .before .before .signals-of .ensures in
     let long = signals-length (s .args .n) m (omega arith) in
     let at = c .before .before .first-unmet .result in
     let first = first-as (s .args .n) fs m _ at (v .0) (c .before .before .first-unmet .ensures) in
@@ -67,4 +79,12 @@ returns-2 c =
 pub judge-spec : {M : Type 1} → statement M
 judge-spec =
     tie.close
-    (tie.spec signals-of-requires products-of-requires first-unmet-requires returns returns-2)
+    (tie.spec
+    signals-of-requires
+    slice-aggregate-products-of
+    products-of-requires
+    array-share-prefix-table
+    slice-aggregate-first-unmet
+    first-unmet-requires
+    returns
+    returns-2)

@@ -30,10 +30,10 @@ element-copy-out-z c = search needs
 
 choose-in-requires : tie.Need-choose-in-requires Inv-loop μ-loop
 choose-in-requires c κs =
-    let s = c .before .before .before .before in
+    let s = c .before .before .before .before .before in
     let room : length (s .args .t2 .m) ≡ 13 = search (needs, array-length) in
     let fits = entry-fits 72 (s .args .t2 .len) (s .args .t2 .m) (c .before .before .loop .j) (omega arith) (omega arith) (s .pre .1 .1 .0) in
-    (s .pre .0, (fits, s .pre .1 .1 .1 .0))
+    (s .pre .0, fits)
 
 add-j : tie.Need-add-j Inv-loop μ-loop
 add-j c = search needs
@@ -43,7 +43,7 @@ loop-less c = search needs
 
 loop-again : tie.Need-loop-again Inv-loop μ-loop
 loop-again c =
-    let s = c .before .before .before .before .before in
+    let s = c .before .before .before .before .before .before in
     let v = s .args .t2 in
     let k = c .before .before .before .loop in
     let room : length (v .m) ≡ 13 = search (needs, array-length) in
@@ -52,12 +52,12 @@ loop-again c =
     let more = c .choose-in .ensures (signalsOf v) in (
       k .inv .0,
       choosing-next (signalsOf v) (derivative (system (records (s .args .terms .now)))) (k .j) (k .best) _ _ (k .inv .1) (omega arith) here
-          (λ l b. more l (s .pre .1 .1 .1 .1) b),
+          (λ l b. more l (s .pre .1 .1 .1) b),
     )
 
 returns : tie.Need-returns Inv-loop μ-loop
 returns c =
-    let s = c .before .before .before in
+    let s = c .before .before .before .before in
     let v = s .args .t2 in
     let k = c .before .loop in
     let room : length (v .m) ≡ 13 = search (needs, array-length) in

@@ -10,7 +10,7 @@ use Rattle.wiring.specs.Derivative.{image, offers}
 use Rattle.wiring.specs.Terms.{recordAt, records, system}
 use Rattle.wiring.proofs.terms.Laws.{records-length}
 use mathlib.Core.List.{List, _++_}
-use Rattle.wiring.specs.Signals.{productsOf}
+use Rattle.wiring.specs.Signals.{tabled}
 use Rattle.wiring.specs.Choice.{cheaper}
 use Rattle.wiring.proofs.choice.Laws.{cheap-order}
 use Rattle.wiring.proofs.quadratic.Records.{outside, passing-unmet, at-record, Meeting, meeting-start, meeting-same, meeting-more, meeting-ends}
@@ -19,7 +19,7 @@ use Rattle.wiring.proofs.quadratic.choose_in.Statement.{statement}
 use Rattle.wiring.proofs.quadratic.choose_in.Tie as tie
 
 abbrev Inv-loop : tie.InvT-loop
-Inv-loop terms z sq count best₀ t₀ best t = (count ≡ length terms / 12) × Meeting (outside (productsOf sq)) (records terms) (z .e) cheap-order best₀ t best
+Inv-loop terms z sq count best₀ t₀ best t = (count ≡ length terms / 12) × Meeting (outside (tabled sq)) (records terms) (z .e) cheap-order best₀ t best
 
 abbrev μ-loop : tie.MeasureT-loop
 μ-loop terms z sq count best₀ t₀ best t = count - t
@@ -29,7 +29,7 @@ loop-holds c = (refl, meeting-start _ _ _ cheap-order _)
 
 missing-requires : tie.Need-missing-requires Inv-loop μ-loop
 missing-requires c κs =
-    let s = c .before .before .before in
+    let s = c .before .before .before .before in
     (s .pre .0, (omega arith, s .pre .1))
 
 cheapest-requires : tie.Need-cheapest-requires Inv-loop μ-loop
@@ -43,10 +43,10 @@ loop-less c = search needs
 
 loop-again : tie.Need-loop-again Inv-loop μ-loop
 loop-again c =
-    let a = c .before .before .before .before .before .args in
+    let a = c .before .before .before .before .before .before .args in
     let l = a .terms .now in
     let k = c .before .before .before .loop in
-    let f = offers (outside (productsOf (a .sq))) (system (records l)) (a .z .e) in
+    let f = offers (outside (tabled (a .sq .now))) (system (records l)) (a .z .e) in
     let told = at-record f l (k .t) (omega arith) ∙ sym (c .before .missing .ensures .told) in
     let few : k .t < length (records l) = omega (arith, records-length l) in (
       k .inv .0,
@@ -54,21 +54,21 @@ loop-again c =
           (λ w.
           let same-image = at-record (λ r. image r (a .z .e)) l (k .t) (omega arith) ∙ sym (c .before .missing .ensures .is (w .0 .taken)) in
           rw (w .2)
-          (meeting-more (outside (productsOf (a .sq))) (records l) (a .z .e) cheap-order _ (k .t) (k .best) _ (recordAt l (k .t)) (k .inv .1) few (told ∙ w .0 .taken)
+          (meeting-more (outside (tabled (a .sq .now))) (records l) (a .z .e) cheap-order _ (k .t) (k .best) _ (recordAt l (k .t)) (k .inv .1) few (told ∙ w .0 .taken)
           (λ m b. rw same-image (w .1 .ensures m b))))
-          (λ w. rw (w .1) (meeting-same (outside (productsOf (a .sq))) (records l) (a .z .e) cheap-order _ (k .t) (k .best) (recordAt l (k .t)) (k .inv .1) few (told ∙ w .0 .left)))
+          (λ w. rw (w .1) (meeting-same (outside (tabled (a .sq .now))) (records l) (a .z .e) cheap-order _ (k .t) (k .best) (recordAt l (k .t)) (k .inv .1) few (told ∙ w .0 .left)))
           (c .if1 .came),
     )
 
 returns : tie.Need-returns Inv-loop μ-loop
 returns c =
-    let a = c .before .before .before .args in
+    let a = c .before .before .before .before .args in
     let r = records (a .terms .now) in
     let k = c .before .loop in
     let few : length r ≤ k .t = omega (arith, records-length (a .terms .now)) in
     λ v l e b.
-    subst (λ (p : List Mono). Best cheaper (p ++ l) (k .best)) (passing-unmet (productsOf (a .sq)) v r (a .z .e) e)
-    (meeting-ends (outside (productsOf (a .sq))) r (a .z .e) cheap-order _ (k .t) (k .best) (k .inv .1) few l b)
+    subst (λ (p : List Mono). Best cheaper (p ++ l) (k .best)) (passing-unmet (tabled (a .sq .now)) v r (a .z .e) e)
+    (meeting-ends (outside (tabled (a .sq .now))) r (a .z .e) cheap-order _ (k .t) (k .best) (k .inv .1) few l b)
 
 pub choose-in-spec : {M : Type 1} → statement M
 choose-in-spec =

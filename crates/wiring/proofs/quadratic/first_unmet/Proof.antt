@@ -29,7 +29,7 @@ abbrev μ-loop : tie.MeasureT-loop
 μ-loop terms sq v len j₀ j = len - j
 
 loop-holds : tie.Need-loop-holds Inv-loop μ-loop
-loop-holds c = (refl, placing-start _ (signalsOf (c .before .args .t2)))
+loop-holds c = (refl, placing-start _ (signalsOf (c .before .before .args .t2)))
 
 mul-z : tie.Need-mul-z Inv-loop μ-loop
 mul-z c = search needs
@@ -39,20 +39,20 @@ element-copy-out-z c = search needs
 
 has-nonsquare-requires : tie.Need-has-nonsquare-requires Inv-loop μ-loop
 has-nonsquare-requires c κs =
-    let s = c .before .before .before .before in
+    let s = c .before .before .before .before .before in
     let room : length (s .args .t2 .m) ≡ 13 = search (needs, array-length) in
     let fits = entry-fits 72 (s .args .t2 .len) (s .args .t2 .m) (c .before .before .loop .j) (omega arith) (omega arith) (s .pre .1 .1 .1 .0) in
-    (s .pre .0, (fits, s .pre .1 .1 .1 .1 .0))
+    (s .pre .0, fits)
 
 returns : tie.Need-returns Inv-loop μ-loop
 returns c =
-    let s = c .before .before .before .before .before .before in
+    let s = c .before .before .before .before .before .before .before in
     let v = s .args .t2 in
     let k = c .before .before .before .before .loop in
     let room : length (v .m) ≡ 13 = search (needs, array-length) in
     let f = bad (s .args .terms .now) (signalsOf v) in
     let long = front-length (v .len) (v .m) (omega arith) in
-    let here = ap f (front-at (v .len) (v .m) (k .j) [] (omega arith) (omega arith)) ∙ sym (c .before .has-nonsquare .ensures (signalsOf v) (s .pre .1 .1 .1 .1 .1)) ∙ c .if1 .taken in
+    let here = ap f (front-at (v .len) (v .m) (k .j) [] (omega arith) (omega arith)) ∙ sym (c .before .has-nonsquare .ensures (signalsOf v) (s .pre .1 .1 .1 .1)) ∙ c .if1 .taken in
     placing-found f [] (k .inv .1) (omega arith) here
 
 add-j : tie.Need-add-j Inv-loop μ-loop
@@ -63,19 +63,19 @@ loop-less c = search needs
 
 loop-again : tie.Need-loop-again Inv-loop μ-loop
 loop-again c =
-    let s = c .before .before .before .before .before .before in
+    let s = c .before .before .before .before .before .before .before in
     let v = s .args .t2 in
     let k = c .before .before .before .before .loop in
     let room : length (v .m) ≡ 13 = search (needs, array-length) in
     let f = bad (s .args .terms .now) (signalsOf v) in
     let long = front-length (v .len) (v .m) (omega arith) in
     let not-here = ap f (front-at (v .len) (v .m) (k .j) [] (omega arith) (omega arith)) ∙ sym
-    (c .before .has-nonsquare .ensures (signalsOf v) (s .pre .1 .1 .1 .1 .1)) ∙ c .if1 .left in
+    (c .before .has-nonsquare .ensures (signalsOf v) (s .pre .1 .1 .1 .1)) ∙ c .if1 .left in
     (k .inv .0, placing-on f [] (k .inv .1) (omega arith) not-here)
 
 returns-2 : tie.Need-returns-2 Inv-loop μ-loop
 returns-2 c =
-    let s = c .before .before .before in
+    let s = c .before .before .before .before in
     let v = s .args .t2 in
     let k = c .before .loop in
     let room : length (v .m) ≡ 13 = search (needs, array-length) in

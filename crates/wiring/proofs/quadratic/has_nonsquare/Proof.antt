@@ -5,7 +5,7 @@ use native.Mathlib.Omega.{arith}
 use lib.ListN.{length}
 use Rattle.monomial.proofs.Loops.{Seeking, seeking-start, seeking-found, seeking-on, seeking-ends}
 use Rattle.wiring.specs.Derivative.{offers}
-use Rattle.wiring.specs.Signals.{productsOf}
+use Rattle.wiring.specs.Signals.{tabled}
 use Rattle.wiring.specs.Terms.{recordAt, records, system}
 use Rattle.wiring.proofs.terms.Laws.{records-length}
 use Rattle.wiring.proofs.quadratic.Records.{outside, found-unmet, at-record}
@@ -14,29 +14,29 @@ use Rattle.wiring.proofs.quadratic.has_nonsquare.Statement.{statement}
 use Rattle.wiring.proofs.quadratic.has_nonsquare.Tie as tie
 
 abbrev Inv-loop : tie.InvT-loop
-Inv-loop terms z sq count t₀ t = (count ≡ length terms / 12) × Seeking (offers (outside (productsOf sq)) (system (records terms)) (z .e)) (records terms) t
+Inv-loop terms z sq count t₀ t = (count ≡ length terms / 12) × Seeking (offers (outside (tabled sq)) (system (records terms)) (z .e)) (records terms) t
 
 abbrev μ-loop : tie.MeasureT-loop
 μ-loop terms z sq count t₀ t = count - t
 
 loop-holds : tie.Need-loop-holds Inv-loop μ-loop
 loop-holds c =
-    let l = c .before .args .terms .now in
+    let l = c .before .before .args .terms .now in
     (refl, seeking-start _ (records l))
 
 missing-requires : tie.Need-missing-requires Inv-loop μ-loop
 missing-requires c κs =
-    let s = c .before .before .before in
+    let s = c .before .before .before .before in
     (s .pre .0, (omega arith, s .pre .1))
 
 returns : tie.Need-returns Inv-loop μ-loop
 returns c =
-    let a = c .before .before .before .before .before .args in
+    let a = c .before .before .before .before .before .before .args in
     let l = a .terms .now in
     let k = c .before .before .before .loop in
-    let f = offers (outside (productsOf (a .sq))) (system (records l)) (a .z .e) in
+    let f = offers (outside (tabled (a .sq .now))) (system (records l)) (a .z .e) in
     let here = at-record f l (k .t) (omega arith) ∙ sym (c .before .missing .ensures .told) ∙ c .if1 .taken in
-    λ v e. seeking-found f (recordAt l (k .t)) (k .inv .1) (omega (arith, records-length l)) here ∙ found-unmet (productsOf (a .sq)) v (records l) (a .z .e) e
+    λ v e. seeking-found f (recordAt l (k .t)) (k .inv .1) (omega (arith, records-length l)) here ∙ found-unmet (tabled (a .sq .now)) v (records l) (a .z .e) e
 
 add-t : tie.Need-add-t Inv-loop μ-loop
 add-t c = search needs
@@ -46,20 +46,20 @@ loop-less c = search needs
 
 loop-again : tie.Need-loop-again Inv-loop μ-loop
 loop-again c =
-    let a = c .before .before .before .before .before .args in
+    let a = c .before .before .before .before .before .before .args in
     let l = a .terms .now in
     let k = c .before .before .before .loop in
-    let f = offers (outside (productsOf (a .sq))) (system (records l)) (a .z .e) in
+    let f = offers (outside (tabled (a .sq .now))) (system (records l)) (a .z .e) in
     let not-here = at-record f l (k .t) (omega arith) ∙ sym (c .before .missing .ensures .told) ∙ c .if1 .left in
     (k .inv .0, seeking-on f (recordAt l (k .t)) (k .inv .1) (omega (arith, records-length l)) not-here)
 
 returns-2 : tie.Need-returns-2 Inv-loop μ-loop
 returns-2 c =
-    let a = c .before .before .before .args in
+    let a = c .before .before .before .before .args in
     let l = a .terms .now in
     let k = c .before .loop in
-    let f = offers (outside (productsOf (a .sq))) (system (records l)) (a .z .e) in
-    λ v e. seeking-ends f (k .inv .1) (omega (arith, records-length l)) ∙ found-unmet (productsOf (a .sq)) v (records l) (a .z .e) e
+    let f = offers (outside (tabled (a .sq .now))) (system (records l)) (a .z .e) in
+    λ v e. seeking-ends f (k .inv .1) (omega (arith, records-length l)) ∙ found-unmet (tabled (a .sq .now)) v (records l) (a .z .e) e
 
 pub has-nonsquare-spec : {M : Type 1} → statement M
 has-nonsquare-spec =

@@ -1,36 +1,40 @@
--- `is_product` meets its contract: the loop searches the first places of the array (`Searching`). Assumes nothing.
-use mathlib.Core.Path.{_≡_, sym, _∙_}
-use Prim.Native.Nat.{_-_}
+-- `is_product` meets its contract: the loop looks through the monomials of the table (`Seeking`). Assumes nothing.
+use mathlib.Core.Path.{_≡_, refl, sym, ap, _∙_}
+use Prim.Native.Nat.{_/_, _-_}
 use native.Mathlib.Omega.{arith}
 use lib.ListN.{length}
 use Rattle.monomial.specs.Order.{same}
-use Rattle.wiring.proofs.signals.Laws.{array-length, Searching, searching-start, searching-found, searching-on, searching-ends}
+use Rattle.monomial.proofs.Loops.{Seeking, seeking-start}
+use Rattle.wiring.specs.Signals.{tabled}
+use Rattle.wiring.proofs.signals.Laws.{tabled-found, tabled-on, tabled-ends}
 use borrow.Author.Needs.{needs}
 use Rattle.wiring.proofs.signals.is_product.Statement.{statement}
 use Rattle.wiring.proofs.signals.is_product.Tie as tie
 
 abbrev Inv-loop : tie.InvT-loop
-Inv-loop m p len i₀ i = Searching (same (m .e)) len (p .m) i
+Inv-loop table m count i₀ i = (count ≡ length table / 6) × Seeking (same (m .e)) (tabled table) i
 
 abbrev μ-loop : tie.MeasureT-loop
-μ-loop m p len i₀ i = len - i
+μ-loop table m count i₀ i = count - i
 
 loop-holds : tie.Need-loop-holds Inv-loop μ-loop
-loop-holds c =
-    let l : length (c .args .t1 .m) ≡ 91 = search (needs, array-length) in
-    searching-start _ _ _ (omega arith)
+loop-holds c = (refl, seeking-start _ _)
 
-mul-x : tie.Need-mul-x Inv-loop μ-loop
-mul-x c = search needs
+mul-read : tie.Need-mul-read Inv-loop μ-loop
+mul-read c = search needs
 
-element-copy-out-x : tie.Need-element-copy-out-x Inv-loop μ-loop
-element-copy-out-x c = search needs
+read-requires : tie.Need-read-requires Inv-loop μ-loop
+read-requires c κs = omega arith
 
 same-requires : tie.Need-same-requires Inv-loop μ-loop
 same-requires c κs = search needs
 
 returns : tie.Need-returns Inv-loop μ-loop
-returns c = searching-found (c .before .before .before .before .loop .inv) (omega arith) (sym (c .before .same .ensures) ∙ c .if1 .taken)
+returns c =
+    let a = c .before .before .before .before .before .before .args in
+    let k = c .before .before .before .before .loop in
+    let here = ap (same (a .m .e)) (sym (c .before .before .read .ensures)) ∙ sym (c .before .same .ensures) ∙ c .if1 .taken in
+    tabled-found (same (a .m .e)) (a .table .now) (k .inv .1) (omega arith) here
 
 add-i : tie.Need-add-i Inv-loop μ-loop
 add-i c = search needs
@@ -39,10 +43,16 @@ loop-less : tie.Need-loop-less Inv-loop μ-loop
 loop-less c = search needs
 
 loop-again : tie.Need-loop-again Inv-loop μ-loop
-loop-again c = searching-on (c .before .before .before .before .loop .inv) (omega arith) (sym (c .before .same .ensures) ∙ c .if1 .left)
+loop-again c =
+    let a = c .before .before .before .before .before .before .args in
+    let k = c .before .before .before .before .loop in
+    let not-here = ap (same (a .m .e)) (sym (c .before .before .read .ensures)) ∙ sym (c .before .same .ensures) ∙ c .if1 .left in
+    (k .inv .0, tabled-on (same (a .m .e)) (a .table .now) (k .inv .1) (omega arith) not-here)
 
 returns-2 : tie.Need-returns-2 Inv-loop μ-loop
-returns-2 c = searching-ends (c .before .loop .inv) (omega arith)
+returns-2 c =
+    let a = c .before .before .before .args in
+    tabled-ends (same (a .m .e)) (a .table .now) (c .before .loop .inv .1) (omega arith)
 
 pub is-product-spec : {M : Type 1} → statement M
 is-product-spec =
@@ -51,8 +61,8 @@ is-product-spec =
     Inv-loop
     μ-loop
     loop-holds
-    mul-x
-    element-copy-out-x
+    mul-read
+    read-requires
     same-requires
     returns
     add-i
