@@ -11,10 +11,8 @@ use Rattle.wiring.specs.Reply.{Outcome, outcome, refused}
 use Rattle.wiring.specs.Poly.{Poly}
 use Rattle.wiring.specs.Terms.{records, lengthRight, fault, system}
 use Rattle.wiring.specs.Sets.{setRecord}
-use Rattle.wiring.specs.Answers.{countRight}
-use Rattle.wiring.specs.declared.reply.Reply.the-variants.{Done, Setting, Length, Term, Twice, Nothing, Full, Spent}
-use Rattle.wiring.specs.declared.terms.Fault.{Fault}
-use Rattle.wiring.specs.declared.terms.Fault.the-variants.{Clean, Wrong, Repeated}
+use Rattle.wiring.specs.Answers.{countRight, unlessFault}
+use Rattle.wiring.specs.declared.reply.Reply.the-variants.{Done, Setting, Length, Nothing, Full, Spent}
 use Rattle.walk.specs.Walk.{Finds, level, Run, ended, spent, full, run}
 
 -- how planning a system ends: the level, the steps, and for done the sets
@@ -56,15 +54,9 @@ said (spentAt order steps) size = refused (Spent order steps) size
 unfoldable pub settingsRight : ℕ → ℕ → ℕ → Bool
 settingsRight n cap limit = countRight n && leb cap cards && leb 1 limit && leb limit 1000000000
 
--- what is said of the records
-unfoldable pub afterFault : Fault → ℕ → Outcome → Outcome
-afterFault Clean size rest = rest
-afterFault (Wrong place) size rest = refused (Term place) size
-afterFault (Repeated place) size rest = refused (Twice place) size
-
 unfoldable pub planned : ℕ → ℕ → ℕ → List ℕ → ℕ → Outcome
 planned n cap limit terms size =
     let walk = said (plan n (system (records terms)) limit (size / setBytes) cap) size in
-    let read = afterFault (fault n (records terms)) size walk in
+    let read = unlessFault (λ r. refused r size) (fault n (records terms)) walk in
     let long = cond (lengthRight terms) read (refused Length size) in
     cond (settingsRight n cap limit) long (refused Setting size)

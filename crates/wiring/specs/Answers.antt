@@ -31,11 +31,11 @@ unless test answer rest = cond test rest answer
 unfoldable pub countRight : ℕ → Bool
 countRight n = leb 1 n && leb n width
 
--- what is said of the records
-abbrev pub unlessFault : Fault → Reply → Reply
-unlessFault Clean rest = rest
-unlessFault (Wrong place) rest = Term place
-unlessFault (Repeated place) rest = Twice place
+-- a refusal of the records, as it is answered; clean records let the checks go on
+abbrev pub unlessFault : {A : Type 0} → (Reply → A) → Fault → A → A
+unlessFault answer Clean rest = rest
+unlessFault answer (Wrong place) rest = answer (Term place)
+unlessFault answer (Repeated place) rest = answer (Twice place)
 
 module _ (n : ℕ) (fs : List (Poly Mono)) (s : List Mono) where
   abbrev pub missing : List Mono
@@ -59,7 +59,7 @@ recordJudged n fs set = unless (setRight n set) BadSet (judged n fs (setOf set))
 unfoldable pub verdict : ℕ → List ℕ → List ℕ → Reply
 verdict n terms set =
     let last = recordJudged n (system (records terms)) set in
-    let read = unlessFault (fault n (records terms)) last in
+    let read = unlessFault (λ r. r) (fault n (records terms)) last in
     unless (countRight n) Setting (unless (lengthRight terms && eqb (length set) setBytes) Length read)
 
 unfoldable pub checked : ℕ → List ℕ → List ℕ → Numbers

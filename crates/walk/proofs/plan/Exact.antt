@@ -20,7 +20,7 @@ use Rattle.wiring.specs.Signals.{signals}
 use Rattle.wiring.specs.Reply.{numbers, Outcome, outcome, refused}
 use Rattle.wiring.specs.Terms.{records, lengthRight, fault, system}
 use Rattle.wiring.specs.Sets.{setOf, setRecord}
-use Rattle.wiring.specs.Answers.{countRight, checked, wired}
+use Rattle.wiring.specs.Answers.{countRight, unlessFault, checked, wired}
 use Rattle.wiring.specs.declared.reply.Reply.{Reply}
 use Rattle.wiring.specs.declared.reply.Reply.the-variants.{Done, Setting, Length, Term, Twice, Nothing, Full, Spent, BadSet, NotQuadratic}
 use Rattle.wiring.specs.declared.terms.Fault.{Fault}
@@ -31,7 +31,7 @@ use Rattle.wiring.proofs.sets.Exact.{Recordable, record-length, record-set, rec
 use Rattle.wiring.proofs.answers.Exact.{Ranged, beyond, WellFormed, signalsIn, derivativeIn, check-exact}
 use Rattle.wiring.proofs.answers.Wired.{listIn, wire-enough}
 use Rattle.walk.specs.Walk.{Finds, level}
-use Rattle.walk.specs.Plan.{Ending, done, none, fullAt, spentAt, plan, setsBytes, said, settingsRight, afterFault, planned}
+use Rattle.walk.specs.Plan.{Ending, done, none, fullAt, spentAt, plan, setsBytes, said, settingsRight, planned}
 use Rattle.walk.proofs.Runs.{distinct}
 use Rattle.walk.proofs.Stops.{Ends, Lacks, Fills, Spends, Fate, fate, fate-exact, done-exact}
 use Rattle.walk.proofs.Smallest.{Listed, NoneSmaller, none-smaller, Done as Finished, plan-done}
@@ -101,18 +101,17 @@ module _ (n cap limit : ℕ) (terms : List ℕ) (size : ℕ) where
     unfolding planned
     with-length e = rw (range-in n cap limit r, e)
 
-    with-fault : Measured terms → (f : Fault) → fault n (records terms) ≡ f → planned n cap limit terms size ≡ afterFault f size rest
+    with-fault : Measured terms → (f : Fault) → fault n (records terms) ≡ f → planned n cap limit terms size ≡ unlessFault (λ x. refused x size) f rest
     unfolding planned
     with-fault m f e = rw (range-in n cap limit r, length-exact terms .1 m, e)
 
   with-ending : Accepted → (e : Ending) → Fate n fs limit (size / 36) cap e → planned n cap limit terms size ≡ said e size
-  unfolding afterFault
   with-ending a e f =
       with-fault (a .range) (a .measured) Clean (clean-exact n (records terms) beyond .1 (a .flawless))
       ∙ ap (λ (x : Ending). said x size) (fate-exact n fs limit (size / 36) cap e .1 f)
 
   planned-is : (r : Reply) → PlanSays r → planned n cap limit terms size ≡ outcome r (leaves r)
-  unfolding said afterFault
+  unfolding said
   planned-is Setting h = with-setting (nT→is (settingsRight n cap limit) (λ t. h (range-out n cap limit t)))
   planned-is Length h = with-length (h .0) (nT→is (lengthRight terms) (λ t. h .1 (length-exact terms .0 (T→is (lengthRight terms) t))))
   planned-is (Term p) h = with-fault (h .0) (h .1) (Wrong p) (wrong-exact n (records terms) beyond p .1 (h .2))

@@ -24,7 +24,7 @@ use Rattle.walk.specs.declared.walk.State.{State}
 use Rattle.walk.specs.declared.walk.Turn.{Turn}
 use Rattle.walk.specs.declared.walk.Turn.the-variants.{Going, Spent, Full}
 use Rattle.walk.specs.Walk.{Finds, opened, level, Run, ended, spent, full, run}
-use Rattle.walk.specs.Plan.{Ending, done, none, settled, levels, plan, setsBytes, said, settingsRight, afterFault, planned}
+use Rattle.walk.specs.Plan.{Ending, done, none, settled, levels, plan, setsBytes, said, settingsRight, planned}
 use Rattle.walk.specs.Listing.{Shown}
 use Rattle.walk.specs.Turns.{Ended, Tells}
 
@@ -198,17 +198,17 @@ module _ (n cap limit : ℕ) (terms : List ℕ) (size : ℕ) where
       said-length h = rw (e, h, z)
 
       pub said-wrong : lengthRight terms ≡ true → (place : ℕ) → fault n (records terms) ≡ Wrong place → outcome (reply.Term place) zeros ≡ planned n cap limit terms size
-      unfolding planned afterFault
+      unfolding planned
       said-wrong h place q = rw (e, h, q, z)
 
       pub said-repeated : lengthRight terms ≡ true → (place : ℕ) → fault n (records terms) ≡ Repeated place → outcome (reply.Twice place) zeros ≡ planned n cap limit terms size
-      unfolding planned afterFault
+      unfolding planned
       said-repeated h place q = rw (e, h, q, z)
 
   -- what is not refused is walked, in the buffer that was cleared
   pub said-walked : (answer : Outcome) (size' : ℕ) → answer ≡ said (plan n (system (records terms)) limit (size' / 36) cap) size' → size' ≡ size
       → settingsRight n cap limit ≡ true → lengthRight terms ≡ true → fault n (records terms) ≡ Clean → answer ≡ planned n cap limit terms size
-  unfolding planned afterFault
+  unfolding planned
   said-walked answer size' a k e h q = rw (e, h, q, sym k) a
 
 -- zeros are so many zeros as they are long

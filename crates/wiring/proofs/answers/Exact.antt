@@ -95,7 +95,7 @@ module _ (n : ℕ) (terms set : List ℕ) where
 
   -- where n, the lengths and the records are in order, the set record decides
   module _ (r : Ranged n) (l : Lengths terms set) where
-    said-fault : (f : Fault) → fault n (records terms) ≡ f → verdict n terms set ≡ unlessFault f (recordJudged n fs set)
+    said-fault : (f : Fault) → fault n (records terms) ≡ f → verdict n terms set ≡ unlessFault (λ x. x) f (recordJudged n fs set)
     said-fault f e = sym (said-rest n terms set (count-in r) (measured-in l) (l .long) f (sym e))
 
     said-record : Flawless n (records terms) beyond → verdict n terms set ≡ recordJudged n fs set

@@ -111,7 +111,7 @@ module _ (n : ℕ) (terms set : List ℕ) where
     unfolding verdict
     said-set-length h k = rw (e, h, ne-eqb (length set) 36 k)
 
-    pub said-rest : lengthRight terms ≡ true → length set ≡ 36 → (f : Fault) → f ≡ fault n (records terms) → unlessFault f (recordJudged n fs set) ≡ verdict n terms set
+    pub said-rest : lengthRight terms ≡ true → length set ≡ 36 → (f : Fault) → f ≡ fault n (records terms) → unlessFault (λ x. x) f (recordJudged n fs set) ≡ verdict n terms set
     unfolding verdict
     said-rest h k f q = rw (e, h, eq-eqb (length set) 36 k, q)
 
@@ -139,7 +139,7 @@ module _ (n : ℕ) (terms set : List ℕ) where
       go (passed p) = (is→T (setRight n set) p, sym (record-right p) ∙ e)
       go (failed p) = let q : BadSet ≡ Done o c k = sym (record-bad p) ∙ e in let z : _≡_ {A = ℕ} 0 1 = cc in let y : ⊥ = omega arith in absurd y
 
-  accepted-fault : (o c k : ℕ) (f : Fault) (r : Reply) → unlessFault f r ≡ Done o c k → (f ≡ Clean) × (r ≡ Done o c k)
+  accepted-fault : (o c k : ℕ) (f : Fault) (r : Reply) → unlessFault (λ x. x) f r ≡ Done o c k → (f ≡ Clean) × (r ≡ Done o c k)
   accepted-fault o c k Clean r e = (refl, e)
   accepted-fault o c k (Wrong p) r e = let z : _≡_ {A = ℕ} 0 1 = cc in let y : ⊥ = omega arith in absurd y
   accepted-fault o c k (Repeated p) r e = let z : _≡_ {A = ℕ} 0 1 = cc in let y : ⊥ = omega arith in absurd y
