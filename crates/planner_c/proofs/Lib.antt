@@ -1,0 +1,1 @@
+-- The laws stand under the names of the modules of src/.

@@ -1,0 +1,50 @@
+-- What each call leaves is the only thing that its promise allows, and it says as much as the library's reply. Assumes nothing.
+use mathlib.Core.Path.{_≡_, refl, sym, ap, _∙_}
+use mathlib.Core.Logic.{_↔_}
+use mathlib.Core.List.{List}
+use Prim.Native.Nat.{ℕ}
+use lib.ListN.{getD}
+use Rattle.wiring.specs.Reply.{Numbers, numbers, five, inOrder, Outcome, outcome}
+use Rattle.wiring.specs.Answers.{checked, wired}
+use Rattle.wiring.specs.declared.reply.Reply.{Reply}
+use Rattle.walk.specs.Plan.{planned}
+use Rattle.planner_c.specs.Calls.{Answer, answer, given}
+
+-- two answers that a promise allows are equal
+determined : (o : Outcome) (a a' b b' : List ℕ) → answer a b ≡ given o → answer a' b' ≡ given o → (a ≡ a') × (b ≡ b')
+determined o a a' b b' e e' =
+    let both : answer a b ≡ answer a' b' = e ∙ sym e' in
+    (ap (λ (x : Answer). x .five) both, ap (λ (x : Answer). x .bytes) both)
+
+pub siragumon-plan-determined : (n cap limit : ℕ) (terms : List ℕ) (size : ℕ) (a a' b b' : List ℕ)
+    → answer a b ≡ given (planned n cap limit terms size) → answer a' b' ≡ given (planned n cap limit terms size) → (a ≡ a') × (b ≡ b')
+siragumon-plan-determined n cap limit terms size = determined (planned n cap limit terms size)
+
+pub siragumon-check-determined : (n : ℕ) (terms set a a' : List ℕ) → a ≡ inOrder (checked n terms set) → a' ≡ inOrder (checked n terms set) → a ≡ a'
+siragumon-check-determined n terms set a a' e e' = e ∙ sym e'
+
+pub siragumon-wire-determined : (n : ℕ) (terms set : List ℕ) (size : ℕ) (a a' b b' : List ℕ)
+    → answer a b ≡ given (wired n terms set size) → answer a' b' ≡ given (wired n terms set size) → (a ≡ a') × (b ≡ b')
+siragumon-wire-determined n terms set size = determined (wired n terms set size)
+
+-- the numbers that stand in this order
+back : List ℕ → Numbers
+back l = five (getD l 0 0) (getD l 1 0) (getD l 2 0) (getD l 3 0) (getD l 4 0)
+
+there-and-back : (x : Numbers) → back (inOrder x) ≡ x
+unfolding back
+there-and-back x = refl
+
+regain : Answer → Outcome
+regain x = record { said = back (x .five); bytes = x .bytes }
+
+regained : (o : Outcome) → regain (given o) ≡ o
+unfolding regain
+regained o = ap (λ (x : Numbers). record { said = x; bytes = o .bytes }) (there-and-back (o .said))
+
+-- what C gets says a reply exactly where the library's promise allows that reply
+pub given-exact : (r : Reply) (bytes : List ℕ) (o : Outcome) → (answer (inOrder (numbers r)) bytes ≡ given o) ↔ (outcome r bytes ≡ o)
+given-exact r bytes o = (
+  (λ (e : answer (inOrder (numbers r)) bytes ≡ given o). sym (regained (outcome r bytes)) ∙ ap regain e ∙ regained o),
+  λ (e : outcome r bytes ≡ o). ap given e,
+)

@@ -1,0 +1,51 @@
+// The functions that C calls. A slice is a pointer and a length, and the five numbers (code, order, count, steps, place) go to the caller's place.
+// None asks anything of its caller beyond that a slice is one.
+use walk::plan;
+use wiring::answers;
+use wiring::reply;
+ghost use mathlib.Core.Path.{_≡_};
+ghost use lib.ListN.{length};
+ghost use Rattle.wiring.specs.Reply.{inOrder};
+ghost use Rattle.wiring.specs.Answers.{checked, wired};
+ghost use Rattle.walk.specs.Plan.{planned};
+ghost use Rattle.planner_c.specs.Calls.{answer, given};
+
+// Plans: every smallest set in the buffer, or how far the walk got.
+#[no_mangle]
+pub extern "C" fn siragumon_plan(
+    n: u64,
+    cap: u64,
+    limit: u64,
+    terms: &[u8],
+    out: &mut [u8],
+    five: &mut [u64; 5],
+)
+    ensures { λ _. ⌜ answer (now (five .exit)) (now (out .exit)) ≡ given (planned n cap limit (now (terms .entry)) (length (now (out .entry)))) ⌝ }
+{
+    let r = plan::plan(n, cap, limit, terms, out);
+    *five = reply::numbers(r);
+}
+
+// Checks a set, and writes nothing but the five numbers.
+#[no_mangle]
+pub extern "C" fn siragumon_check(n: u64, terms: &[u8], set: &[u8], five: &mut [u64; 5])
+    ensures { λ _. ⌜ now (five .exit) ≡ inOrder (checked n (now (terms .entry)) (now (set .entry))) ⌝ }
+{
+    let r = answers::check(n, terms, set);
+    *five = reply::numbers(r);
+}
+
+// Wires: the list of a quadratic set in the buffer.
+#[no_mangle]
+pub extern "C" fn siragumon_wire(
+    n: u64,
+    terms: &[u8],
+    set: &[u8],
+    out: &mut [u8],
+    five: &mut [u64; 5],
+)
+    ensures { λ _. ⌜ answer (now (five .exit)) (now (out .exit)) ≡ given (wired n (now (terms .entry)) (now (set .entry)) (length (now (out .entry)))) ⌝ }
+{
+    let r = answers::wire(n, terms, set, out);
+    *five = reply::numbers(r);
+}
