@@ -1,8 +1,7 @@
-// The proved planning, from the static library.
+// The proved functions, from the static library. A lent slice is a pointer and a length, as include/planner.h says.
 
 unsafe extern "C" {
-    // A lent slice is a pointer and a length.
-    fn bench_plan(
+    fn siragumon_plan(
         n: u64,
         cap: u64,
         limit: u64,
@@ -12,11 +11,38 @@ unsafe extern "C" {
         out_len: usize,
         five: *mut [u64; 5],
     );
+    fn siragumon_check(n: u64, terms: *const u8, terms_len: usize, set: *const u8, set_len: usize, five: *mut [u64; 5]);
+    fn siragumon_wire(
+        n: u64,
+        terms: *const u8,
+        terms_len: usize,
+        set: *const u8,
+        set_len: usize,
+        out: *mut u8,
+        out_len: usize,
+        five: *mut [u64; 5],
+    );
 }
+
+// In each call the slices and the five numbers are apart and live through it, and nothing more is asked of the caller.
 
 pub fn plan(n: u64, cap: u64, limit: u64, terms: &[u8], out: &mut [u8]) -> [u64; 5] {
     let mut five = [0; 5];
-    // The two slices and the five numbers are apart and live through the call, which asks nothing more of its caller.
-    unsafe { bench_plan(n, cap, limit, terms.as_ptr(), terms.len(), out.as_mut_ptr(), out.len(), &mut five) };
+    unsafe { siragumon_plan(n, cap, limit, terms.as_ptr(), terms.len(), out.as_mut_ptr(), out.len(), &mut five) };
+    five
+}
+
+// The timing takes planning alone.
+#[allow(dead_code)]
+pub fn check(n: u64, terms: &[u8], set: &[u8]) -> [u64; 5] {
+    let mut five = [0; 5];
+    unsafe { siragumon_check(n, terms.as_ptr(), terms.len(), set.as_ptr(), set.len(), &mut five) };
+    five
+}
+
+#[allow(dead_code)]
+pub fn wire(n: u64, terms: &[u8], set: &[u8], out: &mut [u8]) -> [u64; 5] {
+    let mut five = [0; 5];
+    unsafe { siragumon_wire(n, terms.as_ptr(), terms.len(), set.as_ptr(), set.len(), out.as_mut_ptr(), out.len(), &mut five) };
     five
 }

@@ -1,12 +1,12 @@
-// Prints how many bytes of stack the proved planning takes: the stack below is painted, planning runs on it, and then we look how far
-// down the paint is gone. About a hundred bytes of the number are the frame of the caller.
+// Prints how many bytes of stack planning, checking and wiring take: the stack below is painted, the call runs on it, and then we look how
+// far down the paint is gone. About a hundred bytes of each number are the frames of the caller.
 
 mod proved;
 mod systems;
 
 use std::hint::black_box;
 
-// Several times what planning takes, and little enough for any thread.
+// Several times what a call takes, and little enough for any thread.
 const PAINTED: usize = 64 * 1024;
 const PAINT: u8 = 0xa5;
 
@@ -30,25 +30,31 @@ fn left(low: usize) -> usize {
     i
 }
 
-#[inline(never)]
-fn plan(s: &systems::System) -> [u64; 5] {
-    let mut out = [0; 36];
-    proved::plan(s.n, 6, s.limit, s.terms.as_flattened(), &mut out)
+// The reply of a call, and the bytes of stack that it took.
+fn measured(call: &mut dyn FnMut() -> [u64; 5]) -> ([u64; 5], usize) {
+    let low = paint();
+    let five = black_box(call());
+    let used = PAINTED - left(low);
+    assert!(used < PAINTED, "the paint is gone, so the number is not known");
+    (five, used)
 }
 
 fn main() {
-    let mut most = 0;
-    println!("{:<28} {:>5} {:>6}", "variables: system", "order", "bytes");
+    let mut most = [0; 3];
+    println!("{:<28} {:>12} {:>13} {:>12}", "variables: system", "plan: order", "check: code", "wire: code");
     for s in systems::SYSTEMS {
-        let low = paint();
-        let five = black_box(plan(black_box(s)));
-        let used = PAINTED - left(low);
-        if used == PAINTED {
-            println!("{}: the paint is gone, so the number is not known", s.name);
-            std::process::exit(1);
+        let terms = s.terms.as_flattened();
+        let mut sets = vec![0; 36 * 1000];
+        let mut wires = vec![0; 1792];
+        let plan = measured(&mut || proved::plan(s.n, 6, s.limit, black_box(terms), &mut sets));
+        // The first set, or the empty one where planning is not done: the buffer is all zeros then.
+        let set = &sets[..36];
+        let check = measured(&mut || proved::check(s.n, black_box(terms), set));
+        let wire = measured(&mut || proved::wire(s.n, black_box(terms), set, &mut wires));
+        println!("{:<28} {:>4} {:>7} {:>5} {:>7} {:>4} {:>7}", s.name, plan.0[1], plan.1, check.0[0], check.1, wire.0[0], wire.1);
+        for (m, used) in most.iter_mut().zip([plan.1, check.1, wire.1]) {
+            *m = used.max(*m);
         }
-        println!("{:<28} {:>5} {:>6}", s.name, five[1], used);
-        most = most.max(used);
     }
-    println!("bytes of stack at most: {most}");
+    println!("bytes of stack at most: plan {}, check {}, wire {}", most[0], most[1], most[2]);
 }
