@@ -1,0 +1,437 @@
+//! What a batch covers: counts by operation and code, places, kinds of damage,
+//! and how near the cases come to their own limits.
+
+use crate::batch::{Case, Operation};
+use crate::monomial::Monomial;
+use crate::operations::{MOST_CAP, MOST_LIMIT, MOST_VARIABLES};
+use crate::records::{
+    read_set, read_terms, set_faults, set_places, terms_have_a_length, Fields, SET_BYTES,
+    TERM_BYTES, WIRE_BYTES,
+};
+use crate::reply::{Reply, NAMES};
+use crate::system::{Set, System, Term};
+use std::collections::{BTreeMap, BTreeSet};
+
+/// Counts and sets of numbers by name.
+#[derive(Default)]
+pub struct Cover {
+    cases: usize,
+    steps: u64,
+    counts: BTreeMap<String, usize>,
+    numbers: BTreeMap<String, BTreeSet<u64>>,
+}
+
+impl Cover {
+    fn count(&mut self, name: impl Into<String>) {
+        *self.counts.entry(name.into()).or_default() += 1;
+    }
+
+    fn number(&mut self, name: impl Into<String>, number: u64) {
+        self.numbers.entry(name.into()).or_default().insert(number);
+    }
+
+    /// Takes one case into account.
+    pub fn add(&mut self, case: &Case) {
+        let (reply, _) = case.answer();
+        let operation = case.operation.name();
+        self.cases += 1;
+        self.steps += reply.steps;
+        let name = NAMES[reply.code as usize];
+        self.count(format!("{operation}: code {} {name}", reply.code));
+        match reply.code {
+            1 => self.setting(case),
+            2 => self.length(case),
+            3 | 4 => self.record(case, &reply),
+            8 => self.set_rule(case),
+            9 => {
+                self.number(format!("{operation}: places of code 9"), reply.place);
+                let which = format!("code 9, n {}, size {}: places", case.n, reply.order);
+                self.number(which, reply.place);
+            }
+            _ => self.taken(case, &reply),
+        }
+        self.sequence(case, &reply);
+        if let Some((system, set)) = good_input(case) {
+            self.system(case, &system, &set);
+        }
+    }
+
+    fn setting(&mut self, case: &Case) {
+        if !(1..=MOST_VARIABLES).contains(&case.n) {
+            self.number(format!("{}: n refused", case.operation.name()), case.n);
+        }
+        if case.operation == Operation::Plan {
+            if case.cap > MOST_CAP {
+                self.number("plan: K refused", case.cap);
+            }
+            if !(1..=MOST_LIMIT).contains(&case.limit) {
+                self.number("plan: limits refused", case.limit);
+            }
+        }
+    }
+
+    fn length(&mut self, case: &Case) {
+        let operation = case.operation.name();
+        if !terms_have_a_length(&case.terms) {
+            let length = case.terms.len() as u64;
+            self.number(format!("{operation}: lengths of terms refused"), length);
+        }
+        if case.operation != Operation::Plan && case.set.len() != SET_BYTES {
+            let length = case.set.len() as u64;
+            self.number(format!("{operation}: lengths of sets refused"), length);
+        }
+    }
+
+    /// Codes 3 and 4: the place, and what is wrong there.
+    fn record(&mut self, case: &Case, reply: &Reply) {
+        let (code, place) = (reply.code, reply.place);
+        let operation = case.operation.name();
+        self.number(format!("{operation}: places of code {code}"), place);
+        self.number(format!("code {code}: n"), case.n);
+        let records: Vec<Fields> = case.terms.chunks(TERM_BYTES).map(Fields::of).collect();
+        let at = place as usize - 1;
+        let record = records[at];
+        let same = |r: &&Fields| r.equation == record.equation && r.exponents == record.exponents;
+        let earlier = records[..at].iter().find(same);
+        if code == 3 {
+            let kind = broken(&record, case.n as usize);
+            self.number(format!("code 3, {kind}: places"), place);
+            if earlier.is_some() {
+                self.count("code 3: the record is also a repeat");
+            }
+        } else if let Some(earlier) = earlier {
+            let kind = if earlier.coefficient == record.coefficient {
+                "the same"
+            } else {
+                "another"
+            };
+            self.number(format!("code 4, {kind} coefficient: places"), place);
+        }
+        let later = &case.terms[(at + 1) * TERM_BYTES..];
+        if let Err(second) = read_terms(case.n as usize, later) {
+            self.count(format!(
+                "code {code}: a later record has code {}",
+                second.code
+            ));
+        }
+    }
+
+    fn set_rule(&mut self, case: &Case) {
+        let faults = set_faults(case.n as usize, &case.set);
+        let [fault] = faults[..] else {
+            self.count("code 8: several rules broken");
+            return;
+        };
+        self.count(format!("code 8: {fault}"));
+        for (j, monomial) in set_places(&case.set).iter().enumerate() {
+            let Monomial(exponents) = monomial;
+            if fault == "single variable" && monomial.is_variable() {
+                let variable = exponents.iter().position(|&e| e == 1).expect("a variable");
+                self.number("code 8: single variables", variable as u64 + 1);
+                self.number("code 8: single variables' places", j as u64 + 1);
+            }
+            for &exponent in exponents.iter().filter(|&&e| e > 54) {
+                self.number("code 8: exponents above 54", u64::from(exponent));
+            }
+        }
+    }
+
+    /// Codes 0, 5, 6 and 7: how near the case is to its limit and its room.
+    fn taken(&mut self, case: &Case, reply: &Reply) {
+        match case.operation {
+            Operation::Check => self.number("check: sizes of quadratic sets", reply.order),
+            Operation::Plan => self.planned(case, reply),
+            Operation::Wire => self.wired(case, reply),
+        }
+        self.number(format!("{}: n of answers", case.operation.name()), case.n);
+    }
+
+    fn planned(&mut self, case: &Case, reply: &Reply) {
+        let room = (case.buffer / SET_BYTES) as u64;
+        let code = reply.code;
+        self.number(format!("plan: K with code {code}"), case.cap);
+        self.number(format!("plan: orders with code {code}"), reply.order);
+        self.number(
+            "plan: bytes of room that hold no set",
+            case.buffer as u64 % 36,
+        );
+        match (code, case.limit - reply.steps) {
+            (7, _) => {}
+            (_, 0) => self.count(format!("plan: code {code} exactly at the limit")),
+            (_, 1) => self.count(format!("plan: code {code} one step below the limit")),
+            _ => {}
+        }
+        if case.limit == MOST_LIMIT {
+            self.count("plan: the largest limit");
+        }
+        match code {
+            0 => {
+                self.number("plan: counts of sets", reply.count);
+                match room - reply.count {
+                    0 => self.count("plan: room exactly taken"),
+                    1 => self.count("plan: room for one more"),
+                    _ => {}
+                }
+            }
+            6 => {
+                let mut more = case.clone();
+                more.buffer += SET_BYTES;
+                if more.answer().0.code == 0 {
+                    self.count("plan: full, one set short");
+                }
+                if room == 0 {
+                    self.count("plan: full without room");
+                }
+            }
+            7 => self.spent(case, reply),
+            _ => {}
+        }
+    }
+
+    fn spent(&mut self, case: &Case, reply: &Reply) {
+        let mut more = case.clone();
+        more.limit += 1;
+        let code = more.answer().0.code;
+        if code != 7 {
+            self.count(format!("plan: spent one step before code {code}"));
+        }
+        if reply.order > 0 {
+            more.cap = reply.order - 1;
+            let (level, _) = more.answer();
+            if level.code == 5 && level.steps == case.limit {
+                self.count("plan: spent between two levels");
+            }
+        }
+    }
+
+    fn wired(&mut self, case: &Case, reply: &Reply) {
+        if reply.code == 0 {
+            self.number("wire: sizes of quadratic sets", reply.order);
+            self.number("wire: lengths of lists", reply.count);
+            match case.buffer - reply.count as usize * WIRE_BYTES {
+                0 => self.count("wire: list exactly as long as the buffer"),
+                1 => self.count("wire: buffer one byte longer"),
+                _ => {}
+            }
+        } else {
+            let mut more = case.clone();
+            more.buffer += 1;
+            if more.answer().0.code == 0 {
+                self.count("wire: buffer one byte short");
+            }
+        }
+    }
+
+    /// Which fault decides where a case has several.
+    fn sequence(&mut self, case: &Case, reply: &Reply) {
+        for other in all_faults(case) {
+            if other != reply.code {
+                self.count(format!("checks: {} before {other}", reply.code));
+            }
+        }
+    }
+
+    /// What kinds of systems are met.
+    fn system(&mut self, case: &Case, system: &System, set: &Set) {
+        self.number("systems: numbers of records", system.terms.len() as u64);
+        let terms = &system.terms;
+        for term in terms {
+            let tallest = term.monomial.0.iter().max().expect("six exponents");
+            self.number("systems: exponents", u64::from(*tallest));
+            match term.coefficient {
+                1_000_000 => self.count("systems: records with 1000000"),
+                -1_000_000 => self.count("systems: records with -1000000"),
+                _ => {}
+            }
+        }
+        let unused = |i: usize| {
+            let free = |t: &Term| t.equation != i && t.monomial.0[i - 1] == 0;
+            terms.iter().all(free)
+        };
+        if (1..=system.n).any(unused) {
+            self.count("systems: with an unused variable");
+        }
+        let shared = |a: &Term| {
+            let same = |b: &Term| a.monomial == b.monomial && a.equation != b.equation;
+            terms.iter().any(same)
+        };
+        if terms.iter().any(shared) {
+            self.count("systems: with one monomial in two equations");
+        }
+        if set.iter().any(|&z| cancels(system, z)) {
+            let name = case.operation.name();
+            self.count(format!("{name}: a member's derivative cancels"));
+        }
+    }
+
+    /// The report, line by line.
+    pub fn report(&self) -> String {
+        let mut text = format!("{} cases, {} steps\n", self.cases, self.steps);
+        for (name, count) in &self.counts {
+            text += &format!("{name}: {count}\n");
+        }
+        for (name, numbers) in &self.numbers {
+            text += &format!("{name}: {} ({})\n", runs(numbers), numbers.len());
+        }
+        text
+    }
+}
+
+/// The kind of a broken field, finer than the rule it breaks.
+fn broken(record: &Fields, n: usize) -> &'static str {
+    let faults = record.faults(n);
+    let [fault] = faults[..] else {
+        return "several fields";
+    };
+    let tallest = *record.exponents[..n].iter().max().expect("a variable");
+    match fault {
+        "equation beyond n" if usize::from(record.equation) == n + 1 => "equation n + 1",
+        "equation beyond n" if record.equation == 255 => "equation 255",
+        "exponent above 9" if tallest == 10 => "exponent 10",
+        "exponent above 9" if tallest == 255 => "exponent 255",
+        "coefficient beyond a million" => match record.coefficient {
+            1_000_001 => "coefficient 1000001",
+            -1_000_001 => "coefficient -1000001",
+            i32::MIN => "least coefficient",
+            i32::MAX => "most coefficient",
+            _ => fault,
+        },
+        _ => fault,
+    }
+}
+
+/// The system and the set (empty for planning) where both are good.
+fn good_input(case: &Case) -> Option<(System, Set)> {
+    if !(1..=MOST_VARIABLES).contains(&case.n) || !terms_have_a_length(&case.terms) {
+        return None;
+    }
+    let n = case.n as usize;
+    let system = read_terms(n, &case.terms).ok()?;
+    if case.operation == Operation::Plan {
+        return Some((system, Set::new()));
+    }
+    if case.set.len() != SET_BYTES {
+        return None;
+    }
+    Some((system, read_set(n, &case.set).ok()?))
+}
+
+/// The codes of all refusals that the case would give, each rule by itself.
+fn all_faults(case: &Case) -> BTreeSet<u64> {
+    let mut codes = BTreeSet::new();
+    let planning = case.operation == Operation::Plan;
+    let good_n = (1..=MOST_VARIABLES).contains(&case.n);
+    let good_walk = case.cap <= MOST_CAP && (1..=MOST_LIMIT).contains(&case.limit);
+    if !good_n || planning && !good_walk {
+        codes.insert(1);
+    }
+    let good_terms = terms_have_a_length(&case.terms);
+    let good_set = case.set.len() == SET_BYTES;
+    if !good_terms || !planning && !good_set {
+        codes.insert(2);
+    }
+    if !good_n {
+        return codes;
+    }
+    let n = case.n as usize;
+    let whole = case.terms.len() / TERM_BYTES * TERM_BYTES;
+    if let Err(refusal) = read_terms(n, &case.terms[..whole]) {
+        codes.insert(refusal.code);
+    }
+    if !planning && good_set && read_set(n, &case.set).is_err() {
+        codes.insert(8);
+    }
+    if let Some((system, set)) = good_input(case).filter(|_| !planning) {
+        if system.first_not_quadratic(&set).is_some() {
+            codes.insert(9);
+        }
+        let signals = system.signals(&set);
+        let records: usize = signals.iter().map(|&z| system.derivative(z).len()).sum();
+        if case.operation == Operation::Wire && records > case.buffer / WIRE_BYTES {
+            codes.insert(6);
+        }
+    }
+    codes
+}
+
+/// Whether like monomials in the derivative of z add up to nothing.
+fn cancels(system: &System, z: Monomial) -> bool {
+    let fed = |t: &&Term| z.0[t.equation - 1] > 0;
+    let monomials: BTreeSet<Monomial> = system
+        .terms
+        .iter()
+        .filter(fed)
+        .map(|t| z.over(Monomial::variable(t.equation)).times(t.monomial))
+        .collect();
+    system.derivative(z).len() < monomials.len()
+}
+
+/// Numbers as runs: `1-5 7 9-10`.
+fn runs(numbers: &BTreeSet<u64>) -> String {
+    let mut runs: Vec<(u64, u64)> = Vec::new();
+    for &number in numbers {
+        match runs.last_mut() {
+            Some((_, last)) if *last + 1 == number => *last = number,
+            _ => runs.push((number, number)),
+        }
+    }
+    let text = |&(first, last): &(u64, u64)| match first == last {
+        true => first.to_string(),
+        false => format!("{first}-{last}"),
+    };
+    runs.iter().map(text).collect::<Vec<_>>().join(" ")
+}
+
+#[cfg(test)]
+mod tests {
+    use super::*;
+    use crate::notation::{monomial, system, terms};
+    use crate::records::write_terms;
+    use crate::rows::set_of;
+
+    fn report(cases: &[Case]) -> String {
+        let mut cover = Cover::default();
+        cases.iter().for_each(|case| cover.add(case));
+        cover.report()
+    }
+
+    #[test]
+    fn numbers_are_written_as_runs() {
+        let numbers = BTreeSet::from([1, 2, 3, 7, 9, 10]);
+        assert_eq!(runs(&numbers), "1-3 7 9-10");
+        assert_eq!(runs(&BTreeSet::new()), "");
+    }
+
+    #[test]
+    fn limits_and_rooms_are_recognised() {
+        let input = write_terms(&terms("x1' = x1^4 + x1^3"));
+        let plan = |limit, buffer| Case::plan(1, 6, limit, buffer, input.clone());
+        let text = report(&[plan(23, 72), plan(22, 72), plan(24, 108), plan(90, 36)]);
+        for line in [
+            "plan: code 0 done: 2",
+            "plan: code 0 exactly at the limit: 1",
+            "plan: code 0 one step below the limit: 1",
+            "plan: spent one step before code 0: 1",
+            "plan: room exactly taken: 1",
+            "plan: room for one more: 1",
+            "plan: full, one set short: 1",
+        ] {
+            assert!(text.lines().any(|l| l == line), "{line} in\n{text}");
+        }
+    }
+
+    #[test]
+    fn every_fault_of_a_case_is_named() {
+        let wrong = write_terms(&terms("x1' = x1^10"));
+        let case = Case::check(1, wrong, set_of(&["x1"]));
+        assert_eq!(all_faults(&case), BTreeSet::from([3, 8]));
+        assert!(report(&[case]).contains("checks: 3 before 8: 1\n"));
+    }
+
+    #[test]
+    fn cancelling_is_recognised() {
+        let cancel = system(2, "x1' = x1^2 x2; x2' = - x1 x2^2");
+        assert!(cancels(&cancel, monomial("x1 x2")));
+        assert!(!cancels(&cancel, monomial("x1^2 x2")));
+    }
+}

@@ -1,0 +1,573 @@
+//! Random batches. Each group of cases is a small story: a system, what
+//! planning makes of it, and then the cases at and next to its own limits.
+//!
+//! Kinds of damage and places run through in turns, not by chance, so that a
+//! batch of some thousands of cases meets each of them.
+
+use crate::batch::{Case, Operation, MOST_BUFFER_BYTES};
+use crate::damage::{break_set, break_term, Field, FIELDS, WAYS};
+use crate::monomial::Monomial;
+use crate::random::Random;
+use crate::records::{
+    read_set, write_places, write_set, write_terms, MOST_TERMS, SET_BYTES, TERM_BYTES, WIRE_BYTES,
+};
+use crate::system::{Set, System};
+use crate::systems;
+
+/// The first so many cases that a seed gives.
+pub fn batch(seed: u64, count: usize) -> Vec<Case> {
+    let mut maker = Maker {
+        random: Random::from_seed(seed),
+        cases: Vec::new(),
+        deck: Vec::new(),
+        fields: 0,
+        repeats: 0,
+        lengths: 0,
+        settings: 0,
+        sets: 0,
+    };
+    while maker.cases.len() < count {
+        maker.group();
+    }
+    maker.cases.truncate(count);
+    maker.cases
+}
+
+/// A kind of group: it adds one case or several.
+type Group = fn(&mut Maker);
+
+/// How often each kind of group comes in a hundred. With these shares some
+/// 3,500 cases go through every turn, and half of them are stories of a system
+/// or a set.
+const SHARES: [(usize, Group); 11] = [
+    (15, Maker::around_a_plan),
+    (8, Maker::around_a_set),
+    (5, Maker::random_set),
+    (3, Maker::cancelling_set),
+    (28, Maker::broken_field),
+    (13, Maker::repeated_record),
+    (4, Maker::wrong_and_repeated),
+    (5, Maker::bad_length),
+    (5, Maker::bad_setting),
+    (9, Maker::broken_set),
+    (5, Maker::several_faults),
+];
+
+/// The buffer of 224 wiring records that the program lends.
+const PROGRAM_WIRES: usize = 224 * WIRE_BYTES;
+
+/// Numbers of variables beyond the range; some fit it when cut to fewer bits.
+const BAD_N: [u64; 12] = [
+    0,
+    7,
+    8,
+    255,
+    256,
+    257,
+    65_537,
+    1 << 32,
+    (1 << 32) + 2,
+    1 << 63,
+    (1 << 63) + 1,
+    u64::MAX,
+];
+const BAD_CAP: [u64; 8] = [7, 8, 255, 256, 1 << 32, (1 << 32) + 6, 1 << 63, u64::MAX];
+const BAD_LIMIT: [u64; 7] = [
+    0,
+    1_000_000_001,
+    1 << 32,
+    (1 << 32) + 1_000,
+    1 << 63,
+    (1 << 63) + 1_000,
+    u64::MAX,
+];
+const BAD_TERM_LENGTHS: [usize; 15] = [
+    1, 6, 11, 13, 23, 25, 41, 383, 385, 395, 396, 397, 408, 480, 600,
+];
+const BAD_SET_LENGTHS: [usize; 8] = [0, 1, 30, 35, 37, 42, 72, 255];
+
+struct Maker {
+    random: Random,
+    cases: Vec<Case>,
+    deck: Vec<Group>,
+    fields: usize,
+    repeats: usize,
+    lengths: usize,
+    settings: usize,
+    sets: usize,
+}
+
+/// A turn: the counter's value, which moves on.
+fn turn(counter: &mut usize) -> usize {
+    *counter += 1;
+    *counter - 1
+}
+
+impl Maker {
+    /// Takes the next kind of group from a deck that holds each by its share.
+    fn group(&mut self) {
+        if self.deck.is_empty() {
+            for (share, group) in SHARES {
+                self.deck.extend(vec![group; share]);
+            }
+            self.random.shuffle(&mut self.deck);
+        }
+        let group = self.deck.pop().expect("a full deck");
+        group(self);
+    }
+
+    /// A system, a first plan with a generous limit, then some of the cases
+    /// that this plan's own numbers suggest.
+    fn around_a_plan(&mut self) {
+        let system = systems::any(&mut self.random);
+        let cap = match self.random.below(10) {
+            0..=5 => 6,
+            _ => self.random.below(7) as u64,
+        };
+        let generous = self.random.pick(&[300, 1_000, 1_000, 3_000, 3_000, 20_000]);
+        let first = Case::plan(
+            system.n as u64,
+            cap,
+            generous,
+            MOST_BUFFER_BYTES,
+            write_terms(&system.terms),
+        );
+        let (reply, sets) = first.answer();
+        let count = reply.count as usize;
+        if reply.code == 7 {
+            self.spent(&first);
+            return;
+        }
+        self.limits(&first, reply.steps, count);
+        if self.random.chance(40) {
+            self.caps(&first, reply.order, count);
+        }
+        if reply.code == 0 {
+            if count > 1 || self.random.chance(30) {
+                self.rooms(&first, count);
+            }
+            let at = self.random.below(count) * SET_BYTES;
+            let found = read_set(system.n, &sets[at..at + SET_BYTES]).expect("a found set");
+            if self.random.chance(50) {
+                self.with_set(&system, &found);
+            } else {
+                let other = self.another_set(&system, &found);
+                self.with_set(&system, &other);
+            }
+        }
+    }
+
+    /// A buffer for so many sets, sometimes with bytes that hold none.
+    fn buffer(&mut self, sets: usize) -> usize {
+        let odd = match self.random.below(3) {
+            0 => self.random.between(1, 35),
+            _ => 0,
+        };
+        sets * SET_BYTES + odd
+    }
+
+    /// The walk is longer than was allowed: this limit and a shorter one.
+    fn spent(&mut self, first: &Case) {
+        let shorter = self.random.between(1, first.limit as usize) as u64;
+        for limit in [first.limit, shorter] {
+            let room = self.random.below(3);
+            let buffer = self.buffer(room);
+            self.cases.push(Case {
+                limit,
+                buffer,
+                ..first.clone()
+            });
+        }
+    }
+
+    /// Two of: the limit one below, at and one above the walk's own number of
+    /// steps, one that falls within it, and the largest of all.
+    fn limits(&mut self, first: &Case, steps: u64, count: usize) {
+        let within = self.random.between(1, steps as usize) as u64;
+        let mut limits = [
+            steps - 1,
+            steps - 1,
+            steps,
+            steps,
+            steps + 1,
+            within,
+            self.random.pick(&[999_999_999, 1_000_000_000]),
+        ];
+        self.random.shuffle(&mut limits);
+        for limit in &limits[..2] {
+            let more = self.random.below(2);
+            let buffer = self.buffer(count + more);
+            self.cases.push(Case {
+                limit: *limit,
+                buffer,
+                ..first.clone()
+            });
+        }
+    }
+
+    /// A cap below, at or above the order, and a limit that ends exactly where
+    /// a level ends.
+    fn caps(&mut self, first: &Case, order: u64, count: usize) {
+        let buffer = self.buffer(count);
+        let any = self.random.below(7) as u64;
+        let cap = self.random.pick(&[order.saturating_sub(1), order, any]);
+        self.cases.push(Case {
+            cap: cap.min(6),
+            buffer,
+            ..first.clone()
+        });
+        let below = self.random.below(order as usize + 1).min(6) as u64;
+        let level = Case {
+            cap: below,
+            ..first.clone()
+        };
+        let (reply, _) = level.answer();
+        self.cases.push(Case {
+            limit: reply.steps,
+            buffer,
+            ..first.clone()
+        });
+    }
+
+    /// Two of: no room, one place fewer than needed, exactly enough, one more;
+    /// and a limit at or just before the step that finds no room.
+    fn rooms(&mut self, first: &Case, count: usize) {
+        let within = self.random.below(count);
+        let mut rooms = [0, count - 1, count, count + 1, within];
+        self.random.shuffle(&mut rooms);
+        for room in &rooms[..2] {
+            let buffer = self.buffer(*room);
+            self.cases.push(Case {
+                buffer,
+                ..first.clone()
+            });
+        }
+        let full = Case {
+            buffer: within * SET_BYTES,
+            ..first.clone()
+        };
+        let (reply, _) = full.answer();
+        self.cases.push(Case {
+            limit: self.random.pick(&[reply.steps, reply.steps - 1]),
+            ..full
+        });
+    }
+
+    /// A set near a given one: without a member, with another, or changed.
+    fn another_set(&mut self, system: &System, given: &Set) -> Set {
+        let mut members: Vec<Monomial> = given.iter().copied().collect();
+        match self.random.below(3) {
+            0 if !members.is_empty() => {
+                members.remove(self.random.below(members.len()));
+            }
+            1 if !members.is_empty() => {
+                let at = self.random.below(members.len());
+                members[at] = systems::member(&mut self.random, system.n);
+            }
+            _ if members.len() < 6 => members.push(systems::member(&mut self.random, system.n)),
+            _ => {}
+        }
+        members.into_iter().collect()
+    }
+
+    /// Checks a good set record or wires it, around the list's own length.
+    fn with_set(&mut self, system: &System, set: &Set) {
+        let terms = write_terms(&system.terms);
+        let set = write_set(set).to_vec();
+        let n = system.n as u64;
+        let longest = Case::wire(n, terms.clone(), set.clone(), PROGRAM_WIRES);
+        let (reply, _) = longest.answer();
+        if self.random.chance(40) {
+            self.cases.push(Case::check(n, terms.clone(), set.clone()));
+        }
+        let exact = reply.count as usize * WIRE_BYTES;
+        let lengths = [
+            exact,
+            exact.saturating_sub(1),
+            exact + 1,
+            exact.saturating_sub(WIRE_BYTES),
+            exact + self.random.between(2, 40),
+            0,
+            self.random.below(80),
+            PROGRAM_WIRES,
+        ];
+        for _ in 0..self.random.between(1, 2) {
+            let buffer = self.random.pick(&lengths);
+            self.cases
+                .push(Case::wire(n, terms.clone(), set.clone(), buffer));
+        }
+    }
+
+    /// A set, the system made around it, and the same after a change.
+    fn around_a_set(&mut self) {
+        let n = self.random.between(1, 6);
+        let size = self.random.between(0, 6);
+        let (mut system, set) = systems::around_a_set(&mut self.random, n, size);
+        self.with_set(&system, &set);
+        let other = self.another_set(&system, &set);
+        self.with_set(&system, &other);
+        if system.terms.len() < MOST_TERMS && self.random.chance(50) {
+            let extra = systems::run(&mut self.random, n, 1).terms[0];
+            if !system.terms.iter().any(|t| t.repeats(&extra)) {
+                system.terms.push(extra);
+                self.with_set(&system, &set);
+            }
+        }
+    }
+
+    /// A set that has nothing to do with the system.
+    fn random_set(&mut self) {
+        let system = systems::any(&mut self.random);
+        let size = self.random.between(0, 6);
+        let set = systems::set(&mut self.random, system.n, size);
+        self.with_set(&system, &set);
+    }
+
+    fn cancelling_set(&mut self) {
+        let (system, set) = systems::decided_by_cancelling(&mut self.random);
+        self.with_set(&system, &set);
+    }
+
+    /// Any operation on these terms, with an ordinary rest.
+    fn any_operation(&mut self, n: u64, terms: Vec<u8>) -> Case {
+        let operation = self.random.pick(&Operation::ALL);
+        self.operation(operation, n, terms)
+    }
+
+    fn operation(&mut self, operation: Operation, n: u64, terms: Vec<u8>) -> Case {
+        let buffer = self.random.below(100);
+        let size = self.random.below(3);
+        let variables = n.clamp(1, 6) as usize;
+        let set = write_set(&systems::set(&mut self.random, variables, size)).to_vec();
+        match operation {
+            Operation::Plan => {
+                let cap = self.random.below(7) as u64;
+                Case::plan(n, cap, 100, buffer, terms)
+            }
+            Operation::Check => Case::check(n, terms, set),
+            Operation::Wire => Case::wire(n, terms, set, buffer),
+        }
+    }
+
+    /// A run that reaches the place, and now and then goes on after it.
+    fn run_to(&mut self, place: usize, most_variables: usize) -> (usize, Vec<u8>) {
+        let longer = match self.random.below(8) {
+            0 => self.random.between(place, MOST_TERMS),
+            1..=3 => (place + 1).min(MOST_TERMS),
+            _ => place,
+        };
+        let n = self.random.between(1, most_variables);
+        let system = systems::run(&mut self.random, n, longer);
+        (system.n, write_terms(&system.terms))
+    }
+
+    /// Code 3: every field at every place, and every place in every operation.
+    fn broken_field(&mut self) {
+        let turn = turn(&mut self.fields);
+        let place = turn % MOST_TERMS + 1;
+        let field = FIELDS[turn % FIELDS.len()];
+        let most_variables = if field == Field::ExponentBeyond { 5 } else { 6 };
+        let (n, mut terms) = self.run_to(place, most_variables);
+        break_term(&mut self.random, &mut terms, n, place, field);
+        let case = self.operation(Operation::ALL[turn % 3], n as u64, terms);
+        self.cases.push(case);
+    }
+
+    /// A run whose record at the place repeats an earlier one.
+    fn run_with_repeat(&mut self, place: usize) -> (usize, Vec<u8>) {
+        let (n, mut terms) = self.run_to(place, 6);
+        let earlier = match self.random.below(3) {
+            0 => 1,
+            1 => place - 1,
+            _ => self.random.between(1, place - 1),
+        };
+        let from = (earlier - 1) * TERM_BYTES;
+        terms.copy_within(from..from + TERM_BYTES, (place - 1) * TERM_BYTES);
+        (n, terms)
+    }
+
+    /// Code 4: every place after the first in every operation, with the same
+    /// coefficient and with another.
+    fn repeated_record(&mut self) {
+        let turn = turn(&mut self.repeats);
+        let place = turn % (MOST_TERMS - 1) + 2;
+        let (n, mut terms) = self.run_with_repeat(place);
+        if turn % 2 == 1 {
+            let at = (place - 1) * TERM_BYTES + 8..place * TERM_BYTES;
+            let coefficient = self.random.between(5, 999_990) as i32;
+            terms[at].copy_from_slice(&coefficient.to_le_bytes());
+        }
+        let case = self.operation(Operation::ALL[turn % 3], n as u64, terms);
+        self.cases.push(case);
+    }
+
+    /// A wrong field in the repeating record itself, before it or after it, or
+    /// a second repeat: the first record with a fault decides.
+    fn wrong_and_repeated(&mut self) {
+        let place = self.random.between(2, MOST_TERMS);
+        let (n, mut terms) = self.run_with_repeat(place);
+        let field = self.random.pick(&FIELDS);
+        let last = terms.len() / TERM_BYTES;
+        match self.random.below(4) {
+            0 => break_term(&mut self.random, &mut terms, n, place, field),
+            1 => {
+                let wrong = self.random.between(1, place);
+                break_term(&mut self.random, &mut terms, n, wrong, field);
+            }
+            2 => {
+                let wrong = self.random.between(place, last);
+                break_term(&mut self.random, &mut terms, n, wrong, field);
+            }
+            _ => {
+                let again = self.random.between(2, last);
+                terms.copy_within(0..TERM_BYTES, (again - 1) * TERM_BYTES);
+            }
+        }
+        let case = self.any_operation(n as u64, terms);
+        self.cases.push(case);
+    }
+
+    /// Code 2: bytes that are no run of records, too many, or no set record.
+    fn bad_length(&mut self) {
+        let turn = turn(&mut self.lengths);
+        let n = self.random.between(2, 6);
+        if turn.is_multiple_of(2) {
+            let length = BAD_TERM_LENGTHS[turn / 2 % BAD_TERM_LENGTHS.len()];
+            let system = systems::run(&mut self.random, n, length.min(384) / TERM_BYTES);
+            let mut terms = write_terms(&system.terms);
+            while terms.len() < length {
+                terms.push(self.random.below(256) as u8);
+            }
+            let case = self.any_operation(n as u64, terms);
+            self.cases.push(case);
+        } else {
+            let length = BAD_SET_LENGTHS[turn / 2 % BAD_SET_LENGTHS.len()];
+            let system = systems::any(&mut self.random);
+            let terms = write_terms(&system.terms);
+            let case = if self.random.chance(50) {
+                Case::check(system.n as u64, terms, vec![0; length])
+            } else {
+                Case::wire(system.n as u64, terms, vec![0; length], 50)
+            };
+            self.cases.push(case);
+        }
+    }
+
+    /// Code 1: n, K or the limit out of range.
+    fn bad_setting(&mut self) {
+        let turn = turn(&mut self.settings);
+        let n = self.random.between(1, 6);
+        let count = self.random.below(3);
+        let terms = write_terms(&systems::run(&mut self.random, n, count).terms);
+        let values = BAD_N.len() + BAD_CAP.len() + BAD_LIMIT.len();
+        let mut at = turn % values;
+        if at < BAD_N.len() {
+            let case = self.any_operation(BAD_N[at], terms);
+            self.cases.push(case);
+            return;
+        }
+        at -= BAD_N.len();
+        let buffer = self.random.below(100);
+        let mut case = Case::plan(n as u64, 6, 100, buffer, terms);
+        if at < BAD_CAP.len() {
+            case.cap = BAD_CAP[at];
+        } else {
+            case.limit = BAD_LIMIT[at - BAD_CAP.len()];
+        }
+        self.cases.push(case);
+    }
+
+    /// Code 8, every way at every place of the record.
+    fn broken_set(&mut self) {
+        let turn = turn(&mut self.sets);
+        let way = WAYS[turn % WAYS.len()];
+        let place = turn / WAYS.len() % 6;
+        let n = self.random.between(1, 6);
+        let size = self.random.between(place + 1, 6);
+        let (system, set) = systems::around_a_set(&mut self.random, n, size);
+        let mut members: Vec<Monomial> = set.into_iter().collect();
+        break_set(&mut self.random, &mut members, n, place, way);
+        let terms = write_terms(&system.terms[..system.terms.len().min(3)]);
+        let set = write_places(&members).to_vec();
+        let buffer = self.random.below(100);
+        self.cases.push(if (turn / 48).is_multiple_of(2) {
+            Case::check(n as u64, terms, set)
+        } else {
+            Case::wire(n as u64, terms, set, buffer)
+        });
+    }
+
+    /// Several faults in one case: which of them decides is the checks' order.
+    fn several_faults(&mut self) {
+        let n = self.random.between(2, 6);
+        let count = self.random.between(3, 6);
+        let mut terms = write_terms(&systems::run(&mut self.random, n, count).terms);
+        if self.random.chance(40) {
+            let place = self.random.between(1, count);
+            let field = self.random.pick(&FIELDS);
+            break_term(&mut self.random, &mut terms, n, place, field);
+        }
+        if self.random.chance(40) {
+            let from = self.random.below(count - 1);
+            let to = self.random.between(from + 1, count - 1);
+            let record = from * TERM_BYTES..(from + 1) * TERM_BYTES;
+            terms.copy_within(record, to * TERM_BYTES);
+        }
+        if self.random.chance(20) {
+            terms.truncate(terms.len() - self.random.between(1, 11));
+        }
+        let mut case = self.any_operation(n as u64, terms);
+        if self.random.chance(20) {
+            case.n = self.random.pick(&BAD_N);
+        }
+        if case.operation == Operation::Plan {
+            if self.random.chance(15) {
+                case.cap = self.random.pick(&BAD_CAP);
+            }
+            if self.random.chance(15) {
+                case.limit = self.random.pick(&BAD_LIMIT);
+            }
+        } else {
+            let size = self.random.between(1, 6);
+            let set = systems::set(&mut self.random, n, size);
+            let mut members: Vec<Monomial> = set.into_iter().collect();
+            if self.random.chance(60) {
+                let way = self.random.pick(&WAYS);
+                let place = self.random.below(6);
+                break_set(&mut self.random, &mut members, n, place, way);
+            }
+            case.set = write_places(&members).to_vec();
+            if self.random.chance(20) {
+                case.set.truncate(self.random.below(36));
+            }
+        }
+        self.cases.push(case);
+    }
+}
+
+#[cfg(test)]
+mod tests {
+    use super::*;
+    use crate::batch::write_batch;
+
+    #[test]
+    fn a_seed_gives_one_batch() {
+        let first = write_batch(&batch(1, 400));
+        assert_eq!(first, write_batch(&batch(1, 400)));
+        assert_ne!(first, write_batch(&batch(2, 400)));
+    }
+
+    #[test]
+    fn a_longer_batch_begins_with_the_shorter() {
+        let long = batch(3, 300);
+        assert_eq!(batch(3, 100), long[..100]);
+    }
+
+    #[test]
+    fn every_case_can_be_written_and_read() {
+        let cases = batch(4, 500);
+        let bytes = write_batch(&cases);
+        let read: Result<Vec<Case>, _> = crate::batch::Cases::of(&bytes).collect();
+        assert_eq!(read.unwrap(), cases);
+    }
+}

@@ -1,0 +1,223 @@
+//! The three operations, with the checks in their sequence
+//! (document 01, What the box says).
+
+use crate::records::{
+    read_set, read_terms, terms_have_a_length, write_places, write_wire, SET_BYTES, WIRE_BYTES,
+};
+use crate::reply::Reply;
+use crate::system::{Set, System};
+use crate::walk::{walk, End};
+use crate::wiring::wiring;
+
+pub const MOST_VARIABLES: u64 = 6;
+pub const MOST_CAP: u64 = 6;
+pub const MOST_LIMIT: u64 = 1_000_000_000;
+
+/// Planning. Whatever the code, every byte of the answer is written.
+pub fn plan(n: u64, cap: u64, limit: u64, terms: &[u8], answer: &mut [u8]) -> Reply {
+    answer.fill(0);
+    let settings =
+        (1..=MOST_VARIABLES).contains(&n) && cap <= MOST_CAP && (1..=MOST_LIMIT).contains(&limit);
+    if !settings {
+        return Reply::bare(1);
+    }
+    if !terms_have_a_length(terms) {
+        return Reply::bare(2);
+    }
+    let system = match read_terms(n as usize, terms) {
+        Ok(system) => system,
+        Err(refusal) => return refusal,
+    };
+    let walked = walk(&system, cap as usize, limit, answer.len() / SET_BYTES);
+    let order = walked.level as u64;
+    let steps = walked.steps;
+    let (code, order, count) = match walked.end {
+        End::Done => (0, order, walked.finds.len() as u64),
+        End::None => (5, cap + 1, 0),
+        End::Full => (6, order, 0),
+        End::Spent => (7, order, 0),
+    };
+    if code == 0 {
+        for (place, set) in answer.chunks_mut(SET_BYTES).zip(&walked.finds) {
+            place.copy_from_slice(&write_places(set));
+        }
+    }
+    Reply {
+        code,
+        order,
+        count,
+        steps,
+        place: 0,
+    }
+}
+
+/// What checking and wiring share: the system and the set, or the refusal.
+fn given(n: u64, terms: &[u8], set: &[u8]) -> Result<(System, Set), Reply> {
+    if !(1..=MOST_VARIABLES).contains(&n) {
+        return Err(Reply::bare(1));
+    }
+    if !terms_have_a_length(terms) || set.len() != SET_BYTES {
+        return Err(Reply::bare(2));
+    }
+    let system = read_terms(n as usize, terms)?;
+    let set = read_set(n as usize, set)?;
+    if let Some(left) = system.first_not_quadratic(&set) {
+        return Err(Reply {
+            code: 9,
+            order: set.len() as u64,
+            place: left as u64,
+            ..Reply::default()
+        });
+    }
+    Ok((system, set))
+}
+
+/// Checking. It has no answer buffer.
+pub fn check(n: u64, terms: &[u8], set: &[u8]) -> Reply {
+    match given(n, terms, set) {
+        Err(refusal) => refusal,
+        Ok((_, set)) => Reply {
+            order: set.len() as u64,
+            ..Reply::default()
+        },
+    }
+}
+
+/// Wiring. Whatever the code, every byte of the answer is written.
+pub fn wire(n: u64, terms: &[u8], set: &[u8], answer: &mut [u8]) -> Reply {
+    answer.fill(0);
+    let (system, set) = match given(n, terms, set) {
+        Ok(given) => given,
+        Err(refusal) => return refusal,
+    };
+    let order = set.len() as u64;
+    let list = wiring(&system, &set).expect("a quadratic set has a pair for each monomial");
+    if list.len() > answer.len() / WIRE_BYTES {
+        return Reply {
+            code: 6,
+            order,
+            ..Reply::default()
+        };
+    }
+    for (place, wire) in answer.chunks_mut(WIRE_BYTES).zip(&list) {
+        place.copy_from_slice(&write_wire(wire));
+    }
+    Reply {
+        order,
+        count: list.len() as u64,
+        ..Reply::default()
+    }
+}
+
+#[cfg(test)]
+mod tests {
+    use super::*;
+    use crate::monomial::Monomial;
+    use crate::random::Random;
+    use crate::records::{read_wires, set_places, write_set, write_terms};
+    use crate::systems;
+    use std::collections::BTreeMap;
+
+    const ROOM: usize = 1_800 * SET_BYTES;
+
+    /// Random systems that planning finishes, with the reply and the buffer.
+    fn planned(seed: u64) -> Vec<(System, Reply, Vec<u8>)> {
+        let mut random = Random::from_seed(seed);
+        let mut planned = Vec::new();
+        while planned.len() < 60 {
+            let system = systems::any(&mut random);
+            let mut sets = vec![165; ROOM];
+            let terms = write_terms(&system.terms);
+            let reply = plan(system.n as u64, 6, 2_000, &terms, &mut sets);
+            if reply.code == 0 {
+                planned.push((system, reply, sets));
+            }
+        }
+        planned
+    }
+
+    #[test]
+    fn found_sets_ascend_and_are_quadratic() {
+        for (system, reply, sets) in planned(11) {
+            let count = reply.count as usize;
+            let found: Vec<&[u8]> = sets.chunks(SET_BYTES).take(count).collect();
+            let places: Vec<[Monomial; 6]> = found.iter().map(|r| set_places(r)).collect();
+            assert!(places.windows(2).all(|two| two[0] < two[1]));
+            for record in found {
+                let terms = write_terms(&system.terms);
+                let checked = check(system.n as u64, &terms, record);
+                assert_eq!(checked.numbers(), [0, reply.order, 0, 0, 0]);
+            }
+            assert!(sets[count * SET_BYTES..].iter().all(|&byte| byte == 0));
+        }
+    }
+
+    #[test]
+    fn the_wiring_adds_up_to_the_derivatives() {
+        for (system, reply, sets) in planned(12) {
+            let set = read_set(system.n, &sets[..SET_BYTES]).unwrap();
+            let mut list = vec![165; 224 * WIRE_BYTES];
+            let terms = write_terms(&system.terms);
+            let wired = wire(system.n as u64, &terms, &write_set(&set), &mut list);
+            assert_eq!((wired.code, wired.order), (0, reply.order));
+            let signals = system.signals(&set);
+            let mut sums = vec![BTreeMap::new(); signals.len()];
+            for w in read_wires(&list) {
+                assert!(w.a <= w.b);
+                let product = signals[w.a].times(signals[w.b]);
+                assert_eq!(sums[w.left].insert(product, w.coefficient), None);
+            }
+            for (signal, sum) in signals.iter().zip(sums) {
+                assert_eq!(system.derivative(*signal), sum);
+            }
+        }
+    }
+
+    #[test]
+    fn unused_variables_change_neither_sets_nor_steps() {
+        for (system, reply, sets) in planned(13) {
+            for n in system.n..=6 {
+                let mut again = vec![0; ROOM];
+                let terms = write_terms(&system.terms);
+                let wider = plan(n as u64, 6, 2_000, &terms, &mut again);
+                assert_eq!(wider, reply);
+                assert!(again == sets);
+            }
+        }
+    }
+
+    #[test]
+    fn a_walk_needs_exactly_its_steps_and_its_room() {
+        for (system, reply, sets) in planned(14) {
+            let (n, terms) = (system.n as u64, write_terms(&system.terms));
+            let needed = reply.count as usize * SET_BYTES;
+            let mut answer = vec![165; needed];
+            assert_eq!(plan(n, 6, reply.steps, &terms, &mut answer), reply);
+            assert!(answer == sets[..needed]);
+            if reply.steps > 1 {
+                let short = plan(n, 6, reply.steps - 1, &terms, &mut answer);
+                assert_eq!(short.numbers(), [7, reply.order, 0, reply.steps - 1, 0]);
+                assert!(answer.iter().all(|&byte| byte == 0));
+            }
+            let mut tight = vec![165; needed - 1];
+            let full = plan(n, 6, reply.steps, &terms, &mut tight);
+            assert_eq!((full.code, full.order, full.count), (6, reply.order, 0));
+            assert!(full.steps <= reply.steps);
+            assert!(tight.iter().all(|&byte| byte == 0));
+        }
+    }
+
+    #[test]
+    fn a_level_below_the_order_finds_none() {
+        for (system, reply, _) in planned(15) {
+            for cap in 0..reply.order {
+                let mut answer = [165; 36];
+                let terms = write_terms(&system.terms);
+                let none = plan(system.n as u64, cap, 2_000, &terms, &mut answer);
+                assert_eq!((none.code, none.order), (5, cap + 1));
+                assert!(none.steps < reply.steps);
+                assert_eq!(answer, [0; 36]);
+            }
+        }
+    }
+}

@@ -1,0 +1,683 @@
+//! The fixed rows: document 01's worked sums, both sides of each limit, every
+//! place of code 9, and larger systems from documents 000 and 001.
+
+use crate::batch::Case;
+use crate::monomial::Monomial;
+use crate::notation::{monomial, terms};
+use crate::records::{write_places, write_set, write_terms, SET_BYTES, WIRE_BYTES};
+use crate::system::{Set, Term};
+
+/// What a row of document 01 has where it names nothing else.
+const CAP: u64 = 6;
+const LIMIT: u64 = 1_000_000;
+const ROOM: usize = 1_000 * SET_BYTES;
+const WIRES: usize = 224 * WIRE_BYTES;
+
+/// Document 001, Example 2, with a = b = 1.
+pub const RABINOVICH_FABRIKANT: &str = "x1' = x2 x3 - x2 + x1^2 x2 + x1; \
+     x2' = 3 x1 x3 + x1 - x1^3 + x2; \
+     x3' = - 2 x3 - 2 x1 x2 x3";
+
+/// Document 001, Example 3.
+pub const EXAMPLE_3: &str = "x1' = x2^4; x2' = x1^2";
+
+/// A system whose set {x3^2 x4, x2 x3, x1 x3, x1 x2} is quadratic only because
+/// the derivative of x1 x2 cancels.
+pub const CANCELLING: &str = "x1' = 1000000 x1 x3 x4; x2' = - 1000000 x2 x3 x4";
+pub const NEARLY_CANCELLING: &str = "x1' = 1000000 x1 x3 x4; x2' = - 999999 x2 x3 x4";
+pub const CANCELLING_SET: [&str; 4] = ["x3^2 x4", "x2 x3", "x1 x3", "x1 x2"];
+
+/// The batch of fixed rows.
+pub fn rows() -> Vec<Case> {
+    let mut rows = Rows { cases: Vec::new() };
+    rows.worked();
+    rows.further();
+    rows.settings();
+    rows.lengths();
+    rows.fields();
+    rows.set_rules();
+    rows.sequence_of_checks();
+    rows.wiring_lengths();
+    rows.long_lists();
+    rows.places_of_code_9();
+    rows.larger();
+    rows.families();
+    rows.cases
+}
+
+/// A set record from the names of its members.
+pub fn set_of(names: &[&str]) -> Vec<u8> {
+    let set: Set = names.iter().map(|name| monomial(name)).collect();
+    write_set(&set).to_vec()
+}
+
+/// A set record with its places as they are named, in any sequence.
+fn places_of(names: &[&str]) -> Vec<u8> {
+    let members: Vec<Monomial> = names.iter().map(|name| monomial(name)).collect();
+    write_places(&members).to_vec()
+}
+
+fn bytes_of(text: &str) -> Vec<u8> {
+    write_terms(&terms(text))
+}
+
+/// So many different records in two variables, the quadratic ones first.
+fn different_records(count: usize) -> Vec<u8> {
+    let mut monomials: Vec<Monomial> = (0..=9)
+        .flat_map(|e1| (0..=9).map(move |e2| Monomial([e1, e2, 0, 0, 0, 0])))
+        .collect();
+    monomials.sort_by_key(|m| (m.0.iter().sum::<u16>(), *m));
+    let of_equation = |equation| {
+        let term = move |monomial| Term {
+            equation,
+            monomial,
+            coefficient: 1,
+        };
+        monomials.iter().copied().map(term)
+    };
+    let both: Vec<Term> = of_equation(1)
+        .zip(of_equation(2))
+        .flat_map(|(a, b)| [a, b])
+        .collect();
+    write_terms(&both[..count])
+}
+
+/// Document 001, appendix: Cubic Cycle(n).
+pub fn cubic_cycle(n: usize) -> String {
+    let equation = |i: usize| format!("x{}' = x{}^3", i + 1, (i + 1) % n + 1);
+    (0..n).map(equation).collect::<Vec<_>>().join("; ")
+}
+
+/// Document 001, appendix: Cubic Bicycle(n). With two variables both
+/// neighbours are the same one.
+pub fn cubic_bicycle(n: usize) -> String {
+    let equation = |i: usize| {
+        let (before, after) = ((i + n - 1) % n + 1, (i + 1) % n + 1);
+        if before == after {
+            return format!("x{}' = 2 x{after}^3", i + 1);
+        }
+        format!("x{}' = x{before}^3 + x{after}^3", i + 1)
+    };
+    (0..n).map(equation).collect::<Vec<_>>().join("; ")
+}
+
+/// Document 000, Example 2.6: (x1 + 1)^k, written out.
+fn shifted_power(k: u64) -> String {
+    let mut coefficient = 1;
+    let mut parts = Vec::new();
+    for e in 0..=k {
+        parts.push(match e {
+            0 => "1".to_string(),
+            _ => format!("{coefficient} x1^{e}"),
+        });
+        coefficient = coefficient * (k - e) / (e + 1);
+    }
+    format!("x1' = {}", parts.join(" + "))
+}
+
+/// Two variables, each fed by a power of the other.
+pub fn mutual_power(k: usize) -> String {
+    format!("x1' = x2^{k}; x2' = x1^{k}")
+}
+
+/// One variable fed by so many products of unfed ones. Each can be made in four
+/// ways, and so there are four times as many smallest sets with each.
+pub fn unfed_products(count: usize) -> String {
+    let products = [
+        "x2^2 x3^2",
+        "x4^2 x5^2",
+        "x2^2 x6^4",
+        "x3^2 x5^2",
+        "x4^2 x6^2",
+        "x3^4 x6^2",
+    ];
+    format!("x1' = {}", products[..count].join(" + "))
+}
+
+/// Six new monomials in x1 to x4.
+const SIX_SIGNALS: [&str; 6] = ["x4^2", "x3 x4", "x2^3", "x1 x4", "x1 x2 x3", "x1^2"];
+
+/// 32 records that each multiply their own variable by a signal, so that each
+/// new monomial is multiplied by the same signals.
+fn own_variable_times_signals() -> String {
+    let signals = ["", "x1"].iter().chain(&SIX_SIGNALS);
+    let mut equations = Vec::new();
+    for (k, signal) in signals.enumerate() {
+        for i in 1..=4_usize {
+            let sign = if (i + k).is_multiple_of(3) {
+                "- 1000000"
+            } else {
+                "7"
+            };
+            equations.push(format!("x{i}' = {sign} x{i} {signal}"));
+        }
+    }
+    equations.join("; ")
+}
+
+/// All exponents up to 2 in two variables: the products reach up to 4.
+const BOX_OF_TWO: [&str; 6] = ["x2^2", "x1 x2", "x1 x2^2", "x1^2", "x1^2 x2", "x1^2 x2^2"];
+
+/// Every term that the box leaves quadratic: 3 in its own variable, 2 in the
+/// other.
+fn box_of_two() -> String {
+    let mut equations = Vec::new();
+    for own in 0..=3 {
+        for other in 0..=2 {
+            equations.push(format!("x1' = 5 x1^{own} x2^{other}"));
+            equations.push(format!("x2' = 3 x1^{other} x2^{own}"));
+        }
+    }
+    equations.join("; ")
+}
+
+/// Six variables and all 32 records, half of them of degree three: openings
+/// with as much to add up as there can be.
+fn cubes_of_six() -> String {
+    let mut equations = Vec::new();
+    for i in 0..6 {
+        let x = |step: usize| (i + step) % 6 + 1;
+        let mut parts = vec![
+            format!("x{} x{} x{}", x(1), x(2), x(3)),
+            format!("- 2 x{}^2 x{}", x(0), x(1)),
+            format!("- x{} x{}", x(2), x(4)),
+            format!("+ 3 x{}", x(5)),
+            format!("- {}", i + 1),
+        ];
+        if i < 2 {
+            parts.push(format!("+ 1000000 x{}^3", x(4)));
+        }
+        equations.push(format!("x{}' = {}", i + 1, parts.join(" ")));
+    }
+    equations.join("; ")
+}
+
+struct Rows {
+    cases: Vec<Case>,
+}
+
+impl Rows {
+    fn plan(&mut self, n: u64, text: &str) {
+        self.plan_with(n, text, CAP, LIMIT, ROOM);
+    }
+
+    fn plan_with(&mut self, n: u64, text: &str, cap: u64, limit: u64, buffer: usize) {
+        self.cases
+            .push(Case::plan(n, cap, limit, buffer, bytes_of(text)));
+    }
+
+    fn plan_bytes(&mut self, n: u64, terms: Vec<u8>) {
+        self.cases
+            .push(Case::plan(n, CAP, LIMIT, 2 * SET_BYTES, terms));
+    }
+
+    /// Checks the set and wires it, with room to spare.
+    fn check_and_wire(&mut self, n: u64, text: &str, names: &[&str]) {
+        self.given(n, bytes_of(text), set_of(names), WIRES);
+    }
+
+    fn given(&mut self, n: u64, terms: Vec<u8>, set: Vec<u8>, buffer: usize) {
+        self.cases.push(Case::check(n, terms.clone(), set.clone()));
+        self.cases.push(Case::wire(n, terms, set, buffer));
+    }
+
+    /// Document 01, Sums worked by hand.
+    fn worked(&mut self) {
+        self.plan(1, "");
+        self.plan(1, "x1' = x1^2");
+        self.plan_with(1, "x1' = x1^2", CAP, LIMIT, 0);
+        self.plan(1, "x1' = x1^3");
+        self.plan_with(1, "x1' = x1^3", 0, LIMIT, ROOM);
+        self.plan_with(1, "x1' = x1^5", CAP, 7, ROOM);
+        self.plan_with(1, "x1' = x1^5", CAP, 6, ROOM);
+        self.plan(1, "x1' = x1^4 + x1^3");
+        self.plan_with(1, "x1' = x1^4 + x1^3", CAP, LIMIT, SET_BYTES);
+        self.plan(2, "x1' = x1^3 + x2^2; x2' = x1 + x2");
+        self.plan(2, "x1' = x1^2 x2; x2' = - x1 x2^2");
+        self.check_and_wire(2, "x1' = x1^2 x2; x2' = - x1 x2^2", &["x1 x2"]);
+        self.plan(2, "x1' = x1^2 x2");
+        self.check_and_wire(2, "x1' = x1^2 x2", &["x1 x2"]);
+        self.check_and_wire(3, RABINOVICH_FABRIKANT, &["x2^2", "x1 x2", "x1^2"]);
+        self.plan(1, "x1' = 1000000 x1");
+        self.plan(1, "x1' = 1000001 x1");
+        self.plan(1, "x1' = x1^9");
+        self.plan(1, "x1' = x1^10");
+        self.plan_bytes(2, different_records(32));
+        self.plan_bytes(2, different_records(33));
+        self.plan(1, "x1' = x1 + x1");
+    }
+
+    /// Rows that the document lacks and that its rules decide.
+    fn further(&mut self) {
+        self.plan(1, "x1' = x1^4");
+        self.plan(3, "x1' = x2^2 x3^2");
+        self.plan(2, EXAMPLE_3);
+        self.plan_with(2, EXAMPLE_3, CAP, LIMIT, 0);
+        self.check_and_wire(2, EXAMPLE_3, &["x1 x2^2", "x2^3", "x1^3"]);
+        self.plan(3, RABINOVICH_FABRIKANT);
+        for limit in [14, 15, 16] {
+            self.plan_with(1, "x1' = x1^4 + x1^3", CAP, limit, SET_BYTES);
+        }
+        // Spent between two levels, and an end exactly at the limit.
+        self.plan_with(1, "x1' = x1^3", CAP, 1, ROOM);
+        self.plan_with(1, "x1' = x1^3", 0, 1, ROOM);
+        // Full and spent would fall together: full.
+        self.plan_with(1, "x1' = x1^2", 0, 1, 35);
+        // The last step of the walk with the limit one short, exact, one over.
+        for limit in [22, 23, 24] {
+            self.plan_with(1, "x1' = x1^4 + x1^3", CAP, limit, 2 * SET_BYTES);
+        }
+        // A set met twice asks for no second place.
+        for buffer in [0, 35, 36, 37, 71, 72, 73, 107, 108, 109] {
+            self.plan_with(1, "x1' = x1^4 + x1^3", CAP, LIMIT, buffer);
+        }
+        // Unused variables change neither sets nor steps.
+        for n in 1..=6 {
+            self.plan_with(n, "x1' = x1^4 + x1^3", CAP, LIMIT, 2 * SET_BYTES);
+            self.plan_with(n, "x1' = x1^9 + x1^4", CAP, LIMIT, 2 * SET_BYTES);
+        }
+        self.check_and_wire(4, CANCELLING, &CANCELLING_SET);
+        self.check_and_wire(4, NEARLY_CANCELLING, &CANCELLING_SET);
+    }
+
+    /// n, K and the limit, both sides of each.
+    fn settings(&mut self) {
+        let far = [255, 256, 257, 1 << 32, (1 << 32) + 1, 1 << 63, u64::MAX];
+        let small = "x1' = x1^2";
+        for n in [0, 1, 2, 3, 4, 5, 6, 7].into_iter().chain(far) {
+            self.plan_with(n, small, CAP, LIMIT, SET_BYTES);
+            self.given(n, bytes_of(small), set_of(&[]), 20);
+        }
+        for cap in [0, 1, 2, 3, 4, 5, 6, 7].into_iter().chain(far) {
+            self.plan_with(1, "x1' = x1^9 + x1^8", cap, 20_000, SET_BYTES);
+        }
+        let most = 1_000_000_000;
+        let limits = [0, 1, 2, most - 1, most, most + 1, 1 << 30, 1 << 31];
+        for limit in limits.into_iter().chain(far) {
+            self.plan_with(1, small, CAP, limit, SET_BYTES);
+            self.plan_with(1, "x1' = x1^3", CAP, limit, SET_BYTES);
+        }
+    }
+
+    /// Lengths of terms and sets, both sides of each.
+    fn lengths(&mut self) {
+        let long = different_records(50);
+        for length in [
+            0, 1, 11, 12, 13, 24, 372, 383, 384, 385, 395, 396, 397, 408, 600,
+        ] {
+            let terms = long[..length].to_vec();
+            self.plan_bytes(2, terms.clone());
+            self.given(2, terms, set_of(&[]), 100);
+        }
+        for count in 0..=32 {
+            let terms = different_records(count);
+            self.cases.push(Case::plan(2, 1, 50, SET_BYTES, terms));
+        }
+        for length in [0, 1, 35, 36, 37, 71, 72, 255] {
+            let set = vec![0; length];
+            self.given(1, bytes_of("x1' = x1"), set, 8);
+        }
+    }
+
+    /// The fields of a term record, both sides of each.
+    fn fields(&mut self) {
+        let record = |n: usize, at: usize, value: u8| {
+            let mut bytes = bytes_of("x1' = 5 x1");
+            bytes[at] = value;
+            (n as u64, bytes)
+        };
+        for n in 1..=6 {
+            for equation in [0, 1, n as u8, n as u8 + 1, 128, 255] {
+                let (n, bytes) = record(n, 0, equation);
+                self.plan_bytes(n, bytes);
+            }
+            for i in 0..6 {
+                for exponent in [0, 1, 9, 10, 255] {
+                    let (n, bytes) = record(n, 2 + i, exponent);
+                    let set = set_of(&[]);
+                    self.cases.push(Case::wire(n, bytes, set, 8));
+                }
+            }
+        }
+        for value in [0, 1, 128, 255] {
+            let (n, bytes) = record(1, 1, value);
+            self.plan_bytes(n, bytes);
+        }
+        let million = 1_000_000;
+        for size in [
+            0,
+            1,
+            255,
+            256,
+            65_536,
+            million - 1,
+            million,
+            million + 1,
+            i32::MAX,
+        ] {
+            for coefficient in [size, -size] {
+                let mut bytes = bytes_of("x1' = x1");
+                bytes[8..].copy_from_slice(&i32::to_le_bytes(coefficient));
+                self.given(1, bytes, set_of(&[]), 8);
+            }
+        }
+        let mut bytes = bytes_of("x1' = x1");
+        bytes[8..].copy_from_slice(&i32::MIN.to_le_bytes());
+        self.given(1, bytes, set_of(&[]), 8);
+        // The same monomial in two equations is no repeat.
+        self.plan(2, "x1' = x1 x2; x2' = x1 x2");
+        self.plan(1, "x1' = x1 - 2 x1");
+        self.plan(1, "x1' = x1 + x1^2 + x1^2 + x1");
+        // Totals above a million: a set's exponent times a coefficient.
+        self.check_and_wire(2, "x1' = 1000000 x1; x2' = 1000000 x2", &["x1^54 x2^54"]);
+    }
+
+    /// The rules of a set record, both sides of each.
+    fn set_rules(&mut self) {
+        let ways: [&[&str]; 24] = [
+            &[],
+            &["x1 x2"],
+            &["x1"],
+            &["x2"],
+            &["x3"],
+            &["x4"],
+            &["x5"],
+            &["x6"],
+            &["x1^54"],
+            &["x1^55"],
+            &["x2^54", "x1^54 x2^54"],
+            &["x2^54", "x1^54 x2^55"],
+            &["x2^2", "x1 x2", "x1^2"],
+            &["x2^2", "x1^2", "x1 x2"],
+            &["x1 x2", "x1 x2"],
+            &["x1 x2", "x1 x2", "x1^2"],
+            &["1", "x1 x2"],
+            &["x1 x2", "1", "x1^2"],
+            &["x2^2", "x1 x2", "1", "1", "1", "x1^2"],
+            &["1", "1", "1", "1", "1", "x1^2"],
+            &["x2^2", "x2^3", "x2^4", "x2^5", "x2^6", "x2^7"],
+            &["x2^2", "x2^3", "x2^4", "x2^5", "x2^6", "x2^6"],
+            &["x2^2", "x2^3", "x2^4", "x2^5", "x2^7", "x2^6"],
+            &["x2", "x1 x2", "x1^2"],
+        ];
+        for way in ways {
+            for n in [2, 6] {
+                self.given(n, bytes_of("x1' = 3 x1"), places_of(way), 80);
+            }
+        }
+        // A single variable at each place, the rest in order.
+        for place in 0..6 {
+            let mut names: Vec<String> = (0..place).map(|j| format!("x2^{}", j + 2)).collect();
+            names.push("x1".to_string());
+            names.extend((place + 1..6).map(|j| format!("x1^{j} x2")));
+            let names: Vec<&str> = names.iter().map(String::as_str).collect();
+            self.given(2, Vec::new(), places_of(&names), 8);
+        }
+        // Each byte of the record at 54 and at 55; each byte beyond xn at 1.
+        for byte in 0..SET_BYTES {
+            let six = ["x1^2", "x1^3", "x1^4", "x1^5", "x1^6", "x1^7"];
+            for value in [54, 55] {
+                let mut set = places_of(&six);
+                set[byte] = value;
+                self.cases.push(Case::check(6, Vec::new(), set));
+            }
+            for n in 1..=byte % 6 {
+                let mut set = places_of(&six);
+                set[byte] = 1;
+                self.cases.push(Case::check(n as u64, Vec::new(), set));
+            }
+        }
+        // A monomial in x1 to x6 fits six variables only.
+        for n in 1..=6 {
+            self.given(n, Vec::new(), set_of(&["x6^2"]), 0);
+            self.given(n, Vec::new(), set_of(&["x1 x2 x3 x4 x5 x6"]), 0);
+            let name = format!("x{n}^2");
+            self.given(n, Vec::new(), set_of(&[&name]), 0);
+        }
+    }
+
+    /// Several faults at once: 1, 2, then 3 and 4 by record, then 8, 9, 6.
+    fn sequence_of_checks(&mut self) {
+        let short = vec![0; 13];
+        let wrong = bytes_of("x1' = x1 + x1^10 + x1");
+        let twice = bytes_of("x1' = x1 + x1 + x1^10");
+        let both = bytes_of("x1' = x1 + 1000001 x1");
+        let cubic = bytes_of("x1' = x1^3");
+        let bad_set = set_of(&["x1"]);
+        for terms in [short, wrong, twice, both, cubic] {
+            for n in [0, 1] {
+                self.plan_bytes(n, terms.clone());
+                self.cases
+                    .push(Case::plan(n, 7, LIMIT, SET_BYTES, terms.clone()));
+                self.cases
+                    .push(Case::plan(n, CAP, 0, SET_BYTES, terms.clone()));
+                self.given(n, terms.clone(), vec![1; 35], 0);
+                self.given(n, terms.clone(), bad_set.clone(), 0);
+                self.given(n, terms.clone(), set_of(&[]), 0);
+                self.given(n, terms.clone(), set_of(&["x1^2"]), 0);
+            }
+        }
+    }
+
+    /// Lists exactly as long as the buffer, a byte shorter and longer.
+    fn wiring_lengths(&mut self) {
+        let systems: [(u64, &str, &[&str], usize); 5] = [
+            (1, "", &[], 0),
+            (1, "x1' = x1", &[], 1),
+            (2, "x1' = x1^2 x2; x2' = - x1 x2^2", &["x1 x2"], 2),
+            (1, "x1' = x1^4 + x1^3", &["x1^2", "x1^3"], 6),
+            (3, RABINOVICH_FABRIKANT, &["x2^2", "x1 x2", "x1^2"], 25),
+        ];
+        for (n, text, names, records) in systems {
+            let exact = records * WIRE_BYTES;
+            for buffer in [
+                0,
+                exact.saturating_sub(8),
+                exact,
+                exact + 1,
+                exact + 7,
+                exact + 8,
+                WIRES,
+            ] {
+                self.cases
+                    .push(Case::wire(n, bytes_of(text), set_of(names), buffer));
+            }
+            if exact > 0 {
+                self.cases
+                    .push(Case::wire(n, bytes_of(text), set_of(names), exact - 1));
+            }
+        }
+    }
+
+    /// Lists of 80 and of 108 records.
+    fn long_lists(&mut self) {
+        for n in 4..=6 {
+            let set = set_of(&SIX_SIGNALS);
+            for buffer in [639, 640, 641, WIRES] {
+                let terms = bytes_of(&own_variable_times_signals());
+                self.cases.push(Case::wire(n, terms, set.clone(), buffer));
+            }
+        }
+        for buffer in [863, 864, 865, WIRES] {
+            let terms = bytes_of(&box_of_two());
+            let case = Case::wire(2, terms, set_of(&BOX_OF_TWO), buffer);
+            self.cases.push(case);
+        }
+    }
+
+    /// Code 9 for every n, size and place. Up to n the named equation is the
+    /// first that is not quadratic; beyond it x1' = 1 leaves x1^29 over.
+    fn places_of_code_9(&mut self) {
+        for n in 1..=6_usize {
+            for size in 0..=6_usize {
+                for place in 1..=n + size {
+                    let (text, names) = if place <= n {
+                        let text = format!("x1' = x1; x{place}' = x{n}^9; x{n}' = x1^8");
+                        (text, (0..size).map(|j| 20 + j).collect())
+                    } else {
+                        let gap = place - n;
+                        let exponent = |j| if j < gap { j + 1 } else { 30 + j - gap };
+                        let exponents: Vec<usize> = (1..=size).map(exponent).collect();
+                        ("x1' = 1".to_string(), exponents)
+                    };
+                    let set: Set = names
+                        .into_iter()
+                        .map(|e: usize| Monomial([e as u16, 0, 0, 0, 0, 0]))
+                        .collect();
+                    let terms = bytes_of(&text);
+                    let set = write_set(&set).to_vec();
+                    if size == 6 || (size + place).is_multiple_of(2) {
+                        let case = Case::check(n as u64, terms.clone(), set.clone());
+                        self.cases.push(case);
+                    }
+                    if size == 6 || !(size + place).is_multiple_of(2) {
+                        self.cases.push(Case::wire(n as u64, terms, set, 24));
+                    }
+                }
+            }
+        }
+    }
+
+    /// Systems of documents 000 and 001 that are not in document 01's rows.
+    fn larger(&mut self) {
+        // 000: Examples 2.2, 2.7 and 3.2, Duffing's oscillator, (3.9), (5.2).
+        self.plan(2, "x1' = x1^3 + 3 x1^2 + 3 x1 + 1 + x2; x2' = x1 + x2");
+        self.plan(1, "x1' = x1^6 + x1^4 + x1^3");
+        self.plan(2, "x1' = x1 + x1^2 x2");
+        self.plan(3, "x1' = x2; x2' = - 2 x1 - 3 x2 - 5 x1^3 + x3");
+        self.plan(3, "x1' = x1 + x1 x3; x2' = x1^2 x3");
+        self.plan(3, "x1' = x2^2; x2' = x1 x3; x3' = - x1 x3^3");
+        for k in 2..=9 {
+            self.plan_with(1, &shifted_power(k), CAP, 20_000, 40 * SET_BYTES);
+        }
+        // 001, section 7: an unfed variable's powers feed another.
+        self.plan(2, "x2' = x1 + x1^2 + x1^4 + x1^8");
+        self.plan(2, "x2' = x1 + x1^3 + x1^5 + x1^7 + x1^9");
+        self.plan(2, "x2' = x1 + x1^5 + x1^6 + x1^7 + x1^8 + x1^9");
+        // One nonsquare with as many pairs as there can be.
+        let tallest = "x1' = x1^9 x2^9 x3^9 x4^9 x5^9 x6^9";
+        self.plan_with(6, tallest, CAP, 5_000, SET_BYTES);
+        self.plan_with(6, "x1' = x2^9 x3^9 x4^9 x5^9", CAP, 12_000, SET_BYTES);
+    }
+
+    /// Document 001's appendix, as far as six variables go, and walks of some
+    /// 10,000 to 200,000 steps.
+    fn families(&mut self) {
+        for cap in 0..=5 {
+            self.plan_with(4, &cubic_cycle(4), cap, LIMIT, SET_BYTES);
+        }
+        for n in 2..=6 {
+            self.plan(n as u64, &cubic_cycle(n));
+            self.plan(n as u64, &cubic_bicycle(n));
+        }
+        for k in 3..=9 {
+            self.plan(2, &mutual_power(k));
+        }
+        self.plan_with(2, &mutual_power(8), CAP, 96_361, ROOM);
+        self.plan_with(2, &mutual_power(8), CAP, LIMIT, 3 * SET_BYTES + 35);
+        self.plan(2, "x1' = x2^7; x2' = x1^3");
+        self.plan(3, "x1' = x2^2 x3^2; x2' = x1^2 x3^2; x3' = x1^2 x2^2");
+        self.plan(3, "x1' = x1 x2 x3; x2' = x1^2 x3^2; x3' = x2^4");
+        self.plan(3, "x1' = x2^3 x3; x2' = x1 x3^3; x3' = x1^3 x2");
+        let four = "x1' = x2 x3 x4; x2' = x1 x3 x4; x3' = x1 x2 x4; x4' = x1 x2 x3";
+        self.plan(4, four);
+        let six = "x1' = x1 x2 x3; x2' = x4 x5 x6; x4' = x1 x4 x6; x6' = x2 x3 x5";
+        self.plan(6, six);
+        self.plan_with(6, &cubes_of_six(), CAP, 20_000, ROOM);
+        for products in 2..=6 {
+            let text = unfed_products(products);
+            self.plan_with(6, &text, CAP, 200_000, ROOM);
+            self.plan_with(6, &text, CAP, 200_000, 65_536);
+        }
+    }
+}
+
+#[cfg(test)]
+mod tests {
+    use super::*;
+    use crate::batch::{write_batch, Cases, Operation};
+    use crate::records::{read_terms, TERM_BYTES};
+
+    #[test]
+    fn rows_are_the_same_each_time_and_well_formed() {
+        let cases = rows();
+        assert_eq!(cases, rows());
+        let bytes = write_batch(&cases);
+        let read: Result<Vec<Case>, _> = Cases::of(&bytes).collect();
+        assert_eq!(read.unwrap(), cases);
+    }
+
+    #[test]
+    fn code_9_is_met_at_every_place() {
+        let mut rows = Rows { cases: Vec::new() };
+        rows.places_of_code_9();
+        let mut at = rows.cases.iter();
+        for n in 1..=6 {
+            for size in 0..=6 {
+                for place in 1..=n + size {
+                    for _ in 0..=size / 6 {
+                        let (reply, _) = at.next().unwrap().answer();
+                        assert_eq!(reply.numbers(), [9, size, 0, 0, place]);
+                    }
+                }
+            }
+        }
+        assert!(at.next().is_none());
+    }
+
+    #[test]
+    fn records_are_different_and_32_are_taken() {
+        let case = |count| Case::plan(2, 0, 10, 36, different_records(count));
+        assert_eq!(case(12).answer().0.numbers(), [0, 0, 1, 1, 0]);
+        assert_eq!(case(32).answer().0.numbers(), [5, 1, 0, 1, 0]);
+        assert_eq!(case(33).answer().0.numbers(), [2, 0, 0, 0, 0]);
+        assert_eq!(different_records(50).len(), 50 * TERM_BYTES);
+    }
+
+    #[test]
+    fn the_wiring_rows_hold_the_true_lengths() {
+        let mut rows = Rows { cases: Vec::new() };
+        rows.wiring_lengths();
+        let mut codes = Vec::new();
+        for case in &rows.cases {
+            assert_eq!(case.operation, Operation::Wire);
+            codes.push(case.answer().0.code);
+        }
+        // Each system with a list: 0 and 8 short are full, exact is not, and a
+        // byte short is full again.
+        assert_eq!(codes[..7], [0; 7]);
+        for group in codes[7..].chunks(8) {
+            assert_eq!(group, [6, 6, 0, 0, 0, 0, 0, 6]);
+        }
+    }
+
+    #[test]
+    fn long_lists_are_long() {
+        let mut rows = Rows { cases: Vec::new() };
+        rows.long_lists();
+        assert_eq!(rows.cases[0].terms.len(), 32 * TERM_BYTES);
+        for (index, case) in rows.cases.iter().enumerate() {
+            let length = if index < 12 { 80 } else { 108 };
+            let expected = match index % 4 {
+                0 => [6, 6, 0, 0, 0],
+                _ => [0, 6, length, 0, 0],
+            };
+            assert_eq!(case.answer().0.numbers(), expected);
+        }
+    }
+
+    #[test]
+    fn systems_of_six_variables_fill_the_records() {
+        let bytes = bytes_of(&cubes_of_six());
+        assert_eq!(bytes.len(), 32 * TERM_BYTES);
+        assert!(read_terms(6, &bytes).is_ok());
+    }
+
+    #[test]
+    fn powers_and_cycles_are_written_out() {
+        assert_eq!(shifted_power(3), "x1' = 1 + 3 x1^1 + 3 x1^2 + 1 x1^3");
+        assert_eq!(cubic_cycle(2), "x1' = x2^3; x2' = x1^3");
+        let bicycle = "x1' = x3^3 + x2^3; x2' = x1^3 + x3^3; x3' = x2^3 + x1^3";
+        assert_eq!(cubic_bicycle(3), bicycle);
+    }
+}

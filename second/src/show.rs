@@ -1,0 +1,178 @@
+//! A batch written for a person, one block per case: for looking at a case
+//! whose answers differ.
+
+use crate::batch::{hex, Case, Operation};
+use crate::monomial::Monomial;
+use crate::notation::{write_members, write_system};
+use crate::records::{
+    read_terms, read_wires, set_places, terms_have_a_length, Fields, SET_BYTES, TERM_BYTES,
+    WIRE_BYTES,
+};
+use crate::reply::Reply;
+
+/// The block of one case, counted from 1.
+pub fn block(number: usize, case: &Case) -> String {
+    let (reply, buffer) = case.answer();
+    let mut lines = vec![format!("case {number}: {}", heading(case))];
+    lines.extend(system_lines(case));
+    if case.operation != Operation::Plan {
+        lines.push(format!("  set {}", set_text(&case.set)));
+    }
+    lines.push(format!(
+        "  code {} {}: {}",
+        reply.code,
+        reply.name(),
+        numbers(&reply)
+    ));
+    lines.extend(answer_lines(case, &reply, &buffer));
+    lines.push(format!("  line {}", case.line()));
+    lines.join("\n") + "\n"
+}
+
+fn heading(case: &Case) -> String {
+    let name = case.operation.name();
+    let n = case.n;
+    match case.operation {
+        Operation::Check => format!("{name}, n = {n}"),
+        Operation::Plan => format!(
+            "{name}, n = {n}, K = {}, limit {}, buffer {} bytes ({} sets)",
+            case.cap,
+            case.limit,
+            case.buffer,
+            case.buffer / SET_BYTES
+        ),
+        Operation::Wire => format!(
+            "{name}, n = {n}, buffer {} bytes ({} records)",
+            case.buffer,
+            case.buffer / WIRE_BYTES
+        ),
+    }
+}
+
+fn numbers(reply: &Reply) -> String {
+    format!(
+        "order {}, count {}, steps {}, place {}",
+        reply.order, reply.count, reply.steps, reply.place
+    )
+}
+
+/// The equations; or the bare records where they are refused.
+fn system_lines(case: &Case) -> Vec<String> {
+    let n = match case.n {
+        1..=6 => case.n as usize,
+        _ => 6,
+    };
+    if terms_have_a_length(&case.terms) {
+        if let Ok(system) = read_terms(n, &case.terms) {
+            let lines = write_system(&system);
+            return lines.iter().map(|line| format!("  {line}")).collect();
+        }
+    }
+    let mut lines = vec![format!("  {} bytes of terms", case.terms.len())];
+    for (index, record) in case.terms.chunks(TERM_BYTES).enumerate() {
+        let place = index + 1;
+        if record.len() < TERM_BYTES {
+            lines.push(format!("  record {place} is cut: {}", hex(record)));
+            continue;
+        }
+        let fields = Fields::of(record);
+        let mut line = format!(
+            "  record {place}: equation {}, byte 1 is {}, exponents {}, coefficient {}",
+            fields.equation,
+            fields.zero,
+            fields.exponents.map(|e| e.to_string()).join("."),
+            fields.coefficient
+        );
+        for fault in fields.faults(n) {
+            line += &format!(" ({fault})");
+        }
+        lines.push(line);
+    }
+    lines
+}
+
+/// The members of a set record, places left empty inside shown as 1.
+fn set_text(record: &[u8]) -> String {
+    if record.len() != SET_BYTES {
+        return format!("of {} bytes: {}", record.len(), hex(record));
+    }
+    let mut places = set_places(record).to_vec();
+    while places.last() == Some(&Monomial::ONE) {
+        places.pop();
+    }
+    write_members(&places)
+}
+
+/// The sets or the wiring that the buffer holds.
+fn answer_lines(case: &Case, reply: &Reply, buffer: &[u8]) -> Vec<String> {
+    if reply.code != 0 {
+        return Vec::new();
+    }
+    let count = reply.count as usize;
+    match case.operation {
+        Operation::Plan => buffer
+            .chunks(SET_BYTES)
+            .take(count)
+            .map(|record| format!("  found {}", set_text(record)))
+            .collect(),
+        Operation::Check => Vec::new(),
+        Operation::Wire => read_wires(buffer)
+            .iter()
+            .map(|w| format!("  wire {} {} {} {}", w.left, w.a, w.b, w.coefficient))
+            .collect(),
+    }
+}
+
+#[cfg(test)]
+mod tests {
+    use super::*;
+    use crate::notation::terms;
+    use crate::records::write_terms;
+    use crate::rows::set_of;
+
+    #[test]
+    fn a_plan_is_shown() {
+        let input = write_terms(&terms("x1' = x1^3"));
+        let expected = "\
+case 7: plan, n = 2, K = 6, limit 100, buffer 40 bytes (1 sets)
+  x1' = x1^3
+  x2' = 0
+  code 0 done: order 1, count 1, steps 6, place 0
+  found {x1^2}
+  line 0 1 1 6 0 02000000000000000000000000000000000000000000000000\
+000000000000000000000000000000
+";
+        assert_eq!(block(7, &Case::plan(2, 6, 100, 40, input)), expected);
+    }
+
+    #[test]
+    fn a_wiring_is_shown() {
+        let input = write_terms(&terms("x1' = - x1^2"));
+        let expected = "\
+case 1: wire, n = 1, buffer 9 bytes (1 records)
+  x1' = - x1^2
+  set {}
+  code 0 done: order 0, count 1, steps 0, place 0
+  wire 1 1 1 -1
+  line 0 0 1 0 0 01010100ffffffff00
+";
+        assert_eq!(block(1, &Case::wire(1, input, set_of(&[]), 9)), expected);
+    }
+
+    #[test]
+    fn a_refused_case_shows_its_records() {
+        let mut input = write_terms(&terms("x1' = x1; x2' = x1"));
+        input.truncate(20);
+        input[1] = 3;
+        let expected = "\
+case 2: check, n = 1
+  20 bytes of terms
+  record 1: equation 1, byte 1 is 3, exponents 1.0.0.0.0.0, coefficient 1 (byte 1 not zero)
+  record 2 is cut: 0200010000000000
+  set of 2 bytes: 0506
+  code 2 length: order 0, count 0, steps 0, place 0
+  line 2 0 0 0 0
+";
+        assert_eq!(block(2, &Case::check(1, input, vec![5, 6])), expected);
+    }
+}

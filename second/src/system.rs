@@ -1,0 +1,130 @@
+//! A system, its derivatives, and what a set of new monomials leaves over
+//! (document 01, Monomials, derivatives, squares).
+
+use crate::monomial::Monomial;
+use std::collections::{BTreeMap, BTreeSet};
+
+/// A set of new monomials, in their order.
+pub type Set = BTreeSet<Monomial>;
+
+/// One term of one equation, the equation counted from 1.
+#[derive(Clone, Copy, PartialEq, Eq, Debug)]
+pub struct Term {
+    pub equation: usize,
+    pub monomial: Monomial,
+    pub coefficient: i64,
+}
+
+impl Term {
+    /// Whether both stand in one equation with one monomial.
+    pub fn repeats(&self, other: &Term) -> bool {
+        self.equation == other.equation && self.monomial == other.monomial
+    }
+}
+
+/// A system of n variables.
+#[derive(Clone, PartialEq, Eq, Debug)]
+pub struct System {
+    pub n: usize,
+    pub terms: Vec<Term>,
+}
+
+impl System {
+    /// The derivative of `z`: like monomials added with sign, zero sums gone.
+    pub fn derivative(&self, z: Monomial) -> BTreeMap<Monomial, i64> {
+        let mut sum = BTreeMap::new();
+        for term in &self.terms {
+            let exponent = z.0[term.equation - 1];
+            if exponent > 0 {
+                let rest = z.over(Monomial::variable(term.equation));
+                let monomial = rest.times(term.monomial);
+                *sum.entry(monomial).or_insert(0) += i64::from(exponent) * term.coefficient;
+            }
+        }
+        sum.retain(|_, coefficient| *coefficient != 0);
+        sum
+    }
+
+    /// V by signal number: 1, then x1..xn, then the new monomials in set order.
+    pub fn signals(&self, set: &Set) -> Vec<Monomial> {
+        let mut signals = vec![Monomial::ONE];
+        signals.extend((1..=self.n).map(Monomial::variable));
+        signals.extend(set);
+        signals
+    }
+
+    /// The nonsquares of a set: what the derivatives of V hold and V2 lacks.
+    pub fn nonsquares(&self, set: &Set) -> BTreeSet<Monomial> {
+        let signals = self.signals(set);
+        let squares = squares(&signals);
+        let mut left = BTreeSet::new();
+        for &signal in &signals {
+            for (monomial, _) in self.derivative(signal) {
+                if !squares.contains(&monomial) {
+                    left.insert(monomial);
+                }
+            }
+        }
+        left
+    }
+
+    /// The first signal whose derivative holds a nonsquare.
+    pub fn first_not_quadratic(&self, set: &Set) -> Option<usize> {
+        let signals = self.signals(set);
+        let squares = squares(&signals);
+        (1..signals.len()).find(|&left| {
+            let derivative = self.derivative(signals[left]);
+            derivative.keys().any(|m| !squares.contains(m))
+        })
+    }
+}
+
+/// V2: all products of two members of V, equal ones included.
+fn squares(signals: &[Monomial]) -> BTreeSet<Monomial> {
+    let mut products = BTreeSet::new();
+    for (a, &first) in signals.iter().enumerate() {
+        for &second in &signals[a..] {
+            products.insert(first.times(second));
+        }
+    }
+    products
+}
+
+#[cfg(test)]
+mod tests {
+    use super::*;
+    use crate::notation::{monomial, system};
+
+    fn set(names: &[&str]) -> Set {
+        names.iter().map(|name| monomial(name)).collect()
+    }
+
+    #[test]
+    fn derivative_adds_with_sign_and_drops_zero() {
+        let cancel = system(2, "x1' = x1^2 x2; x2' = - x1 x2^2");
+        assert!(cancel.derivative(monomial("x1 x2")).is_empty());
+        let z = cancel.derivative(monomial("x1^3 x2"));
+        assert_eq!(z, BTreeMap::from([(monomial("x1^4 x2^2"), 2)]));
+    }
+
+    #[test]
+    fn derivative_of_one_and_of_an_unfed_variable_is_zero() {
+        let fed = system(2, "x1' = x1^2 x2");
+        assert!(fed.derivative(Monomial::ONE).is_empty());
+        assert!(fed.derivative(monomial("x2^5")).is_empty());
+    }
+
+    /// Document 001, Example 4: V2 and the one nonsquare of {x^3}.
+    #[test]
+    fn nonsquares_of_example_4() {
+        let example = system(1, "x1' = x1^4 + x1^3");
+        let cube = set(&["x1^3"]);
+        assert_eq!(example.nonsquares(&cube), set(&["x1^5"]));
+        let v2: BTreeSet<_> = ["1", "x1", "x1^2", "x1^3", "x1^4", "x1^6"]
+            .iter()
+            .map(|name| monomial(name))
+            .collect();
+        assert_eq!(squares(&example.signals(&cube)), v2);
+        assert_eq!(example.first_not_quadratic(&cube), Some(2));
+    }
+}

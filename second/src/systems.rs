@@ -1,0 +1,448 @@
+//! Random systems within document 01's limits, of kinds that planning treats
+//! differently, and random sets to go with them.
+
+use crate::monomial::Monomial;
+use crate::random::Random;
+use crate::records::{MOST_COEFFICIENT, MOST_EXPONENT, MOST_SET_EXPONENT, MOST_TERMS};
+use crate::system::{Set, System, Term};
+
+/// A system that takes a term only where the rules allow it.
+struct Draft {
+    n: usize,
+    terms: Vec<Term>,
+}
+
+impl Draft {
+    fn of(n: usize) -> Draft {
+        Draft {
+            n,
+            terms: Vec::new(),
+        }
+    }
+
+    fn add(&mut self, equation: usize, monomial: Monomial, coefficient: i64) {
+        let term = Term {
+            equation,
+            monomial,
+            coefficient,
+        };
+        let allowed = self.terms.len() < MOST_TERMS
+            && monomial.0.iter().all(|&e| e <= MOST_EXPONENT)
+            && monomial.0[self.n..].iter().all(|&e| e == 0)
+            && coefficient != 0
+            && coefficient.abs() <= MOST_COEFFICIENT
+            && !self.terms.iter().any(|earlier| earlier.repeats(&term));
+        if allowed {
+            self.terms.push(term);
+        }
+    }
+
+    /// The system, its records in any order.
+    fn finish(mut self, random: &mut Random) -> System {
+        random.shuffle(&mut self.terms);
+        System {
+            n: self.n,
+            terms: self.terms,
+        }
+    }
+}
+
+/// A coefficient: mostly small, often at or next to the limit.
+fn coefficient(random: &mut Random) -> i64 {
+    let size = match random.below(10) {
+        0 => MOST_COEFFICIENT,
+        1 => MOST_COEFFICIENT - random.below(3) as i64,
+        2 => random.between(1, MOST_COEFFICIENT as usize) as i64,
+        _ => random.between(1, 4) as i64,
+    };
+    if random.chance(50) {
+        -size
+    } else {
+        size
+    }
+}
+
+/// A product of so many variables among the first n.
+fn product(random: &mut Random, n: usize, degree: usize) -> Monomial {
+    (0..degree).fold(Monomial::ONE, |m, _| {
+        m.times(Monomial::variable(random.between(1, n)))
+    })
+}
+
+/// A power of x1.
+fn power(exponent: usize) -> Monomial {
+    let mut monomial = Monomial::ONE;
+    monomial.0[0] = exponent as u16;
+    monomial
+}
+
+/// One variable, one to four powers of it.
+fn scalar(random: &mut Random) -> System {
+    let mut draft = Draft::of(1);
+    let highest = random.pick(&[3, 4, 5, 5, 6, 9]);
+    for _ in 0..random.between(1, 4) {
+        draft.add(1, power(random.between(0, highest)), coefficient(random));
+    }
+    draft.finish(random)
+}
+
+/// A few terms of low degree in each equation.
+fn sparse(random: &mut Random) -> System {
+    let n = random.between(1, 4);
+    let mut draft = Draft::of(n);
+    for equation in 1..=n {
+        for _ in 0..random.below(3) {
+            let degree = random.pick(&[0, 1, 2, 2, 3, 3, 4]);
+            draft.add(equation, product(random, n, degree), coefficient(random));
+        }
+    }
+    draft.finish(random)
+}
+
+/// Linear equations with one or two terms of degree three.
+fn nearly_linear(random: &mut Random) -> System {
+    let n = random.between(2, 6);
+    let mut draft = Draft::of(n);
+    for equation in 1..=n {
+        draft.add(equation, product(random, n, 1), coefficient(random));
+    }
+    for _ in 0..random.between(1, 2) {
+        let equation = random.between(1, n);
+        draft.add(equation, product(random, n, 3), coefficient(random));
+    }
+    draft.finish(random)
+}
+
+/// Exponents up to the highest, few records.
+fn tall(random: &mut Random) -> System {
+    let n = random.between(1, 6);
+    let mut draft = Draft::of(n);
+    for _ in 0..random.between(1, 3) {
+        let mut monomial = Monomial::ONE;
+        for i in 0..n {
+            if random.chance(40) {
+                monomial.0[i] = random.between(0, 9) as u16;
+            }
+        }
+        draft.add(random.between(1, n), monomial, coefficient(random));
+    }
+    draft.finish(random)
+}
+
+/// Many records of degree two at most: quadratic as it stands.
+fn flat(random: &mut Random) -> System {
+    let n = random.between(1, 6);
+    let mut draft = Draft::of(n);
+    for _ in 0..random.between(0, 40) {
+        let degree = random.below(3);
+        let equation = random.between(1, n);
+        draft.add(equation, product(random, n, degree), coefficient(random));
+    }
+    draft.finish(random)
+}
+
+/// x1 and x2 grow against each other, so that the derivative of x1^p x2^q
+/// cancels, or misses cancelling by one.
+fn cancelling(random: &mut Random) -> System {
+    let n = random.between(2, 4);
+    let (p, q) = (random.between(1, 3) as i64, random.between(1, 3) as i64);
+    let most = MOST_COEFFICIENT / p.max(q);
+    let scale = random.pick(&[1, 1, 2, most, most - 1]);
+    let miss = random.pick(&[0, 0, 0, 1, -1]);
+    let mut common = Monomial::ONE;
+    if random.chance(60) {
+        common.0[0] = p as u16;
+        common.0[1] = q as u16;
+    } else {
+        let degree = random.between(1, 3);
+        common = product(random, n, degree);
+    }
+    let mut draft = Draft::of(n);
+    draft.add(1, common.times(Monomial::variable(1)), q * scale);
+    draft.add(2, common.times(Monomial::variable(2)), -p * scale + miss);
+    if n > 2 && random.chance(50) {
+        let degree = random.between(0, 2);
+        let equation = random.between(3, n);
+        draft.add(equation, product(random, n, degree), coefficient(random));
+    }
+    draft.finish(random)
+}
+
+/// x2 is fed by powers of x1 alone (document 001, section 7).
+fn powers_of_an_unfed_variable(random: &mut Random) -> System {
+    let mut draft = Draft::of(2);
+    for _ in 0..random.between(2, 4) {
+        draft.add(2, power(random.between(1, 9)), coefficient(random));
+    }
+    draft.finish(random)
+}
+
+/// The same right side in several equations.
+fn alike(random: &mut Random) -> System {
+    let n = random.between(2, 4);
+    let mut draft = Draft::of(n);
+    for _ in 0..random.between(1, 2) {
+        let degree = random.between(2, 4);
+        let monomial = product(random, n, degree);
+        for equation in 1..=n {
+            if random.chance(80) {
+                draft.add(equation, monomial, coefficient(random));
+            }
+        }
+    }
+    draft.finish(random)
+}
+
+/// One equation, the other variables unfed.
+fn one_fed(random: &mut Random) -> System {
+    let n = random.between(2, 5);
+    let mut draft = Draft::of(n);
+    let equation = random.between(1, n);
+    for _ in 0..random.between(1, 2) {
+        let degree = random.between(2, 4);
+        draft.add(equation, product(random, n, degree), coefficient(random));
+    }
+    draft.finish(random)
+}
+
+/// One variable fed by even products of unfed ones: many smallest sets.
+fn many_sets(random: &mut Random) -> System {
+    let n = random.between(3, 6);
+    let mut draft = Draft::of(n);
+    for _ in 0..random.between(1, 3) {
+        let mut monomial = Monomial::ONE;
+        for _ in 0..2 {
+            monomial.0[random.between(1, n - 1)] = random.pick(&[2, 2, 4]);
+        }
+        draft.add(1, monomial, coefficient(random));
+    }
+    draft.finish(random)
+}
+
+/// Two or three variables that feed each other with powers: long walks.
+fn mutual(random: &mut Random) -> System {
+    let n = random.between(2, 3);
+    let mut draft = Draft::of(n);
+    for equation in 1..=n {
+        let other = equation % n + 1;
+        let exponent = random.between(2, 6);
+        let fed = (0..exponent).fold(Monomial::ONE, |m, _| m.times(Monomial::variable(other)));
+        draft.add(equation, fed, coefficient(random));
+    }
+    if random.chance(30) {
+        let equation = random.between(1, n);
+        draft.add(equation, product(random, n, 3), coefficient(random));
+    }
+    draft.finish(random)
+}
+
+/// Moves the variables to other places among more variables, so that some are
+/// unused.
+fn spread(random: &mut Random, system: &System) -> System {
+    let n = random.between(system.n, 6);
+    let mut places: Vec<usize> = (0..n).collect();
+    random.shuffle(&mut places);
+    let moved = |monomial: Monomial| {
+        let mut exponents = [0; 6];
+        for i in 0..system.n {
+            exponents[places[i]] = monomial.0[i];
+        }
+        Monomial(exponents)
+    };
+    let terms = system.terms.iter().map(|term| Term {
+        equation: places[term.equation - 1] + 1,
+        monomial: moved(term.monomial),
+        coefficient: term.coefficient,
+    });
+    System {
+        n,
+        terms: terms.collect(),
+    }
+}
+
+/// A system to be planned.
+pub fn any(random: &mut Random) -> System {
+    let kinds: [fn(&mut Random) -> System; 15] = [
+        scalar,
+        scalar,
+        sparse,
+        sparse,
+        nearly_linear,
+        tall,
+        flat,
+        cancelling,
+        cancelling,
+        powers_of_an_unfed_variable,
+        alike,
+        one_fed,
+        many_sets,
+        mutual,
+        mutual,
+    ];
+    let system = random.pick(&kinds)(random);
+    if random.chance(25) {
+        return spread(random, &system);
+    }
+    system
+}
+
+/// So many different records that all rules allow. One variable has no more
+/// than ten monomials, so n is raised where `count` calls for it.
+pub fn run(random: &mut Random, n: usize, count: usize) -> System {
+    let n = if count > 10 { n.max(2) } else { n };
+    let mut draft = Draft::of(n);
+    while draft.terms.len() < count {
+        let mut monomial = Monomial::ONE;
+        for exponent in &mut monomial.0[..n] {
+            *exponent = match random.below(3) {
+                0 => random.below(10) as u16,
+                _ => random.below(3) as u16,
+            };
+        }
+        draft.add(random.between(1, n), monomial, coefficient(random));
+    }
+    System {
+        n,
+        terms: draft.terms,
+    }
+}
+
+/// A monomial that a set may hold.
+pub fn member(random: &mut Random, n: usize) -> Monomial {
+    loop {
+        let mut monomial = Monomial::ONE;
+        for i in 0..n {
+            monomial.0[i] = match random.below(20) {
+                0 => MOST_SET_EXPONENT,
+                1 => random.between(0, 54) as u16,
+                2..=9 => random.between(1, 3) as u16,
+                _ => 0,
+            };
+        }
+        if monomial != Monomial::ONE && !monomial.is_variable() {
+            return monomial;
+        }
+    }
+}
+
+/// A set of the given size.
+pub fn set(random: &mut Random, n: usize, size: usize) -> Set {
+    let mut set = Set::new();
+    while set.len() < size {
+        set.insert(member(random, n));
+    }
+    set
+}
+
+/// A set first, and then a system that it makes quadratic. Each xi that the set
+/// uses grows by xi times signals, which multiplies every new monomial by those
+/// signals too; the other variables may be fed by any product of two signals.
+pub fn around_a_set(random: &mut Random, n: usize, size: usize) -> (System, Set) {
+    let set = set(random, n, size);
+    let signals = System {
+        n,
+        terms: Vec::new(),
+    }
+    .signals(&set);
+    let mut draft = Draft::of(n);
+    let most = random.pick(&[1, 2, 2, 3, 8]);
+    for equation in 1..=n {
+        let used = set.iter().any(|m| m.0[equation - 1] > 0);
+        for _ in 0..random.between(0, most) {
+            let first = if used {
+                Monomial::variable(equation)
+            } else {
+                random.pick(&signals)
+            };
+            let second = random.pick(&signals);
+            draft.add(equation, first.times(second), coefficient(random));
+        }
+    }
+    (draft.finish(random), set)
+}
+
+/// A set of four that is quadratic exactly when the derivative of its member
+/// z = x1^p x2^q cancels: the rest of what z would need, x3 x4 z, is no product.
+pub fn decided_by_cancelling(random: &mut Random) -> (System, Set) {
+    let (p, q) = (random.between(1, 3), random.between(1, 3));
+    let most = MOST_COEFFICIENT / p.max(q) as i64;
+    let scale = random.pick(&[2, 3, most - 1]);
+    let miss = random.pick(&[0, 0, 1, -1]);
+    let n = random.between(4, 6);
+    let mut draft = Draft::of(n);
+    draft.add(1, Monomial([1, 0, 1, 1, 0, 0]), q as i64 * scale);
+    draft.add(2, Monomial([0, 1, 1, 1, 0, 0]), -(p as i64) * scale + miss);
+    let set = Set::from([
+        Monomial([1, 0, 1, 0, 0, 0]),
+        Monomial([0, 1, 1, 0, 0, 0]),
+        Monomial([0, 0, 2, 1, 0, 0]),
+        Monomial([p as u16, q as u16, 0, 0, 0, 0]),
+    ]);
+    (draft.finish(random), set)
+}
+
+#[cfg(test)]
+mod tests {
+    use super::*;
+    use crate::records::{read_terms, set_faults, write_set, write_terms};
+
+    #[test]
+    fn random_systems_are_taken() {
+        let mut random = Random::from_seed(2);
+        for _ in 0..2000 {
+            let system = any(&mut random);
+            assert!((1..=6).contains(&system.n));
+            let read = read_terms(system.n, &write_terms(&system.terms));
+            assert_eq!(read, Ok(system));
+        }
+    }
+
+    #[test]
+    fn runs_have_their_length_and_are_taken() {
+        let mut random = Random::from_seed(3);
+        for count in 0..=32 {
+            for n in 1..=6 {
+                let system = run(&mut random, n, count);
+                assert_eq!(system.terms.len(), count);
+                let read = read_terms(system.n, &write_terms(&system.terms));
+                assert_eq!(read, Ok(system));
+            }
+        }
+    }
+
+    #[test]
+    fn a_system_around_a_set_is_made_quadratic_by_it() {
+        let mut random = Random::from_seed(4);
+        for n in 1..=6 {
+            for size in 0..=6 {
+                for _ in 0..20 {
+                    let (system, set) = around_a_set(&mut random, n, size);
+                    assert!(set_faults(n, &write_set(&set)).is_empty());
+                    assert_eq!(system.first_not_quadratic(&set), None);
+                }
+            }
+        }
+    }
+
+    #[test]
+    fn cancelling_decides_both_ways() {
+        let mut random = Random::from_seed(5);
+        let mut quadratic = [0, 0];
+        for _ in 0..200 {
+            let (system, set) = decided_by_cancelling(&mut random);
+            let rate = |i: usize| {
+                let fed = system.terms.iter().find(|t| t.equation == i);
+                fed.unwrap().coefficient
+            };
+            let cancels = |z: &&Monomial| z.0[2] == 0 && z.0[0] > 0;
+            let z = set.iter().find(cancels).unwrap();
+            let sum = i64::from(z.0[0]) * rate(1) + i64::from(z.0[1]) * rate(2);
+            assert_eq!(system.first_not_quadratic(&set).is_none(), sum == 0);
+            match system.first_not_quadratic(&set) {
+                None => quadratic[0] += 1,
+                Some(_) => quadratic[1] += 1,
+            }
+        }
+        assert!(quadratic[0] > 20 && quadratic[1] > 20);
+    }
+}

@@ -1,0 +1,119 @@
+//! The walk, level by level (document 01, The walk).
+
+use crate::monomial::Monomial;
+use crate::system::{Set, System};
+use std::collections::BTreeSet;
+
+/// How a walk ended.
+#[derive(Clone, Copy, PartialEq, Eq, Debug)]
+pub enum End {
+    Done,
+    None,
+    Full,
+    Spent,
+}
+
+/// The end of a walk, the level it ended in, its steps and its finds.
+pub struct Walked {
+    pub end: End,
+    pub level: usize,
+    pub steps: u64,
+    pub finds: BTreeSet<Vec<Monomial>>,
+}
+
+/// Walks up to the cap, within the limit, with room for so many sets.
+pub fn walk(system: &System, cap: usize, limit: u64, room: usize) -> Walked {
+    let mut walk = Walk {
+        system,
+        level: 0,
+        limit,
+        room,
+        steps: 0,
+        finds: BTreeSet::new(),
+    };
+    let end = walk.levels(cap);
+    Walked {
+        end,
+        level: walk.level,
+        steps: walk.steps,
+        finds: walk.finds,
+    }
+}
+
+/// Why the walk stops at once, in the midst of a level.
+enum Stop {
+    Full,
+    Spent,
+}
+
+struct Walk<'a> {
+    system: &'a System,
+    level: usize,
+    limit: u64,
+    room: usize,
+    steps: u64,
+    finds: BTreeSet<Vec<Monomial>>,
+}
+
+impl Walk<'_> {
+    fn levels(&mut self, cap: usize) -> End {
+        for level in 0..=cap {
+            self.level = level;
+            match self.open(&Set::new()) {
+                Err(Stop::Full) => return End::Full,
+                Err(Stop::Spent) => return End::Spent,
+                Ok(()) if !self.finds.is_empty() => return End::Done,
+                Ok(()) => {}
+            }
+        }
+        End::None
+    }
+
+    /// Takes one step, unless it would pass the limit.
+    fn step(&mut self) -> Result<(), Stop> {
+        if self.steps == self.limit {
+            return Err(Stop::Spent);
+        }
+        self.steps += 1;
+        Ok(())
+    }
+
+    /// Opens a set: a find, or the end of this path, or pairs to try.
+    fn open(&mut self, set: &Set) -> Result<(), Stop> {
+        self.step()?;
+        let nonsquares = self.system.nonsquares(set);
+        match nonsquares.into_iter().min_by_key(|m| (m.score(), *m)) {
+            None => self.find(set),
+            Some(_) if set.len() == self.level => Ok(()),
+            Some(nonsquare) => self.try_pairs(set, nonsquare),
+        }
+    }
+
+    /// Tries the pairs of a nonsquare, each child walked to its end at once.
+    fn try_pairs(&mut self, set: &Set, nonsquare: Monomial) -> Result<(), Stop> {
+        let signals = self.system.signals(set);
+        for (m1, m2) in nonsquare.pairs() {
+            self.step()?;
+            let mut child = set.clone();
+            child.extend([m1, m2].iter().filter(|m| !signals.contains(m)));
+            if child.len() <= self.level {
+                self.open(&child)?;
+            }
+        }
+        Ok(())
+    }
+
+    /// Lists a find once. Its step is taken already, so full comes first where
+    /// full and spent would meet.
+    fn find(&mut self, set: &Set) -> Result<(), Stop> {
+        let members: Vec<Monomial> = set.iter().copied().collect();
+        if self.finds.contains(&members) {
+            return Ok(());
+        }
+        if self.finds.len() == self.room {
+            return Err(Stop::Full);
+        }
+        self.finds.insert(members);
+        Ok(())
+    }
+}

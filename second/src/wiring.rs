@@ -1,0 +1,45 @@
+//! The wiring list of a quadratic set (document 01, Monomials, derivatives,
+//! squares).
+
+use crate::monomial::Monomial;
+use crate::system::{Set, System};
+
+/// One record: `coefficient` times signal a times signal b feeds `left`.
+#[derive(Clone, Copy, PartialEq, Eq, Debug)]
+pub struct Wire {
+    pub left: usize,
+    pub a: usize,
+    pub b: usize,
+    pub coefficient: i64,
+}
+
+/// The pair of smallest a, then smallest b, whose product is the monomial.
+fn first_pair(signals: &[Monomial], monomial: Monomial) -> Option<(usize, usize)> {
+    for a in 0..signals.len() {
+        for b in a..signals.len() {
+            if signals[a].times(signals[b]) == monomial {
+                return Some((a, b));
+            }
+        }
+    }
+    None
+}
+
+/// The list: left variables ascending, within each its monomials ascending.
+/// A nonsquare has no pair, and then there is no list.
+pub fn wiring(system: &System, set: &Set) -> Option<Vec<Wire>> {
+    let signals = system.signals(set);
+    let mut list = Vec::new();
+    for left in 1..signals.len() {
+        for (monomial, coefficient) in system.derivative(signals[left]) {
+            let (a, b) = first_pair(&signals, monomial)?;
+            list.push(Wire {
+                left,
+                a,
+                b,
+                coefficient,
+            });
+        }
+    }
+    Some(list)
+}
