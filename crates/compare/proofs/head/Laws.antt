@@ -1,0 +1,26 @@
+-- The lengths of a head that is answered are within the buffers. Assumes nothing.
+use mathlib.Core.Path.{_≡_}
+use mathlib.Core.Bool.{true, _&&_}
+use Prim.Native.Nat.{_≤_}
+use borrow.Author.Tests.{leb-true}
+use lib.Dec.{leb}
+use Rattle.monomial.proofs.Tests.{T→is, is→T, and-l, and-r}
+use Rattle.compare.specs.Head.{right}
+use Rattle.compare.specs.declared.head.Head.{Head}
+
+pub record Within (h : Head) : Type 0 where
+  pub set : h .set ≤ 255
+  pub terms : h .terms ≤ 600
+  pub size : h .size ≤ 65536
+
+pub right-within : (h : Head) → right h ≡ true → Within h
+unfolding right
+right-within h e =
+    let all = is→T (right h) e in
+    let rest = and-l (leb 1 (h .operation) && leb (h .operation) 3 && leb (h .set) 255 && leb (h .terms) 600) _ all in
+    let most = and-l (leb 1 (h .operation) && leb (h .operation) 3 && leb (h .set) 255) _ rest in
+    record {
+      set = leb-true _ _ (T→is _ (and-r (leb 1 (h .operation) && leb (h .operation) 3) _ most));
+      terms = leb-true _ _ (T→is _ (and-r (leb 1 (h .operation) && leb (h .operation) 3 && leb (h .set) 255) _ rest));
+      size = leb-true _ _ (T→is _ (and-r (leb 1 (h .operation) && leb (h .operation) 3 && leb (h .set) 255 && leb (h .terms) 600) _ all));
+    }

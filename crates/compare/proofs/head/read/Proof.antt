@@ -1,0 +1,61 @@
+-- `read` meets its contract: field by field. Assumes nothing.
+use Rattle.compare.specs.Head.{headOf}
+use borrow.Author.Needs.{needs}
+use Rattle.compare.proofs.head.read.Statement.{statement}
+use Rattle.compare.proofs.head.read.Tie as tie
+
+element-copy-out-wide : tie.Need-element-copy-out-wide
+element-copy-out-wide c = search needs
+
+wide-requires : tie.Need-wide-requires
+wide-requires c κs = search needs
+
+element-copy-out-wide-2 : tie.Need-element-copy-out-wide-2
+element-copy-out-wide-2 c = search needs
+
+wide-requires-2 : tie.Need-wide-requires-2
+wide-requires-2 c κs = search needs
+
+two-at-requires : tie.Need-two-at-requires
+two-at-requires c κs = search needs
+
+four-at-requires : tie.Need-four-at-requires
+four-at-requires c κs = search needs
+
+eight-at-requires : tie.Need-eight-at-requires
+eight-at-requires c κs = search needs
+
+eight-at-requires-2 : tie.Need-eight-at-requires-2
+eight-at-requires-2 c κs = search needs
+
+eight-at-requires-3 : tie.Need-eight-at-requires-3
+eight-at-requires-3 c κs = search needs
+
+returns : tie.Need-returns
+unfolding headOf
+returns c =
+    let low = c .before .before .before in
+    rw (
+      low .before .before .before .before .wide .ensures .0,
+      low .before .before .wide2 .ensures .0,
+      low .before .two-at .ensures .0,
+      low .four-at .ensures .0,
+      c .before .before .eight-at .ensures,
+      c .before .eight-at2 .ensures,
+      c .eight-at3 .ensures,
+    )
+
+pub read-spec : {M : Type 1} → statement M
+read-spec =
+    tie.close
+    (tie.spec
+    element-copy-out-wide
+    wide-requires
+    element-copy-out-wide-2
+    wide-requires-2
+    two-at-requires
+    four-at-requires
+    eight-at-requires
+    eight-at-requires-2
+    eight-at-requires-3
+    returns)

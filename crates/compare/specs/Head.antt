@@ -1,0 +1,31 @@
+-- The head of a case: numbers in two, four and eight bytes, low byte first, and which heads are answered. Assumes nothing.
+use mathlib.Core.Bool.{Bool, _&&_}
+use mathlib.Core.List.{List}
+use Prim.Native.Nat.{ℕ, _+_, _*_}
+use lib.Dec.{leb}
+use lib.ListN.{getD}
+use Rattle.compare.specs.declared.head.Head.{Head}
+
+abbrev pub two : List ℕ → ℕ → ℕ
+two l at = getD l at 0 + 256 * getD l (at + 1) 0
+
+abbrev pub four : List ℕ → ℕ → ℕ
+four l at = two l at + 65536 * two l (at + 2)
+
+abbrev pub eight : List ℕ → ℕ → ℕ
+eight l at = four l at + 4294967296 * four l (at + 4)
+
+unfoldable pub headOf : List ℕ → Head
+headOf bytes = record {
+  operation = getD bytes 0 0;
+  set = getD bytes 1 0;
+  terms = two bytes 2;
+  size = four bytes 4;
+  n = eight bytes 8;
+  cap = eight bytes 16;
+  limit = eight bytes 24;
+}
+
+-- a known operation, and lengths within the limits
+unfoldable pub right : Head → Bool
+right h = leb 1 (h .operation) && leb (h .operation) 3 && leb (h .set) 255 && leb (h .terms) 600 && leb (h .size) 65536

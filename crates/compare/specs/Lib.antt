@@ -1,0 +1,2 @@
+-- What the contracts of the head cite.
+pub mod Head

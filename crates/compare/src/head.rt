@@ -1,0 +1,69 @@
+// The head of a case: 32 bytes, each number low byte first.
+use lines::text;
+ghost use mathlib.Core.Path.{_≡_};
+ghost use Prim.Native.Nat.{_+_, _≤_, _<_};
+ghost use Rattle.compare.specs.Head.{two, four, eight, headOf, right};
+
+pub struct Head {
+    pub operation: u64,
+    pub set: usize,
+    pub terms: usize,
+    pub size: usize,
+    pub n: u64,
+    pub cap: u64,
+    pub limit: u64,
+}
+
+fn two_at(b: &[u8; 32], at: usize) -> u64
+    requires { ⌜ at + 2 ≤ 32 ⌝ }
+    ensures { λ r. ⌜ (r ≡ two (now (b .entry)) at) × (r < 65536) ⌝ }
+{
+    text::wide(b[at]) + 256 * text::wide(b[at + 1])
+}
+
+fn four_at(b: &[u8; 32], at: usize) -> u64
+    requires { ⌜ at + 4 ≤ 32 ⌝ }
+    ensures { λ r. ⌜ (r ≡ four (now (b .entry)) at) × (r < 4294967296) ⌝ }
+{
+    two_at(b, at) + 65536 * two_at(b, at + 2)
+}
+
+fn eight_at(b: &[u8; 32], at: usize) -> u64
+    requires { ⌜ at + 8 ≤ 32 ⌝ }
+    ensures { λ r. ⌜ r ≡ eight (now (b .entry)) at ⌝ }
+{
+    four_at(b, at) + 4294967296 * four_at(b, at + 4)
+}
+
+pub fn read(b: &[u8; 32]) -> Head
+    ensures { λ r. ⌜ r ≡ headOf (now (b .entry)) ⌝ }
+{
+    Head {
+        operation: text::wide(b[0]),
+        set: text::wide(b[1]) as usize,
+        terms: two_at(b, 2) as usize,
+        size: four_at(b, 4) as usize,
+        n: eight_at(b, 8),
+        cap: eight_at(b, 16),
+        limit: eight_at(b, 24),
+    }
+}
+
+// The operation is known, and the lengths are within the limits.
+pub fn is_right(h: Head) -> bool
+    ensures { λ r. ⌜ r ≡ right h ⌝ }
+{
+    if h.operation < 1 {
+        return false;
+    }
+    if 3 < h.operation {
+        return false;
+    }
+    if 255 < h.set {
+        return false;
+    }
+    if 600 < h.terms {
+        return false;
+    }
+    h.size <= 65536
+}

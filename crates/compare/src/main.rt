@@ -1,0 +1,123 @@
+// Answers a batch of cases from standard input, one line for each, so that another program's answers can be held against them.
+//
+// A case is a head of 32 bytes, then term records, then a set record. The head: operation (1 plan, 2 check, 3 wire), length of the set (one byte),
+// of the terms (two), of the answer buffer (four), then n, cap and limit (eight each); low byte first.
+mod head;
+
+use head::Head;
+use lines::answer;
+use lines::case;
+use walk::plan;
+use wiring::answers;
+use wiring::reply;
+use wiring::reply::Reply;
+ghost use mathlib.Core.Path.{_≡_};
+ghost use Prim.Native.Nat.{_≤_};
+ghost use lib.ListN.{length, replicate};
+
+// A case that is itself broken ends the answers.
+fn broken() -> bool {
+    io::write_all(1, b"broken batch\n");
+    false
+}
+
+fn show_reply(r: Reply) {
+    let mut line = [0u8; 1024];
+    let end = answer::reply_line(reply::numbers(r), &mut line);
+    io::write_all(1, &line[..end]);
+}
+
+fn show_case(r: Reply, buffer: &[u8]) {
+    let mut line = [0u8; 1024];
+    let end = case::case_line(reply::numbers(r), buffer, &mut line);
+    io::write_all(1, &line[..end]);
+}
+
+// Bytes that show where an operation leaves the buffer as it was.
+fn fill(buffer: &mut [u8])
+    ensures { λ _. ⌜ now (buffer .exit) ≡ replicate (length (now (buffer .entry))) 165 ⌝ }
+{
+    let mut i: usize = 0;
+    while i < buffer.len() {
+        buffer[i] = 165;
+        i += 1;
+    }
+}
+
+fn answer_case(h: Head, terms: &[u8], set: &[u8], buffer: &mut [u8]) {
+    fill(buffer);
+    let operation = h.operation;
+    if operation == 1 {
+        let planned = plan::plan(h.n, h.cap, h.limit, terms, buffer);
+        show_case(planned, buffer);
+    } else if operation == 2 {
+        show_reply(answers::check(h.n, terms, set));
+    } else {
+        let wired = answers::wire(h.n, terms, set, buffer);
+        show_case(wired, buffer);
+    }
+}
+
+// Reads n bytes to the start of a buffer; false where the input ends before.
+fn fetch(buffer: &mut [u8], n: usize) -> bool
+    requires { ⌜ n ≤ length (now buffer) ⌝ }
+{
+    io::read_full(0, &mut buffer[0..n]) == n
+}
+
+// Reads what follows the head, and answers.
+fn answer_rest(h: Head, terms: &mut [u8], set: &mut [u8], buffer: &mut [u8]) -> bool
+    requires { ⌜ (h .terms ≤ length (now terms)) × ((h .set ≤ length (now set)) × (h .size ≤ length (now buffer))) ⌝ }
+{
+    let terms_length = h.terms;
+    if !fetch(terms, terms_length) {
+        return broken();
+    }
+    let set_length = h.set;
+    if !fetch(set, set_length) {
+        return broken();
+    }
+    let size = h.size;
+    answer_case(
+        h,
+        &terms[0..terms_length],
+        &set[0..set_length],
+        &mut buffer[0..size],
+    );
+    true
+}
+
+// Answers the case of a head. The buffers are those of the kit, larger than the lengths that a right head has.
+fn answer_head(h: Head) -> bool {
+    if !head::is_right(h) {
+        return broken();
+    }
+    let mut terms = io::buffer();
+    let mut set = io::buffer();
+    let mut buffer = io::large_buffer();
+    answer_rest(h, &mut terms, &mut set, &mut buffer)
+}
+
+// Reads and answers the next case; false at the end of the input and after a broken case.
+fn answer_next() -> bool {
+    let mut bytes = [0u8; 32];
+    let got = io::read_full(0, &mut bytes);
+    if got == 0 {
+        return false;
+    }
+    if got < 32 {
+        return broken();
+    }
+    answer_head(head::read(&bytes))
+}
+
+fn main() {
+    // Nothing says that an input ends, so there is a most that is answered.
+    let mut left: u64 = 1000000000000;
+    while 0 < left {
+        if !answer_next() {
+            return;
+        }
+        left -= 1;
+    }
+}

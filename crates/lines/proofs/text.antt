@@ -1,0 +1,2 @@
+-- The laws of the module text.
+pub mod Laws
