@@ -5,12 +5,10 @@
 mod head;
 
 use head::Head;
-use lines::answer;
-use lines::case;
+use lines::show;
 use walk::plan;
 use wiring::answers;
 use wiring::reply;
-use wiring::reply::Reply;
 ghost use mathlib.Core.Path.{_≡_};
 ghost use Prim.Native.Nat.{_≤_};
 ghost use lib.ListN.{length, replicate};
@@ -19,18 +17,6 @@ ghost use lib.ListN.{length, replicate};
 fn broken() -> bool {
     io::write_all(1, b"broken batch\n");
     false
-}
-
-fn show_reply(r: Reply) {
-    let mut line = [0u8; 1024];
-    let end = answer::reply_line(reply::numbers(r), &mut line);
-    io::write_all(1, &line[..end]);
-}
-
-fn show_case(r: Reply, buffer: &[u8]) {
-    let mut line = [0u8; 1024];
-    let end = case::case_line(reply::numbers(r), buffer, &mut line);
-    io::write_all(1, &line[..end]);
 }
 
 // Bytes that show where an operation leaves the buffer as it was.
@@ -49,12 +35,12 @@ fn answer_case(h: Head, terms: &[u8], set: &[u8], buffer: &mut [u8]) {
     let operation = h.operation;
     if operation == 1 {
         let planned = plan::plan(h.n, h.cap, h.limit, terms, buffer);
-        show_case(planned, buffer);
+        show::show_case(reply::numbers(planned), buffer);
     } else if operation == 2 {
-        show_reply(answers::check(h.n, terms, set));
+        show::show_reply(reply::numbers(answers::check(h.n, terms, set)));
     } else {
         let wired = answers::wire(h.n, terms, set, buffer);
-        show_case(wired, buffer);
+        show::show_case(reply::numbers(wired), buffer);
     }
 }
 

@@ -4,4 +4,5 @@
 pub mod answer;
 pub mod case;
 pub mod digest;
+pub mod show;
 pub mod text;

@@ -4,8 +4,8 @@ use Prim.Native.Nat.{_/_, _-_}
 use native.Mathlib.Omega.{arith}
 use lib.ListN.{length}
 use borrow.Author.Needs.{needs}
-use Rattle.planner.proofs.show_wires.Statement.{statement}
-use Rattle.planner.proofs.show_wires.Tie as tie
+use Rattle.lines.proofs.show.show_wires.Statement.{statement}
+use Rattle.lines.proofs.show.show_wires.Tie as tie
 
 abbrev Inv-loop : tie.InvT-loop
 Inv-loop wires count held i₀ i = held ≡ length wires / 8

@@ -4,8 +4,8 @@ use Prim.Native.Nat.{_/_, _-_}
 use native.Mathlib.Omega.{arith}
 use lib.ListN.{length}
 use borrow.Author.Needs.{needs}
-use Rattle.planner.proofs.show_sets.Statement.{statement}
-use Rattle.planner.proofs.show_sets.Tie as tie
+use Rattle.lines.proofs.show.show_sets.Statement.{statement}
+use Rattle.lines.proofs.show.show_sets.Tie as tie
 
 abbrev Inv-loop : tie.InvT-loop
 Inv-loop sets count size held i₀ i = held ≡ length sets / 36
