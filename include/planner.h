@@ -13,7 +13,7 @@
  * the pointer is not followed, and NULL will do. `five` is never NULL.
  *
  * Calls. There is no state behind them: they may run in any thread and at the same time. They take no heap, call nothing but memcpy and
- * memset, and always return. Stack, measured on x86-64 and rounded up: 16 KB for planning, 4 KB for each of the others.
+ * memset, and always return. Stack, measured on x86-64 and rounded up: 12 KB for planning, 2 KB for each of the others.
  */
 #ifndef SIRAGUMON_PLANNER_H
 #define SIRAGUMON_PLANNER_H
