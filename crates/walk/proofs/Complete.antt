@@ -24,8 +24,9 @@ use Rattle.wiring.specs.Choice.{chosen}
 use Rattle.wiring.specs.Answers.{missing}
 use Rattle.wiring.proofs.quadratic.Laws.{Factors, inV2-in, inV2-out, unmet-in, unmet-out, Nonsquare, nonsquares-in, nonsquares-out}
 use Rattle.wiring.proofs.quadratic.Definition1.{no-members}
+use Rattle.wiring.proofs.signals.Laws.{base-in, signals-cases}
 use Rattle.walk.specs.Walk.{child, Step, found, tried, after, opened}
-use Rattle.walk.proofs.children.Laws.{chosen-in, base-in, signals-cases, signals-grow, signals-wide, Grown, old, left, right, child-out, child-asc, split-longer}
+use Rattle.walk.proofs.children.Laws.{chosen-in, signals-grow, signals-wide, Grown, old, left, right, child-out, child-asc, split-longer}
 
 -- monomials of six exponents
 abbrev pub Wide : List Mono → Type 0

@@ -29,13 +29,13 @@ use Rattle.wiring.specs.Terms.{Record, records, fault, system, CleanTerms}
 use Rattle.wiring.specs.Answers.{missing}
 use Rattle.wiring.specs.declared.terms.Fault.the-variants.{Clean}
 use Rattle.wiring.proofs.terms.Laws.{Fields, fields-out, clean-right, clean-widens, exponents-everywhere}
-use Rattle.wiring.proofs.signals.Laws.{constants-fit}
+use Rattle.wiring.proofs.signals.Laws.{base, base-in, signals-cases, constants-fit}
 use Rattle.wiring.proofs.derivative.Records.{summed}
 use Rattle.wiring.proofs.derivative.Bounds.{sum-fits, total-fits}
 use Rattle.wiring.proofs.sets.Exact.{Recordable}
 use Rattle.walk.specs.Walk.{child, Step, found, other, tried, after, opened}
 use Rattle.walk.specs.Turns.{Walked}
-use Rattle.walk.proofs.children.Laws.{chosen-in, base, base-in, signals-cases, Grown, old, left, right, child-sub, child-out, Imaged, imaged, nonsquare-fits, child-walked, empty-walked, walked-54}
+use Rattle.walk.proofs.children.Laws.{chosen-in, Grown, old, left, right, child-sub, child-out, Imaged, imaged, nonsquare-fits, child-walked, empty-walked, walked-54}
 
 -- ---- steps told apart
 pub other-found : {C : Type 0} {x : List Mono} → found x ≡ other → C

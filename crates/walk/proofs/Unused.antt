@@ -6,7 +6,7 @@ use mathlib.Core.Bool.{cond}
 use mathlib.Core.List.{List, [], _∷_, List·Memᴰ·head, List·Memᴰ·cases-cons, List·Memᴰ·not-nil, Memᴰ·of-map}
 use Prim.Native.Nat.{ℕ, zero, suc, _-_, _/_, _<_, _≤_}
 use native.Mathlib.Omega.{arith}
-use borrow.Author.Tests.{leb-true, le-leb}
+use borrow.Author.Tests.{leb-true}
 use lib.Dec.{T, leb}
 use lib.ListN.{length, getD, take}
 use Rattle.monomial.specs.Lists.{any}
@@ -28,17 +28,18 @@ use Rattle.wiring.specs.Derivative.{derivative}
 use Rattle.wiring.specs.Signals.{signals}
 use Rattle.wiring.specs.Choice.{chosen}
 use Rattle.wiring.specs.Terms.{Record, records, fault, system, CleanTerms}
-use Rattle.wiring.specs.Answers.{countRight, missing}
+use Rattle.wiring.specs.Answers.{missing}
 use Rattle.wiring.specs.declared.terms.Fault.the-variants.{Clean}
 use Rattle.wiring.proofs.quadratic.Laws.{Factors, inV2-in, inV2-out, unmet-in, unmet-out, Nonsquare, nonsquares-in, nonsquares-out, nonsquares-asc}
 use Rattle.wiring.proofs.Poly.{support-out}
 use Rattle.wiring.proofs.derivative.Records.{Derived, derived}
 use Rattle.wiring.proofs.terms.Exact.{Keeps, Alike, Flawless, clean-exact}
-use Rattle.wiring.proofs.answers.Exact.{beyond}
+use Rattle.wiring.proofs.answers.Exact.{count-in, beyond}
 use Rattle.wiring.proofs.terms.Laws.{Fields, fields-out, clean-right, clean-widens}
+use Rattle.wiring.proofs.signals.Laws.{base, base-in, set-in, signals-cases}
 use Rattle.walk.specs.Walk.{added, child, Step, other, tried, after, opened, level, Run, ended, spent, full, run}
 use Rattle.walk.specs.Plan.{Ending, settled, levels, plan, settingsRight, planned}
-use Rattle.walk.proofs.children.Laws.{chosen-in, base, base-in, set-in, signals-cases, signals-wide, Grown, old, left, right, child-out, nonsquare-wide}
+use Rattle.walk.proofs.children.Laws.{chosen-in, signals-wide, Grown, old, left, right, child-out, nonsquare-wide}
 use Rattle.walk.proofs.Steps.{gather-same}
 use Rattle.walk.proofs.Complete.{Wide}
 use Rattle.walk.proofs.Sound.{Within, one-within, within-divides, within-base, Proper, gap-within, keeps-proper}
@@ -251,8 +252,8 @@ clean-more n b rs h e = clean-exact b rs beyond .1 (record { keeps = λ i k. wid
 -- the same numbers, and every byte of the buffer
 pub planned-same : (n b cap limit : ℕ) (terms : List ℕ) (size : ℕ) → 1 ≤ n → n ≤ b → b ≤ 6 → fault n (records terms) ≡ Clean
     → planned n cap limit terms size ≡ planned b cap limit terms size
-unfolding planned settingsRight countRight
+unfolding planned settingsRight
 planned-same n b cap limit terms size low more few clean =
     let high : n ≤ 6 = omega arith in
     let low' : 1 ≤ b = omega arith in
-    rw (le-leb 1 n low, le-leb n 6 high, le-leb 1 b low', le-leb b 6 few, clean, clean-more n b (records terms) more clean, plan-same n b terms more few clean limit (size / 36) cap)
+    rw (count-in n (low, high), count-in b (low', few), clean, clean-more n b (records terms) more clean, plan-same n b terms more few clean limit (size / 36) cap)

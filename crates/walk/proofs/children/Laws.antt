@@ -2,12 +2,12 @@
 -- of the walk, so that exponents of sets stay at or below 54 and those of nonsquares at or below 63. Assumes nothing.
 use mathlib.Core.Path.{_≡_, sym, ap, _∙_, subst}
 use mathlib.Core.Logic.{_⊎_, inl, inr, ⊎-elim}
-use mathlib.Core.List.{List, [], _∷_, map, List·Memᴰ·head, List·Memᴰ·cases-cons, List·Memᴰ·not-nil, List·Memᴰ·append-cases, Memᴰ·append-left, Memᴰ·append-right, Memᴰ·cast, Memᴰ·of-map}
+use mathlib.Core.List.{List, [], _∷_, map, List·Memᴰ·head, List·Memᴰ·cases-cons, List·Memᴰ·not-nil, Memᴰ·cast, Memᴰ·of-map}
 use Prim.Native.Nat.{ℕ, zero, suc, _+_, _*_, _-_, _<_, _≤_}
 use native.Mathlib.Nat.{mul-le-mul-left}
 use native.Mathlib.Omega.{arith}
 use lib.Dec.{T}
-use lib.ListN.{length, getD, set, take, length-set}
+use lib.ListN.{length, getD, set, length-set}
 use Rattle.monomial.specs.Lists.{any, insertBy}
 use Rattle.monomial.specs.Monomial.{Mono, one, vars, constants}
 use Rattle.monomial.specs.Order.{same, before}
@@ -30,7 +30,7 @@ use Rattle.wiring.specs.Terms.{Record, records, system, CleanTerms}
 use Rattle.wiring.specs.Answers.{missing}
 use Rattle.wiring.proofs.Poly.{support-out}
 use Rattle.wiring.proofs.quadratic.Laws.{Factors, inV2-in, unmet-out, Nonsquare, nonsquares-out}
-use Rattle.wiring.proofs.signals.Laws.{constants-fit}
+use Rattle.wiring.proofs.signals.Laws.{base, base-in, set-in, signals-cases, constants-fit}
 use Rattle.wiring.proofs.terms.Laws.{Rightful, clean-in}
 use Rattle.wiring.proofs.derivative.Records.{Derived, derived}
 use Rattle.wiring.proofs.choice.Laws.{chosen-best}
@@ -42,30 +42,15 @@ pub chosen-in : (m : Mono) (l : List Mono) → chosen m l ∈ (m ∷ l)
 chosen-in m l = chosen-best m l .0
 
 -- ---- V of a set: 1 and the variables, which are in V of every set, and its own monomials
-abbrev pub base : ℕ → List Mono
-base n = take (suc n) (constants 6)
-
 module _ (n : ℕ) where
-  pub base-in : (s : List Mono) {x : Mono} → x ∈ base n → x ∈ signals 6 n s
-  unfolding signals
-  base-in s h = Memᴰ·append-left s h
-
-  pub set-in : (s : List Mono) {x : Mono} → x ∈ s → x ∈ signals 6 n s
-  unfolding signals
-  set-in s h = Memᴰ·append-right (base n) h
-
-  pub signals-cases : (s : List Mono) {x : Mono} → x ∈ signals 6 n s → (x ∈ base n) ⊎ (x ∈ s)
-  unfolding signals
-  signals-cases s h = List·Memᴰ·append-cases (base n) h
-
   pub signals-grow : (s t : List Mono) → s ⊆ t → signals 6 n s ⊆ signals 6 n t
-  signals-grow s t sub x h = ⊎-elim (λ b. base-in t b) (λ m. set-in t (sub x m)) (signals-cases s h)
+  signals-grow s t sub x h = ⊎-elim (λ b. base-in n t b) (λ m. set-in n t (sub x m)) (signals-cases n s h)
 
   pub base-wide : (x : Mono) → x ∈ base n → length x ≡ 6
   base-wide x h = constants-fit 1 6 (omega arith) x (take-in (suc n) (constants 6) h) .0
 
   pub signals-wide : (s : List Mono) → ((x : Mono) → x ∈ s → length x ≡ 6) → (x : Mono) → x ∈ signals 6 n s → length x ≡ 6
-  signals-wide s w x h = ⊎-elim (base-wide x) (w x) (signals-cases s h)
+  signals-wide s w x h = ⊎-elim (base-wide x) (w x) (signals-cases n s h)
 
 -- ---- one monomial added
 module _ (v : List Mono) (m : Mono) where

@@ -22,11 +22,11 @@ use Rattle.monomial.proofs.order.Ascending.{_⊆_, Ascending, head-first, tail-
 use Rattle.wiring.specs.Signals.{signals, front}
 use Rattle.wiring.specs.Sets.{monomialsOf}
 use Rattle.wiring.specs.declared.sets.Set.{Set}
-use Rattle.wiring.proofs.signals.Laws.{entry, front-length, front-at, front-set}
+use Rattle.wiring.proofs.signals.Laws.{set-in, entry, front-length, front-at, front-set}
 use Rattle.walk.specs.declared.children.Tried.{Tried}
 use Rattle.walk.specs.Walk.{added, child}
 use Rattle.walk.specs.Turns.{Child}
-use Rattle.walk.proofs.children.Laws.{set-in, added-asc}
+use Rattle.walk.proofs.children.Laws.{added-asc}
 
 -- ---- where an insertion puts its entry
 module _ {A : Type 0} {alike ahead : A → A → Bool} (o : Order alike ahead) where

@@ -20,7 +20,7 @@ use Rattle.monomial.proofs.order.Laws.{Order, Compared, less, equal, more, not-
 use Rattle.wiring.specs.Signals.{front, flat}
 use Rattle.wiring.specs.Sets.{setRecord, setOf}
 use Rattle.wiring.proofs.signals.Laws.{Wide, entry, front-at}
-use Rattle.wiring.proofs.sets.Exact.{record-holds}
+use Rattle.wiring.proofs.sets.Exact.{record-is, record-holds}
 use Rattle.walk.specs.Listing.{Recorded}
 use Rattle.walk.proofs.listing.Laws.{gather-last}
 
@@ -34,12 +34,12 @@ pub record Making (s : List Mono) (b : List ℕ) (i : ℕ) : Type 0 where
   pub made : b ≡ setRecord (take i s)
 
 pub making-start : (s : List Mono) → Making s (zeros 36) 0
-unfolding setRecord gather
-making-start s = record { within = omega arith; long = refl; made = refl }
+unfolding gather
+making-start s = record { within = omega arith; long = refl; made = sym (record-is []) }
 
 -- the next monomial is written behind them
 made-more : (s : List Mono) (i : ℕ) → Wide s → length s ≤ 6 → i < length s → paste (setRecord (take i s)) (6 * i) (getD s i []) 6 ≡ setRecord (take (i + 1) s)
-unfolding setRecord gather
+unfolding gather
 made-more s i wide few h =
     let t = take i s in
     let m = getD s i [] in
@@ -52,7 +52,7 @@ made-more s i wide few h =
     let left : 36 - 6 * length (t ++ (m ∷ [])) ≡ rest = omega (arith, length-append t (m ∷ [])) in
     let all : flat (t ++ (m ∷ [])) ≡ flat t ++ m = gather-append (λ (x : Mono). x) t (m ∷ []) ∙ ap (λ (l : List ℕ). flat t ++ l) (append-nil m) in
     let written = gather-last (λ (x : Mono). x) 6 t (λ x k. wide x (take-in i s k)) m (zeros 6) (zeros rest) refl (wide m (at-in s i [] h)) in
-    rw (free, at, next, left, all) (written ∙ sym (append-assoc (flat t) m (zeros rest)))
+    rw (record-is t, record-is (take (i + 1) s), free, at, next, left, all) (written ∙ sym (append-assoc (flat t) m (zeros rest)))
 
 module _ {s : List Mono} {b : List ℕ} {i : ℕ} (k : Making s b i) where
   pub making-next : (m : Mono) → Recorded s → i < length s → m ≡ getD s i [] → Making s (paste b (6 * i) m 6) (i + 1)
@@ -144,9 +144,8 @@ padded-before (suc n) (a ∷ x) (b ∷ y) h wx wy proper t =
 
 -- ---- two records
 rises : (x y : List Mono) → Recorded x → Recorded y → T (beforeSet x y) → T (before (setRecord x) (setRecord y))
-unfolding setRecord
 rises x y p q t =
-    rw (padded-is 6 x (p .few), padded-is 6 y (q .few)) (padded-before 6 x y (q .few) (p .wide) (q .wide) (q .proper) t)
+    rw (record-is x, record-is y, padded-is 6 x (p .few), padded-is 6 y (q .few)) (padded-before 6 x y (q .few) (p .wide) (q .wide) (q .proper) t)
 
 pub record-before : (x y : List Mono) → Recorded x → Recorded y → before (setRecord x) (setRecord y) ≡ beforeSet x y
 record-before x y p q = same-test (before (setRecord x) (setRecord y)) (beforeSet x y) (λ t. go t (set-order .total x y)) (rises x y p q)

@@ -20,7 +20,7 @@ use Rattle.wiring.specs.Signals.{signals}
 use Rattle.wiring.specs.Reply.{numbers, Outcome, outcome, refused}
 use Rattle.wiring.specs.Terms.{records, lengthRight, fault, system}
 use Rattle.wiring.specs.Sets.{setOf, setRecord}
-use Rattle.wiring.specs.Answers.{countRight, unlessFault, checked, wired}
+use Rattle.wiring.specs.Answers.{unlessFault, checked, wired}
 use Rattle.wiring.specs.declared.reply.Reply.{Reply}
 use Rattle.wiring.specs.declared.reply.Reply.the-variants.{Done, Setting, Length, Term, Twice, Nothing, Full, Spent, BadSet, NotQuadratic}
 use Rattle.wiring.specs.declared.terms.Fault.{Fault}
@@ -28,7 +28,7 @@ use Rattle.wiring.specs.declared.terms.Fault.the-variants.{Clean, Wrong, Repeat
 use Rattle.wiring.proofs.reply.Laws.{same-reply, code-done}
 use Rattle.wiring.proofs.terms.Exact.{Measured, length-exact, Breaks, Repeats, Flawless, wrong-exact, repeated-exact, clean-exact}
 use Rattle.wiring.proofs.sets.Exact.{Recordable, record-length, record-set, record-right, right-iff, zeros-at}
-use Rattle.wiring.proofs.answers.Exact.{Ranged, beyond, WellFormed, signalsIn, derivativeIn, check-exact}
+use Rattle.wiring.proofs.answers.Exact.{Ranged, count-in, count-out, beyond, WellFormed, signalsIn, derivativeIn, check-exact}
 use Rattle.wiring.proofs.answers.Wired.{listIn, wire-enough}
 use Rattle.walk.specs.Walk.{Finds, level}
 use Rattle.walk.specs.Plan.{Ending, done, none, fullAt, spentAt, plan, setsBytes, said, settingsRight, planned}
@@ -44,18 +44,18 @@ pub record InRange (n cap limit : ℕ) : Type 0 where
   pub high : limit ≤ 1000000000
 
 range-out : (n cap limit : ℕ) → T (settingsRight n cap limit) → InRange n cap limit
-unfolding settingsRight countRight
+unfolding settingsRight
 range-out n cap limit t = record {
-  ranged = (leb→le 1 n (search (and-l, and-r, t)), leb→le n 6 (search (and-l, and-r, t)));
+  ranged = count-out n (search (and-l, and-r, t));
   capped = leb→le cap 6 (search (and-l, and-r, t));
   low = leb→le 1 limit (search (and-l, and-r, t));
   high = leb→le limit 1000000000 (search (and-l, and-r, t));
 }
 
 range-in : (n cap limit : ℕ) → InRange n cap limit → settingsRight n cap limit ≡ true
-unfolding settingsRight countRight
+unfolding settingsRight
 range-in n cap limit r =
-    rw (le-leb 1 n (r .ranged .0), le-leb n 6 (r .ranged .1), le-leb cap 6 (r .capped), le-leb 1 limit (r .low), le-leb limit 1000000000 (r .high))
+    rw (count-in n (r .ranged), le-leb cap 6 (r .capped), le-leb 1 limit (r .low), le-leb limit 1000000000 (r .high))
 
 module _ (n cap limit : ℕ) (terms : List ℕ) (size : ℕ) where
   abbrev fs : List (Poly Mono)

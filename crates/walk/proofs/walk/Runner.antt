@@ -24,13 +24,14 @@ use Rattle.wiring.specs.Choice.{chosen}
 use Rattle.wiring.specs.Terms.{records, system}
 use Rattle.wiring.specs.Sets.{monomialsOf}
 use Rattle.wiring.specs.declared.sets.Set.{Set}
+use Rattle.wiring.proofs.signals.Laws.{base-in}
 use Rattle.walk.specs.declared.children.Tried.{Tried}
 use Rattle.walk.specs.declared.walk.State.{State}
 use Rattle.walk.specs.declared.walk.Turn.{Turn}
 use Rattle.walk.specs.Walk.{Finds, child, tried, opened, run}
 use Rattle.walk.specs.Listing.{Shown}
 use Rattle.walk.specs.Turns.{Child, Tells, Sheet, Ready, Split, Splits}
-use Rattle.walk.proofs.children.Laws.{base-in, not-both, split-longer, nonsquare-fits, child-walked}
+use Rattle.walk.proofs.children.Laws.{not-both, split-longer, nonsquare-fits, child-walked}
 use Rattle.walk.proofs.walk.Laws.{open-tells, choice-member}
 
 -- a divisor that leads its pair, and the pair

@@ -39,6 +39,14 @@ use Rattle.wiring.proofs.answers.Laws.{judged-not, said-setting, said-t
 abbrev pub Ranged : ℕ → Type 0
 Ranged n = (1 ≤ n) × (n ≤ 6)
 
+pub count-in : (n : ℕ) → Ranged n → countRight n ≡ true
+unfolding countRight
+count-in n r = T→is (leb 1 n && leb n 6) (and-i (leb 1 n) (leb n 6) (le→leb 1 n (r .0)) (le→leb n 6 (r .1)))
+
+pub count-out : (n : ℕ) → T (countRight n) → Ranged n
+unfolding countRight
+count-out n t = (leb→le 1 n (and-l (leb 1 n) (leb n 6) t), leb→le n 6 (and-r (leb 1 n) (leb n 6) t))
+
 pub record Lengths (terms set : List ℕ) : Type 0 where
   pub measured : Measured terms
   pub long : length set ≡ 36
@@ -82,21 +90,13 @@ module _ (n : ℕ) (terms set : List ℕ) where
   s = setOf set
 
   -- ---- the tests
-  count-in : Ranged n → countRight n ≡ true
-  unfolding countRight
-  count-in r = T→is (leb 1 n && leb n 6) (and-i (leb 1 n) (leb n 6) (le→leb 1 n (r .0)) (le→leb n 6 (r .1)))
-
-  count-out : T (countRight n) → Ranged n
-  unfolding countRight
-  count-out t = (leb→le 1 n (and-l (leb 1 n) (leb n 6) t), leb→le n 6 (and-r (leb 1 n) (leb n 6) t))
-
   measured-in : Lengths terms set → lengthRight terms ≡ true
   measured-in l = length-exact terms .1 (l .measured)
 
   -- where n, the lengths and the records are in order, the set record decides
   module _ (r : Ranged n) (l : Lengths terms set) where
     said-fault : (f : Fault) → fault n (records terms) ≡ f → verdict n terms set ≡ unlessFault (λ x. x) f (recordJudged n fs set)
-    said-fault f e = sym (said-rest n terms set (count-in r) (measured-in l) (l .long) f (sym e))
+    said-fault f e = sym (said-rest n terms set (count-in n r) (measured-in l) (l .long) f (sym e))
 
     said-record : Flawless n (records terms) beyond → verdict n terms set ≡ recordJudged n fs set
     said-record f = said-fault Clean (clean-exact n (records terms) beyond .1 f)
@@ -139,17 +139,17 @@ module _ (n : ℕ) (terms set : List ℕ) where
 
   -- ---- what holds is said
   unmeasured : Ranged n → (Measured terms → ⊥) → verdict n terms set ≡ Length
-  unmeasured r f = said-terms-length n terms set (count-in r) (nT→is (lengthRight terms) (λ t. f (length-exact terms .0 (T→is (lengthRight terms) t))))
+  unmeasured r f = said-terms-length n terms set (count-in n r) (nT→is (lengthRight terms) (λ t. f (length-exact terms .0 (T→is (lengthRight terms) t))))
 
   misfit : Ranged n → (length set ≡ 36 → ⊥) → verdict n terms set ≡ Length
   misfit r f = go (test (lengthRight terms))
     where
       go : Tested (lengthRight terms) → verdict n terms set ≡ Length
-      go (failed e) = said-terms-length n terms set (count-in r) e
-      go (passed e) = said-set-length n terms set (count-in r) e f
+      go (failed e) = said-terms-length n terms set (count-in n r) e
+      go (passed e) = said-set-length n terms set (count-in n r) e f
 
   said : (r : Reply) → CheckSays r → verdict n terms set ≡ r
-  said Setting h = said-setting n terms set (nT→is (countRight n) (λ t. h (count-out t)))
+  said Setting h = said-setting n terms set (nT→is (countRight n) (λ t. h (count-out n t)))
   said Length h = ⊎-elim (unmeasured (h .0)) (misfit (h .0)) (h .1)
   said (Term p) h = said-fault (h .0) (h .1) (Wrong p) (wrong-exact n (records terms) beyond p .1 (h .2))
   said (Twice p) h = said-fault (h .0) (h .1) (Repeated p) (repeated-exact n (records terms) beyond p .1 (h .2))
@@ -204,8 +204,8 @@ module _ (n : ℕ) (terms set : List ℕ) where
   told = go (test (countRight n))
     where
       go : Tested (countRight n) → Told
-      go (passed e) = told-lengths (count-out (is→T (countRight n) e))
-      go (failed e) = record { reply = Setting; holds = λ r. is→nT (countRight n) e (is→T (countRight n) (count-in r)) }
+      go (passed e) = told-lengths (count-out n (is→T (countRight n) e))
+      go (failed e) = record { reply = Setting; holds = λ r. is→nT (countRight n) e (is→T (countRight n) (count-in n r)) }
 
   -- ---- what is said holds: one of the seven cases, since the other three hold of nothing
   pub verdict-says : CheckSays (verdict n terms set)

@@ -133,6 +133,10 @@ module _ {A : Type 0} (f : A → Bool) where
       rw (nT→is (f x) (least 0 (omega arith))) (ap suc (place-is l i d (omega arith) (λ j k. least (suc j) (omega arith)) (λ k. here (omega arith))))
 
 -- ---- the record of a set, place by place
+pub record-is : (s : List Mono) → setRecord s ≡ flat s ++ replicate (36 - 6 * length s) 0
+unfolding setRecord
+record-is s = refl
+
 module _ (s : List Mono) (few : length s ≤ 6) (wide : Wide s) where
   pub record-length : length (setRecord s) ≡ 36
   unfolding setRecord

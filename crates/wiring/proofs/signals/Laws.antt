@@ -1,8 +1,8 @@
 -- Arrays of monomials as lists: what their first places hold, the loops that search and fill them, V and V2. Assumes nothing.
 use mathlib.Core.Path.{_≡_, refl, sym, ap, ap₂, subst, _∙_}
-use mathlib.Core.Logic.{⊎-elim}
+use mathlib.Core.Logic.{_⊎_, ⊎-elim}
 use mathlib.Core.Bool.{Bool, true, false}
-use mathlib.Core.List.{List, [], _∷_, _++_, map, append-nil, List·Memᴰ·cases-cons, List·Memᴰ·not-nil, List·Memᴰ·append-cases, Memᴰ·append-right, Memᴰ·of-map}
+use mathlib.Core.List.{List, [], _∷_, _++_, map, append-nil, List·Memᴰ·cases-cons, List·Memᴰ·not-nil, List·Memᴰ·append-cases, Memᴰ·append-left, Memᴰ·append-right, Memᴰ·of-map}
 use Prim.Native.Nat.{ℕ, zero, suc, _+_, _*_, _/_, _<_, _≤_}
 use native.Mathlib.Omega.{arith}
 use native.Mathlib.Numerals.{add-one}
@@ -146,6 +146,23 @@ unfolding signals vars
 signals-new n s j d h =
     let front-is : length (take (suc n) (constants 6)) ≡ n + 1 = length-take-le (suc n) (constants 6) (omega arith) ∙ sym (add-one n) in
     ap (λ (k : ℕ). getD (signals 6 n s) (k + j) d) (sym front-is) ∙ getD-append-add (take (suc n) (constants 6)) s j d
+
+-- 1 and the variables are in V of every set, and so are the set's own monomials
+abbrev pub base : ℕ → List Mono
+base n = take (suc n) (constants 6)
+
+module _ (n : ℕ) where
+  pub base-in : (s : List Mono) {x : Mono} → x ∈ base n → x ∈ signals 6 n s
+  unfolding signals
+  base-in s h = Memᴰ·append-left s h
+
+  pub set-in : (s : List Mono) {x : Mono} → x ∈ s → x ∈ signals 6 n s
+  unfolding signals
+  set-in s h = Memᴰ·append-right (base n) h
+
+  pub signals-cases : (s : List Mono) {x : Mono} → x ∈ signals 6 n s → (x ∈ base n) ⊎ (x ∈ s)
+  unfolding signals
+  signals-cases s h = List·Memᴰ·append-cases (base n) h
 
 -- ---- two loops that write V of n variables and the first len places of u: the constants, then the set
 pub record Signalling (n len : ℕ) (u m : List Monomial) (at : ℕ) : Type 0 where
