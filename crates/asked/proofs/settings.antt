@@ -1,0 +1,2 @@
+-- The laws of the module settings.
+pub mod Laws

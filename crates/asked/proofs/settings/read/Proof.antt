@@ -1,0 +1,46 @@
+-- `read` meets its contract: settings that are right have a room that the buffer has (`asked-roomy`). Assumes nothing.
+use Rattle.asked.proofs.settings.Laws.{asked-roomy}
+use borrow.Author.Needs.{needs}
+use Rattle.asked.proofs.settings.read.Statement.{statement}
+use Rattle.asked.proofs.settings.read.Tie as tie
+
+arg-count-requires : tie.Need-arg-count-requires
+arg-count-requires c κs = search needs
+
+returns : tie.Need-returns
+returns c = search needs
+
+number-at-requires : tie.Need-number-at-requires
+number-at-requires c κs = search needs
+
+number-at-requires-2 : tie.Need-number-at-requires-2
+number-at-requires-2 c κs = search needs
+
+number-at-requires-3 : tie.Need-number-at-requires-3
+number-at-requires-3 c κs = search needs
+
+number-at-requires-4 : tie.Need-number-at-requires-4
+number-at-requires-4 c κs = search needs
+
+number-at-requires-5 : tie.Need-number-at-requires-5
+number-at-requires-5 c κs = search needs
+
+settings-of-requires : tie.Need-settings-of-requires
+settings-of-requires c κs = search needs
+
+returns-2 : tie.Need-returns-2
+returns-2 c = rw (c .settings-of .ensures) (asked-roomy _ _ _ _ _)
+
+pub read-spec : {M : Type 1} → statement M
+read-spec =
+    tie.close
+    (tie.spec
+    arg-count-requires
+    returns
+    number-at-requires
+    number-at-requires-2
+    number-at-requires-3
+    number-at-requires-4
+    number-at-requires-5
+    settings-of-requires
+    returns-2)

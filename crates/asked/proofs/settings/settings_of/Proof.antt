@@ -1,0 +1,118 @@
+-- `settings_of` meets its contract: word by word. Assumes nothing.
+use Prim.Native.Nat.{_≤_, _<_}
+use native.Mathlib.Omega.{arith}
+use borrow.Author.Tests.{le-leb, lt-leb}
+use Rattle.asked.specs.Settings.{asked}
+use borrow.Author.Needs.{needs}
+use Rattle.asked.proofs.settings.settings_of.Statement.{statement}
+use Rattle.asked.proofs.settings.settings_of.Tie as tie
+
+enum-known-n : tie.Need-enum-known-n
+enum-known-n c = search needs
+
+enum-told : tie.Need-enum-told
+enum-told c = search needs
+
+returns : tie.Need-returns
+unfolding asked
+returns c = rw (c .enum-told .given .1)
+
+enum-known-cap : tie.Need-enum-known-cap
+enum-known-cap c = search needs
+
+enum-told-2 : tie.Need-enum-told-2
+enum-told-2 c = search needs
+
+returns-2 : tie.Need-returns-2
+unfolding asked
+returns-2 c =
+    let first = c .before .before .before in
+    rw (first .n .given .1, c .enum-told2 .given .1)
+
+enum-known-limit : tie.Need-enum-known-limit
+enum-known-limit c = search needs
+
+enum-told-3 : tie.Need-enum-told-3
+enum-told-3 c = search needs
+
+returns-3 : tie.Need-returns-3
+unfolding asked
+returns-3 c =
+    let second = c .before .before .before in
+    let first = second .before .before .before in
+    rw (first .n .given .1, second .cap .given .1, c .enum-told3 .given .1)
+
+enum-known-sets : tie.Need-enum-known-sets
+enum-known-sets c = search needs
+
+enum-told-4 : tie.Need-enum-told-4
+enum-told-4 c = search needs
+
+returns-4 : tie.Need-returns-4
+unfolding asked
+returns-4 c =
+    let third = c .before .before .before in
+    let second = third .before .before .before in
+    let first = second .before .before .before in
+    rw (first .n .given .1, second .cap .given .1, third .limit .given .1, c .enum-told4 .given .1)
+
+enum-known-which : tie.Need-enum-known-which
+enum-known-which c = search needs
+
+enum-told-5 : tie.Need-enum-told-5
+enum-told-5 c = search needs
+
+returns-5 : tie.Need-returns-5
+unfolding asked
+returns-5 c =
+    let fourth = c .before .before .before in
+    let third = fourth .before .before .before in
+    let second = third .before .before .before in
+    let first = second .before .before .before in
+    rw (first .n .given .1, second .cap .given .1, third .limit .given .1, fourth .sets .given .1, c .enum-told5 .given .1)
+
+returns-6 : tie.Need-returns-6
+unfolding asked
+returns-6 c =
+    let fifth = c .before .before in
+    let fourth = fifth .before .before .before in
+    let third = fourth .before .before .before in
+    let second = third .before .before .before in
+    let first = second .before .before .before in
+    let sets = fourth .sets .given .0 .0 in
+    let room : 20000 < sets = omega arith in
+    rw (first .n .given .1, second .cap .given .1, third .limit .given .1, fourth .sets .given .1, fifth .which .given .1, lt-leb sets 20000 room)
+
+returns-7 : tie.Need-returns-7
+unfolding asked
+returns-7 c =
+    let fifth = c .before .before in
+    let fourth = fifth .before .before .before in
+    let third = fourth .before .before .before in
+    let second = third .before .before .before in
+    let first = second .before .before .before in
+    let sets = fourth .sets .given .0 .0 in
+    let room : sets ≤ 20000 = omega arith in
+    rw (first .n .given .1, second .cap .given .1, third .limit .given .1, fourth .sets .given .1, fifth .which .given .1, le-leb sets 20000 room)
+
+pub settings-of-spec : {M : Type 1} → statement M
+settings-of-spec =
+    tie.close
+    (tie.spec
+    enum-known-n
+    enum-told
+    returns
+    enum-known-cap
+    enum-told-2
+    returns-2
+    enum-known-limit
+    enum-told-3
+    returns-3
+    enum-known-sets
+    enum-told-4
+    returns-4
+    enum-known-which
+    enum-told-5
+    returns-5
+    returns-6
+    returns-7)

@@ -1,0 +1,72 @@
+// What is asked for: five numbers, each a word of the command line.
+use super::number;
+use super::number::Number;
+ghost use mathlib.Core.Path.{_≡_};
+ghost use Rattle.asked.specs.Settings.{asked, Roomy};
+
+pub struct Settings {
+    pub n: u64,
+    pub cap: u64,
+    pub limit: u64,
+    pub room: usize,
+    pub which: u64,
+}
+
+pub enum Asked {
+    Right(Settings),
+    Wrong,
+}
+
+// The settings that five words give, read as numbers.
+fn settings_of(n: Number, cap: Number, limit: Number, sets: Number, which: Number) -> Asked
+    ensures { λ r. ⌜ r ≡ asked n cap limit sets which ⌝ }
+{
+    let Number::Of(n) = n else {
+        return Asked::Wrong;
+    };
+    let Number::Of(cap) = cap else {
+        return Asked::Wrong;
+    };
+    let Number::Of(limit) = limit else {
+        return Asked::Wrong;
+    };
+    let Number::Of(sets) = sets else {
+        return Asked::Wrong;
+    };
+    let Number::Of(which) = which else {
+        return Asked::Wrong;
+    };
+    if 20000 < sets {
+        return Asked::Wrong;
+    }
+    Asked::Right(Settings {
+        n,
+        cap,
+        limit,
+        room: sets as usize,
+        which,
+    })
+}
+
+// Word number i of the command line. One that is missing or over 4,096 bytes comes as an empty word, which is no number.
+fn number_at(i: usize) -> Number {
+    let mut word = io::buffer();
+    let length = os::arg(i, &mut word);
+    number::number_of(&word[..length])
+}
+
+// The settings of the command line, which has the program's name before them.
+pub fn read() -> Asked
+    ensures { λ r. ⌜ Roomy r ⌝ }
+{
+    if os::arg_count() != 6 {
+        return Asked::Wrong;
+    }
+    settings_of(
+        number_at(1),
+        number_at(2),
+        number_at(3),
+        number_at(4),
+        number_at(5),
+    )
+}
