@@ -1,0 +1,163 @@
+//! The front door: plans a patch from typed equations. The planning itself is done by the proved program.
+
+mod algebra;
+mod answer;
+mod climb;
+mod drawing;
+mod export;
+mod json;
+mod label;
+mod lexer;
+mod options;
+mod parser;
+mod patch;
+mod planner;
+#[cfg(test)]
+mod recorded;
+mod report;
+mod settings;
+mod shapes;
+mod svg;
+mod system;
+mod text;
+mod units;
+mod watch;
+mod words;
+
+use std::io::{IsTerminal, Write};
+use std::process::ExitCode;
+use std::time::Instant;
+
+use answer::{Answer, Reply, DONE, FULL, NONE, SPENT, TERM};
+use options::{Options, HELP};
+use patch::Patch;
+use planner::{Planner, RUNNER};
+use report::{Drawn, Report};
+use settings::Settings;
+use system::{Record, System};
+use text::{Fault, Source};
+use watch::Watch;
+
+const LISTED: u8 = 0;
+const NOT_LISTED: u8 = 1;
+const REFUSED: u8 = 2;
+const FAILED: u8 = 3;
+
+fn main() -> ExitCode {
+    ExitCode::from(run())
+}
+
+fn run() -> u8 {
+    let arguments: Result<Vec<String>, _> = std::env::args_os().skip(1).map(|word| word.into_string()).collect();
+    let read = arguments.map_err(|word| format!("{word:?} is no text")).and_then(options::options);
+    let mut options = match read {
+        Ok(options) => options,
+        Err(why) => return stop(REFUSED, &format!("plan: {why}\n")),
+    };
+    if options.help {
+        return print(LISTED, HELP);
+    }
+    if options.inputs.is_empty() {
+        return stop(REFUSED, "plan: no equation was given, as in ./plan \"x' = x^4 + x^3\" (--help says more)\n");
+    }
+    let mut sources = Vec::new();
+    for input in std::mem::take(&mut options.inputs) {
+        match options::source(input) {
+            Ok(source) => sources.push(source),
+            Err(why) => return not_understood(&sources, &Fault::nowhere(why), &options),
+        }
+    }
+    match parser::parse(&sources).and_then(|typed| System::of(&typed)) {
+        Ok(system) => plan(&sources, &system, &options),
+        Err(fault) => not_understood(&sources, &fault, &options),
+    }
+}
+
+fn plan(sources: &[Source], system: &System, options: &Options) -> u8 {
+    let answer = match system.records() {
+        Ok(records) => ask(system, &records, &options.settings),
+        // What fits no record is refused here, as the planner refuses a record.
+        Err(place) => {
+            Ok(Answer { reply: Reply { code: TERM, place: place as u64, ..Reply::default() }, ..Answer::default() })
+        }
+    };
+    let answer = match answer {
+        Ok(answer) => answer,
+        Err(why) if options.json => return print(FAILED, &export::error(sources, &Fault::nowhere(why))),
+        Err(why) => return stop(FAILED, &format!("plan: {why}.\n")),
+    };
+    let patch = Patch::of(system, &answer, options.settings.which);
+    let mut report = Report {
+        sources,
+        system,
+        settings: &options.settings,
+        answer: &answer,
+        patch: patch.as_ref(),
+        drawn: Drawn::NotAsked,
+    };
+    if let Some(file) = &options.svg {
+        report.drawn = draw(&report, file);
+    }
+    let status = match answer.reply.code {
+        _ if matches!(report.drawn, Drawn::Failed(..)) => FAILED,
+        DONE if patch.is_none() => REFUSED,
+        DONE => LISTED,
+        NONE | FULL | SPENT => NOT_LISTED,
+        _ => REFUSED,
+    };
+    print(status, &if options.json { export::answer(&report) } else { report.for_a_person() })
+}
+
+/// Writes the drawing. Without a set there is nothing to draw, and the file is left as it is.
+fn draw(report: &Report, file: &str) -> Drawn {
+    let Some(patch) = report.patch else {
+        return Drawn::NoSet(file.into());
+    };
+    let drawing = drawing::draw(patch, &report.equations(), &report.which_set());
+    match std::fs::write(file, svg::svg(&drawing)) {
+        Ok(()) => Drawn::In(file.into()),
+        Err(why) => Drawn::Failed(file.into(), why.to_string()),
+    }
+}
+
+fn ask(system: &System, records: &[Record], settings: &Settings) -> Result<Answer, String> {
+    let runner =
+        std::env::var(RUNNER).map_err(|_| format!("{RUNNER} does not say how to run the planner; use ./plan"))?;
+    let terms = records.iter().flat_map(Record::bytes).collect();
+    let planner = Planner { runner, n: system.names.len(), terms };
+    let began = Instant::now();
+    let watch = std::cell::RefCell::new(Watch::new(std::io::stderr(), std::io::stderr().is_terminal()));
+    let mut known = String::new();
+    let answer = climb::climb(
+        settings,
+        |settings| planner.ask(settings, || watch.borrow_mut().tick(began.elapsed())),
+        |cards, steps| {
+            known = format!("; what it had shown: {}", words::excluded(cards));
+            watch.borrow_mut().shown(cards, steps, began.elapsed());
+        },
+    );
+    watch.borrow_mut().end();
+    answer.map_err(|why| why + &known)
+}
+
+fn not_understood(sources: &[Source], fault: &Fault, options: &Options) -> u8 {
+    if options.json {
+        print(REFUSED, &export::error(sources, fault))
+    } else {
+        stop(REFUSED, &report::not_understood(sources, fault))
+    }
+}
+
+/// Writes the answer. Where nobody reads it any more, there is nobody to tell.
+fn print(status: u8, text: &str) -> u8 {
+    let mut out = std::io::stdout();
+    match out.write_all(text.as_bytes()).and_then(|()| out.flush()) {
+        Ok(()) => status,
+        Err(_) => FAILED,
+    }
+}
+
+fn stop(status: u8, text: &str) -> u8 {
+    let _ = std::io::stderr().write_all(text.as_bytes());
+    status
+}
