@@ -1,12 +1,12 @@
 -- Loops over arrays of any width: one that fills a list place by place (`Filling`), and ones that compare two lists
 -- (`Comparing`). Each loop's invariant is one of these two records. Assumes nothing.
-use mathlib.Core.Path.{_≡_, refl, sym, ap, _∙_, subst}
+use mathlib.Core.Path.{_≡_, refl, sym, ap, ap₂, _∙_, subst}
 use mathlib.Core.Bool.{Bool, true, false}
 use mathlib.Core.List.{List, [], _∷_, _++_}
 use Prim.Native.Nat.{ℕ, zero, suc, _+_, _≤_, _<_}
 use native.Mathlib.Omega.{arith}
 use native.Mathlib.Numerals.{add-one}
-use lib.ListN.{length, take, drop, set, getD, length-set, drop-of-length-le}
+use lib.ListN.{length, take, drop, set, getD, replicate, length-set, drop-of-length-le}
 use lib.Seq.{paste, paste-zero, paste-suc, length-paste, take-suc, take-suc-set, take-all, drop-cons, set-at, length-take-le, append-snoc}
 use Rattle.monomial.specs.Lists.{any, all, place, pairwise, pointwise}
 
@@ -179,3 +179,37 @@ module _ {A B C : Type 0} (f : A → B → C) where
   pointwise-at (p ∷ a) [] k x y z ha hb = let o : ⊥ = omega arith in absurd o
   pointwise-at (p ∷ a) (q ∷ b) zero x y z ha hb = refl
   pointwise-at (p ∷ a) (q ∷ b) (suc k) x y z ha hb = pointwise-at a b k x y z (omega arith) (omega arith)
+
+-- ---- an operation place by place has the laws of the operation
+module _ {A : Type 0} (f : A → A → A) where
+  pub pointwise-comm : ((x y : A) → f x y ≡ f y x) → (a b : List A) → pointwise f a b ≡ pointwise f b a
+  unfolding pointwise
+  pointwise-comm c [] [] = refl
+  pointwise-comm c [] (y ∷ b) = refl
+  pointwise-comm c (x ∷ a) [] = refl
+  pointwise-comm c (x ∷ a) (y ∷ b) = ap₂ _∷_ (c x y) (pointwise-comm c a b)
+
+  pub pointwise-assoc : ((x y z : A) → f (f x y) z ≡ f x (f y z)) → (a b c : List A) → pointwise f (pointwise f a b) c ≡ pointwise f a (pointwise f b c)
+  unfolding pointwise
+  pointwise-assoc s [] b c = refl
+  pointwise-assoc s (x ∷ a) [] c = refl
+  pointwise-assoc s (x ∷ a) (y ∷ b) [] = refl
+  pointwise-assoc s (x ∷ a) (y ∷ b) (z ∷ c) = ap₂ _∷_ (s x y z) (pointwise-assoc s a b c)
+
+  pub pointwise-unit : (u : A) → ((x : A) → f x u ≡ x) → (a : List A) → pointwise f a (replicate (length a) u) ≡ a
+  unfolding pointwise
+  pointwise-unit u r [] = refl
+  pointwise-unit u r (x ∷ a) = ap₂ _∷_ (r x) (pointwise-unit u r a)
+
+  pub pointwise-cancel : ((x y z : A) → f x y ≡ f x z → y ≡ z)
+      → (a b c : List A) → length a ≡ length b → length a ≡ length c → pointwise f a b ≡ pointwise f a c → b ≡ c
+  unfolding pointwise
+  pointwise-cancel r [] [] [] h k q = refl
+  pointwise-cancel r [] [] (z ∷ c) h k q = let o : ⊥ = omega arith in absurd o
+  pointwise-cancel r [] (y ∷ b) c h k q = let o : ⊥ = omega arith in absurd o
+  pointwise-cancel r (x ∷ a) [] c h k q = let o : ⊥ = omega arith in absurd o
+  pointwise-cancel r (x ∷ a) (y ∷ b) [] h k q = let o : ⊥ = omega arith in absurd o
+  pointwise-cancel r (x ∷ a) (y ∷ b) (z ∷ c) h k q =
+      let first : f x y ≡ f x z = cc in
+      let rest : pointwise f a b ≡ pointwise f a c = cc in
+      ap₂ _∷_ (r x y z first) (pointwise-cancel r a b c (omega arith) (omega arith) rest)

@@ -34,7 +34,7 @@ Wide s = (m : Mono) → m ∈ s → length m ≡ 6
 
 module _ (n : ℕ) (fs : List (Poly Mono)) where
   -- ---- where t has no nonsquare, each monomial of a derivative of its V is a product
-  pub met : (t : List Mono) → missing n fs t ≡ [] → (z m : Mono) → z ∈ signals 6 n t → m ∈ support plain (derivative fs z)
+  pub met : (t : List Mono) → missing n fs t ≡ [] → (z m : Mono) → z ∈ signals 6 n t → m ∈ support plain (derivative plain fs z)
       → Factors plain mono-order (signals 6 n t) m
   met t q z m hz hm = go (test (inV2 plain v m))
     where
@@ -44,8 +44,8 @@ module _ (n : ℕ) (fs : List (Poly Mono)) where
       go : Tested (inV2 plain (signals 6 n t) m) → Factors plain mono-order (signals 6 n t) m
       go (passed e) = inV2-out plain mono-order v m (is→T (inV2 plain v m) e)
       go (failed e) =
-          let u = unmet-in plain mono-order v (derivative fs z) m hm (is→nT (inV2 plain v m) e) in
-          absurd (List·Memᴰ·not-nil (subst (λ l. m ∈ l) q (nonsquares-in plain mono-order v (derivative fs) z m hz u)))
+          let u = unmet-in plain mono-order v (derivative plain fs z) m hm (is→nT (inV2 plain v m) e) in
+          absurd (List·Memᴰ·not-nil (subst (λ l. m ∈ l) q (nonsquares-in plain mono-order v (derivative plain fs) z m hz u)))
 
   -- two lists with the same members have nonsquares or not together
   pub same-members : (s t : List Mono) → s ⊆ t → t ⊆ s → missing n fs s ≡ [] → missing n fs t ≡ []
@@ -56,8 +56,8 @@ module _ (n : ℕ) (fs : List (Poly Mono)) where
 
       clash : (m : Mono) → m ∈ missing n fs t → ⊥
       clash m h =
-          let w : Nonsquare plain mono-order v (derivative fs) m = nonsquares-out plain mono-order v (derivative fs) m h in
-          let u = unmet-out plain mono-order v (derivative fs (w .of)) m (w .missing) in
+          let w : Nonsquare plain mono-order v (derivative plain fs) m = nonsquares-out plain mono-order v (derivative plain fs) m h in
+          let u = unmet-out plain mono-order v (derivative plain fs (w .of)) m (w .missing) in
           let f : Factors plain mono-order (signals 6 n s) m = met s e (w .of) m (signals-grow n t s ts (w .of) (w .of-in)) (u .0) in
           let grow : signals 6 n s ⊆ v = signals-grow n s t st in
           u .1 (inV2-in plain mono-order v m (record { a = f .a; b = f .b; a-in = grow (f .a) (f .a-in); b-in = grow (f .b) (f .b-in); is = f .is }))
@@ -87,11 +87,11 @@ module _ (n : ℕ) (fs : List (Poly Mono)) where
       v : List Mono
       v = signals 6 n s
 
-      w : Nonsquare plain mono-order (signals 6 n s) (derivative fs) m
-      w = nonsquares-out plain mono-order v (derivative fs) m h
+      w : Nonsquare plain mono-order (signals 6 n s) (derivative plain fs) m
+      w = nonsquares-out plain mono-order v (derivative plain fs) m h
 
       f : Factors plain mono-order (signals 6 n t) m
-      f = met t q (w .of) m (signals-grow n s t sub (w .of) (w .of-in)) (unmet-out plain mono-order v (derivative fs (w .of)) m (w .missing) .0)
+      f = met t q (w .of) m (signals-grow n s t sub (w .of) (w .of-in)) (unmet-out plain mono-order v (derivative plain fs (w .of)) m (w .missing) .0)
 
       wide : (x : Mono) → x ∈ signals 6 n t → length x ≡ 6
       wide = signals-wide n t z

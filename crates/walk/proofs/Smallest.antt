@@ -35,13 +35,13 @@ use Rattle.walk.proofs.Stops.{Barren, Ends, Lacks, Fills, Spends, done-
 module _ (n : ℕ) (fs : List (Poly Mono)) where
   -- Definition 1 for V of a list of monomials
   abbrev pub QuadraticList : List Mono → Type 0
-  QuadraticList s = Quadratic plain (signals 6 n s) (derivative fs)
+  QuadraticList s = Quadratic plain (signals 6 n s) (derivative plain fs)
 
   no-gap : (s : List Mono) → QuadraticList s → missing n fs s ≡ []
-  no-gap s = definition1 plain mono-order (signals 6 n s) (derivative fs) .0
+  no-gap s = definition1 plain mono-order (signals 6 n s) (derivative plain fs) .0
 
   pub gapless : (s : List Mono) → missing n fs s ≡ [] → QuadraticList s
-  gapless s = definition1 plain mono-order (signals 6 n s) (derivative fs) .1
+  gapless s = definition1 plain mono-order (signals 6 n s) (derivative plain fs) .1
 
   -- no quadratic set has fewer than k monomials
   abbrev Least : ℕ → Type 0

@@ -276,7 +276,7 @@ module _ (n : ℕ) (terms : List ℕ) (six : CleanTerms terms) (k : ℕ) (low : 
         (λ i. (opened-walked s o .recorded .wide z i, atMost-weaken z (omega arith) (set-54 z i)))
         (signals-cases n s h)
 
-    pub total-32 : (z m : Mono) → z ∈ signals 6 n s → natAbs (coeff plain (derivative (system (records terms)) z) m) < 2147483648
+    pub total-32 : (z m : Mono) → z ∈ signals 6 n s → natAbs (coeff plain (derivative plain (system (records terms)) z) m) < 2147483648
     total-32 z m h = let f = signal-72 z h in total-fits terms six z m (f .0) (f .1)
 
     pub sum-32 : (z m : Mono) → z ∈ signals 6 n s → (t : ℕ) → natAbs (summed (take t (records terms)) z m) < 2147483648

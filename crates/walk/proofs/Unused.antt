@@ -96,11 +96,11 @@ module _ (n b : ℕ) (terms : List ℕ) (more : n ≤ b) (few : b ≤ 6) (clean 
         record { a = f .a; b = f .b; a-in = shrink (f .a) (f .a-in) first; b-in = shrink (f .b) (f .b-in) second; is = f .is }
 
     -- a member of V whose derivative has a monomial holds a variable with a record
-    derived-member : (z m : Mono) → z ∈ signals 6 b s → m ∈ support plain (derivative fs z) → z ∈ signals 6 n s
+    derived-member : (z m : Mono) → z ∈ signals 6 b s → m ∈ support plain (derivative plain fs z) → z ∈ signals 6 n s
     derived-member z m h k = shrink z h (⊎-elim constant (q .within z) (signals-cases b s h))
       where
         from : Derived (records terms) z m
-        from = derived (records terms) z m (support-out plain mono-order (derivative fs z) m k .0)
+        from = derived (records terms) z m (support-out plain mono-order (derivative plain fs z) m k .0)
 
         own : Fields n (from .by)
         own = fields-out n (from .by) (clean-right n [] (records terms) clean (from .by) (from .listed))
@@ -113,7 +113,7 @@ module _ (n b : ℕ) (terms : List ℕ) (more : n ≤ b) (few : b ≤ 6) (clean 
 
     gaps-grow : missing n fs s ⊆ missing b fs s
     gaps-grow m h =
-        let d = derivative fs in
+        let d = derivative plain fs in
         let w : Nonsquare plain mono-order (signals 6 n s) d m = nonsquares-out plain mono-order (signals 6 n s) d m h in
         let u = unmet-out plain mono-order (signals 6 n s) (d (w .of)) m (w .missing) in
         let out : T (inV2 plain (signals 6 b s) m) → ⊥ = λ t.
@@ -122,7 +122,7 @@ module _ (n b : ℕ) (terms : List ℕ) (more : n ≤ b) (few : b ≤ 6) (clean 
 
     gaps-shrink : missing b fs s ⊆ missing n fs s
     gaps-shrink m h =
-        let d = derivative fs in
+        let d = derivative plain fs in
         let w : Nonsquare plain mono-order (signals 6 b s) d m = nonsquares-out plain mono-order (signals 6 b s) d m h in
         let u = unmet-out plain mono-order (signals 6 b s) (d (w .of)) m (w .missing) in
         let out : T (inV2 plain (signals 6 n s) m) → ⊥ = λ t.
@@ -132,8 +132,8 @@ module _ (n b : ℕ) (terms : List ℕ) (more : n ≤ b) (few : b ≤ 6) (clean 
 
     missing-same : missing n fs s ≡ missing b fs s
     missing-same =
-        let small = nonsquares-asc plain mono-order (signals 6 n s) (derivative fs) in
-        let large = nonsquares-asc plain mono-order (signals 6 b s) (derivative fs) in
+        let small = nonsquares-asc plain mono-order (signals 6 n s) (derivative plain fs) in
+        let large = nonsquares-asc plain mono-order (signals 6 b s) (derivative plain fs) in
         sub-equal mono-order (missing n fs s) (missing b fs s) small large gaps-grow (sub-length mono-order (missing b fs s) (missing n fs s) large small gaps-shrink)
 
     signal-same : (x : Mono) → Within n x → any (same x) (signals 6 n s) ≡ any (same x) (signals 6 b s)

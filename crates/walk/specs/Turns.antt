@@ -70,12 +70,12 @@ pub record Found (set : Set) (count : ℕ) (out : List ℕ) : Type 0 where
 -- what the pair runner asks besides
 pub record Splits (n : ℕ) (terms : List ℕ) (level : ℕ) (set : Set) (m : Mono) : Type 0 where
   pub below : set .len < level
-  pub member : List·Memᴰ m (nonsquares plain (signals width n (monomialsOf set)) (derivative (system (records terms))))
+  pub member : List·Memᴰ m (nonsquares plain (signals width n (monomialsOf set)) (derivative plain (system (records terms))))
 
 -- ---- what taking the step of an opening tells
 module _ (n : ℕ) (terms : List ℕ) (level limit : ℕ) (set : Set) (st : State) (out₀ : List ℕ) where
   abbrev gaps : List Mono
-  gaps = nonsquares plain (signals width n (monomialsOf set)) (derivative (system (records terms)))
+  gaps = nonsquares plain (signals width n (monomialsOf set)) (derivative plain (system (records terms)))
 
   -- nothing follows: the turn is that of the opening, whatever the bound on the depth
   abbrev pub Closed : Turn → List ℕ → Type 0

@@ -45,7 +45,7 @@ module _ (n : ℕ) (fs : List (Poly Mono)) (k : ℕ) where
   -- the steps of opening s at level k. The first number bounds the depth; it is more than k less the set's size
   unfoldable pub opened : ℕ → List Mono → List Step
   opened zero s = []
-  opened (suc d) s = after (opened d) s (nonsquares plain (signals width n s) (derivative fs))
+  opened (suc d) s = after (opened d) s (nonsquares plain (signals width n s) (derivative plain fs))
 
 -- level k: the empty set is opened
 unfoldable pub level : ℕ → List (Poly Mono) → ℕ → List Step

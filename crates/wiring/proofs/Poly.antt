@@ -1,6 +1,6 @@
 -- Coefficients of polynomials that are lists of terms, over any kind of monomials. Assumes nothing.
 use mathlib.Core.Path.{_≡_, refl, sym, ap, ap₂, _∙_, subst}
-use mathlib.Core.Logic.{⊎-elim}
+use mathlib.Core.Logic.{_⊎_, inl, inr, ⊎-elim}
 use mathlib.Core.Bool.{Bool, true, false, not, cond}
 use mathlib.Core.List.{List, [], _∷_, _++_, map, List·Memᴰ·head, List·Memᴰ·cases-cons, List·Memᴰ·not-nil, Memᴰ·append-left, Memᴰ·append-right}
 use Prim.Native.Nat.{zero, suc}
@@ -12,7 +12,7 @@ use Rattle.monomial.proofs.Members.{_∈_, here, there, keep-in, keep-out}
 use Rattle.monomial.proofs.order.Laws.{Order}
 use Rattle.monomial.proofs.order.Ascending.{Ascending, head-first, tail-asc, arrange-asc, arrange-in, arrange-out, among-in, among-out}
 use Rattle.wiring.specs.Coefficient.{isZero}
-use Rattle.wiring.specs.Poly.{Kind, Term, Poly, Same, coeff, monos, support}
+use Rattle.wiring.specs.Poly.{Kind, Term, Poly, Same, coeff, monos, times, support}
 use Rattle.wiring.proofs.Ints.{distrib-r, +ℤ-left-comm}
 
 pub zero-is : (z : ℤ) → T (isZero z) → z ≡ pos 0
@@ -28,6 +28,28 @@ is-zero z e = subst (λ w. T (isZero w)) (sym e) tt
 -- a polynomial that lists each monomial of a list with a coefficient of its own
 abbrev pub graph : {M : Type 0} → (M → ℤ) → List M → Poly M
 graph g l = map (λ m. (g m, m)) l
+
+-- a polynomial with its monomials read as those of another kind
+abbrev pub carry : {M N : Type 0} → (M → N) → Poly M → Poly N
+carry h p = map (λ t. (t .0, h (t .1))) p
+
+-- ---- the monomials of a sum, and of a product with a monomial
+pub monos-append : {M : Type 0} (p q : Poly M) (m : M) → m ∈ monos (p ++ q) → (m ∈ monos p) ⊎ (m ∈ monos q)
+monos-append [] q m h = inr h
+monos-append (t ∷ p) q m h = ⊎-elim (λ e. inl (List·Memᴰ·head e)) (λ k. ⊎-elim (λ j. inl (there j)) (λ j. inr j) (monos-append p q m k)) (List·Memᴰ·cases-cons h)
+
+pub record Scaled {M : Type 0} (k : Kind M) (z : M) (p : Poly M) (m : M) : Type 0 where
+  pub term : Term M
+  pub listed : term ∈ p
+  pub is : k .mul z (term .1) ≡ m
+
+pub times-out : {M : Type 0} (k : Kind M) (c : ℤ) (z : M) (p : Poly M) (m : M) → m ∈ monos (times k c z p) → Scaled k z p m
+unfolding times
+times-out k c z [] m h = absurd (List·Memᴰ·not-nil h)
+times-out k c z (t ∷ p) m h = ⊎-elim (λ e. record { term = t; listed = here; is = sym e }) (λ n. later (times-out k c z p m n)) (List·Memᴰ·cases-cons h)
+  where
+    later : Scaled k z p m → Scaled k z (t ∷ p) m
+    later s = record { term = s .term; listed = there (s .listed); is = s .is }
 
 module _ {M : Type 0} (k : Kind M) (o : Order (k .same) (k .before)) where
   -- ---- term by term

@@ -39,14 +39,14 @@ unlessFault answer (Repeated place) rest = answer (Twice place)
 
 module _ (n : ℕ) (fs : List (Poly Mono)) (s : List Mono) where
   abbrev pub missing : List Mono
-  missing = nonsquares plain (signals width n s) (derivative fs)
+  missing = nonsquares plain (signals width n s) (derivative plain fs)
 
   -- the signal number of the first left variable that has a nonsquare
   unfoldable pub firstUnmet : ℕ
-  firstUnmet = place (λ z. some (unmet plain (signals width n s) (derivative fs z))) (signals width n s)
+  firstUnmet = place (λ z. some (unmet plain (signals width n s) (derivative plain fs z))) (signals width n s)
 
   abbrev pub wires : List Wire
-  wires = wiring (signals width n s) (derivative fs)
+  wires = wiring plain (signals width n s) (derivative plain fs)
 
   -- what is said of a set: done with its size, or not quadratic
   unfoldable pub judged : Reply
@@ -84,5 +84,5 @@ pub record Wirable (n : ℕ) (terms : List ℕ) (set : Set) (out : List ℕ) : T
   pub few : n ≤ width
   pub small : set .len ≤ cards
   pub fits : Fitting setExponent (monomialsOf set)
-  pub met : Met (signals width n (monomialsOf set)) (derivative (system (records terms)))
+  pub met : Met plain (signals width n (monomialsOf set)) (derivative plain (system (records terms)))
   pub blank : out ≡ replicate (length out) 0

@@ -1,25 +1,45 @@
 -- A polynomial with whole coefficients is a list of terms, a coefficient and a monomial each. What it means is its coefficient at each
--- monomial: like monomials are added with sign. What a monomial is stays open: a kind has a product, an equality and an order.
+-- monomial: like monomials are added with sign. What a monomial is stays open: a kind has 1 and its variables, a product, an exponent of each
+-- variable, division by a variable, an equality and an order.
 -- Assumes nothing.
 use mathlib.Core.Path.{_≡_}
 use mathlib.Core.Bool.{Bool, not, cond}
 use mathlib.Core.List.{List, [], _∷_, map}
+use Prim.Native.Nat.{ℕ, _-_}
 use lib.IntN.{ℤ, pos, _+ℤ_, _*ℤ_}
+use lib.ListN.{length, getD, set}
 use Rattle.monomial.specs.Lists.{keep, arrangeBy}
-use Rattle.monomial.specs.Monomial.{Mono}
+use Rattle.monomial.specs.Monomial.{Mono, one, vars}
 use Rattle.monomial.specs.Order.{same, before}
 use Rattle.monomial.specs.Product.{mul}
 use Rattle.wiring.specs.Coefficient.{isZero}
 
 -- a kind of monomials
 pub record Kind (M : Type 0) : Type 0 where
+  -- in how many variables a monomial is; 1 and the variables, x1 first, for so many
+  pub width : M → ℕ
+  pub one : ℕ → M
+  pub vars : ℕ → List M
   pub mul : M → M → M
+  -- the exponent of variable number i, from 0, and the monomial divided by that variable: it means something where the exponent is not 0, and
+  -- for signed exponents always
+  pub power : M → ℕ → ℤ
+  pub over : M → ℕ → M
   pub same : M → M → Bool
   pub before : M → M → Bool
 
 -- the panel's kind
 abbrev pub plain : Kind Mono
-plain = record { mul = mul; same = same; before = before }
+plain = record {
+  width = length;
+  one = one;
+  vars = vars;
+  mul = mul;
+  power = λ z i. pos (getD z i 0);
+  over = λ z i. set z i (getD z i 0 - 1);
+  same = same;
+  before = before;
+}
 
 abbrev pub Term : Type 0 → Type 0
 Term M = ℤ × M

@@ -2,9 +2,15 @@
 -- Assumes nothing.
 use mathlib.Core.Bool.{Bool, not}
 use mathlib.Core.List.{List, [], _∷_, _++_, map, List·Memᴰ}
+use Prim.Native.Nat.{ℕ, suc}
 use lib.IntN.{ℤ}
+use lib.ListN.{take}
 use Rattle.monomial.specs.Lists.{any, keep, gather, arrangeBy}
 use Rattle.wiring.specs.Poly.{Kind, Poly, Same, support}
+
+-- V of a set s: 1 and the first n of w variables, then the new monomials
+abbrev pub members : {M : Type 0} → Kind M → ℕ → ℕ → List M → List M
+members k w n s = take (suc n) (k .one w ∷ k .vars w) ++ s
 
 -- two monomials with a whole coefficient
 pub record Product (M : Type 0) : Type 0 where

@@ -1,18 +1,20 @@
 -- The signals of a set, by their numbers: 0 is the constant 1, 1 to n the variables, then the new monomials in set order. They are V.
 -- Assumes nothing.
 use mathlib.Core.Path.{_≡_}
-use mathlib.Core.List.{List, _++_, map, List·Memᴰ}
-use Prim.Native.Nat.{ℕ, suc, _*_, _/_}
+use mathlib.Core.List.{List, map, List·Memᴰ}
+use Prim.Native.Nat.{ℕ, _*_, _/_}
 use lib.ListN.{length, take, drop}
 use Rattle.monomial.specs.Lists.{gather, below}
-use Rattle.monomial.specs.Monomial.{Mono, constants}
+use Rattle.monomial.specs.Monomial.{Mono}
 use Rattle.monomial.specs.Product.{AtMost}
 use Rattle.monomial.specs.declared.Monomial.{Monomial}
 use Rattle.wiring.specs.Panel.{width}
+use Rattle.wiring.specs.Poly.{plain}
+use Rattle.wiring.specs.Quadratic.{members}
 use Rattle.wiring.specs.declared.signals.Signals.{Signals}
 
 unfoldable pub signals : ℕ → ℕ → List Mono → List Mono
-signals w n s = take (suc n) (constants w) ++ s
+signals w n s = members plain w n s
 
 -- the first monomials of an array, as lists of exponents
 abbrev pub front : ℕ → List Monomial → List Mono

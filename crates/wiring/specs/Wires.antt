@@ -1,5 +1,5 @@
 -- The wiring list: for each left variable ascending, each monomial of its derivative ascending, with the total coefficient and the pair
--- (a, b) of smallest a, then smallest b, whose product it is. Signals go by their numbers. Assumes nothing.
+-- (a, b) of smallest a, then smallest b, whose product it is, for any kind of monomials. Signals go by their numbers. Assumes nothing.
 use mathlib.Core.Path.{_≡_}
 use mathlib.Core.Bool.{Bool, true, false}
 use mathlib.Core.List.{List, [], _∷_, _++_, map, List·Memᴰ}
@@ -8,12 +8,9 @@ use lib.Dec.{T}
 use lib.IntN.{ℤ}
 use lib.ListN.{length, getD, replicate}
 use Rattle.monomial.specs.Lists.{place, gather}
-use Rattle.monomial.specs.Monomial.{Mono}
 use Rattle.wiring.specs.Coefficient.{unsigned, fourBytes}
-use Rattle.wiring.specs.Poly.{Poly, plain, coeff, support}
+use Rattle.wiring.specs.Poly.{Kind, Poly, coeff, support}
 use Rattle.wiring.specs.Quadratic.{factor, inV2}
-use Rattle.monomial.specs.Order.{same}
-use Rattle.monomial.specs.Product.{mul}
 use Rattle.wiring.specs.Panel.{wireBytes}
 use Rattle.wiring.specs.declared.wires.Written.{Written}
 
@@ -23,32 +20,36 @@ pub record Wire : Type 0 where
   pub b : ℕ
   pub coefficient : ℤ
 
-module _ (v : List Mono) where
-  -- the smallest a, and the smallest b beside it
-  unfoldable pub firstOf : Mono → ℕ
-  firstOf m = place (factor plain v m) v
+module _ {M : Type 0} (k : Kind M) (v : List M) where
+  -- signal number i
+  abbrev pub signal : ℕ → M
+  signal i = getD v i (k .one 0)
 
-  unfoldable pub secondOf : Mono → ℕ
-  secondOf m = place (λ b. same (mul (getD v (firstOf m) []) b) m) v
+  -- the smallest a, and the smallest b beside it
+  unfoldable pub firstOf : M → ℕ
+  firstOf m = place (factor k v m) v
+
+  unfoldable pub secondOf : M → ℕ
+  secondOf m = place (λ b. k .same (k .mul (signal (firstOf m)) b) m) v
 
   -- the records of one left variable, whose derivative is p
-  unfoldable pub row : ℕ → Poly Mono → List Wire
-  row left p = map (λ m. record { left = left; a = firstOf m; b = secondOf m; coefficient = coeff plain p m }) (support plain p)
+  unfoldable pub row : ℕ → Poly M → List Wire
+  row left p = map (λ m. record { left = left; a = firstOf m; b = secondOf m; coefficient = coeff k p m }) (support k p)
 
-  unfoldable pub rowsFrom : (Mono → Poly Mono) → ℕ → List Mono → List Wire
+  unfoldable pub rowsFrom : (M → Poly M) → ℕ → List M → List Wire
   rowsFrom d left [] = []
   rowsFrom d left (z ∷ zs) = row left (d z) ++ rowsFrom d (suc left) zs
 
-  unfoldable pub wiring : (Mono → Poly Mono) → List Wire
+  unfoldable pub wiring : (M → Poly M) → List Wire
   wiring d = rowsFrom d 0 v
+
+  -- every monomial of every derivative is in V2
+  abbrev pub Met : (M → Poly M) → Type 0
+  Met d = (z m : M) → List·Memᴰ z v → List·Memᴰ m (support k (d z)) → T (inV2 k v m)
 
 -- the bytes of a wiring record
 unfoldable pub wireRecord : Wire → List ℕ
 wireRecord x = x .left ∷ x .a ∷ x .b ∷ 0 ∷ fourBytes (unsigned (x .coefficient))
-
--- every monomial of every derivative is in V2
-abbrev pub Met : List Mono → (Mono → Poly Mono) → Type 0
-Met v d = (z m : Mono) → List·Memᴰ z v → List·Memᴰ m (support plain (d z)) → T (inV2 plain v m)
 
 -- ---- a buffer with a list in it
 -- the bytes of a list of records

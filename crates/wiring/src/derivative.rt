@@ -34,7 +34,7 @@ pub fn image(terms: &[u8], t: usize, z: Monomial) -> Monomial
 // The total coefficient of m in the derivative of z.
 pub fn total(terms: &[u8], z: Monomial, m: Monomial) -> i32
     requires { ⌜ CleanTerms (now terms) × AtMost 72 (z .e) ⌝ }
-    ensures { λ r. ⌜ r ≡ coeff plain (derivative (system (records (now (terms .entry)))) (z .e)) (m .e) ⌝ }
+    ensures { λ r. ⌜ r ≡ coeff plain (derivative plain (system (records (now (terms .entry)))) (z .e)) (m .e) ⌝ }
 {
     let count = terms.len() / 12;
     let mut sum: i32 = 0;

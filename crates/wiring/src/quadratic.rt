@@ -43,7 +43,7 @@ fn missing(terms: &[u8], t: usize, z: Monomial, sq: &[u8]) -> Pick
 // Whether the derivative of z has a monomial that is not in V2.
 pub fn has_nonsquare(terms: &[u8], z: Monomial, sq: &[u8]) -> bool
     requires { ⌜ CleanTerms (now terms) × AtMost 72 (z .e) ⌝ }
-    ensures { λ r. ⌜ ((v : List Mono) → tabled (now (sq .entry)) ≡ products plain v → r ≡ some (unmet plain v (derivative (system (records (now (terms .entry)))) (z .e)))) ⌝ }
+    ensures { λ r. ⌜ ((v : List Mono) → tabled (now (sq .entry)) ≡ products plain v → r ≡ some (unmet plain v (derivative plain (system (records (now (terms .entry)))) (z .e)))) ⌝ }
 {
     let count = terms.len() / 12;
     let mut t: usize = 0;
@@ -60,7 +60,7 @@ pub fn has_nonsquare(terms: &[u8], z: Monomial, sq: &[u8]) -> bool
 // The number of the first signal whose derivative has a nonsquare; as many as there are signals where none has.
 pub fn first_unmet(terms: &[u8], v: Signals, sq: &[u8]) -> usize
     requires { ⌜ CleanTerms (now terms) × ((v .len ≤ 13) × ((0 < v .len) × (Fitting 72 (signalsOf v) × (tabled (now sq) ≡ products plain (signalsOf v))))) ⌝ }
-    ensures { λ r. ⌜ r ≡ place (λ z. some (unmet plain (signalsOf v) (derivative (system (records (now (terms .entry)))) z))) (signalsOf v) ⌝ }
+    ensures { λ r. ⌜ r ≡ place (λ z. some (unmet plain (signalsOf v) (derivative plain (system (records (now (terms .entry)))) z))) (signalsOf v) ⌝ }
 {
     let len = v.len;
     let mut j: usize = 0;
@@ -78,7 +78,7 @@ pub fn first_unmet(terms: &[u8], v: Signals, sq: &[u8]) -> usize
 fn choose_in(p: Pick, terms: &[u8], z: Monomial, sq: &[u8]) -> Pick
     requires { ⌜ CleanTerms (now terms) × AtMost 72 (z .e) ⌝ }
     ensures { λ r. ⌜ ((v l : List Mono) → tabled (now (sq .entry)) ≡ products plain v → Best cheaper l p →
-        Best cheaper (unmet plain v (derivative (system (records (now (terms .entry)))) (z .e)) ++ l) r) ⌝ }
+        Best cheaper (unmet plain v (derivative plain (system (records (now (terms .entry)))) (z .e)) ++ l) r) ⌝ }
 {
     let count = terms.len() / 12;
     let mut best = p;
@@ -96,7 +96,7 @@ fn choose_in(p: Pick, terms: &[u8], z: Monomial, sq: &[u8]) -> Pick
 // The nonsquare of a set that is split, where there is one.
 pub fn choose(terms: &[u8], v: Signals, sq: &[u8]) -> Pick
     requires { ⌜ CleanTerms (now terms) × ((v .len ≤ 13) × (Fitting 72 (signalsOf v) × (tabled (now sq) ≡ products plain (signalsOf v)))) ⌝ }
-    ensures { λ r. ⌜ Picked (nonsquares plain (signalsOf v) (derivative (system (records (now (terms .entry)))))) r ⌝ }
+    ensures { λ r. ⌜ Picked (nonsquares plain (signalsOf v) (derivative plain (system (records (now (terms .entry)))))) r ⌝ }
 {
     let len = v.len;
     let mut best = Pick::NONE;

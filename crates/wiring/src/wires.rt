@@ -47,7 +47,7 @@ pub fn clear(out: &mut [u8])
 // The pair of smallest a, then smallest b, whose product is m.
 fn pair_of(v: Signals, m: Monomial) -> Pair
     requires { ⌜ (v .len ≤ 13) × (Fitting 127 (signalsOf v) × T (inV2 plain (signalsOf v) (m .e))) ⌝ }
-    ensures { λ r. ⌜ (r .a ≡ firstOf (signalsOf v) (m .e)) × ((r .b ≡ secondOf (signalsOf v) (m .e)) × ((r .a < 13) × (r .b < 13))) ⌝ }
+    ensures { λ r. ⌜ (r .a ≡ firstOf plain (signalsOf v) (m .e)) × ((r .b ≡ secondOf plain (signalsOf v) (m .e)) × ((r .a < 13) × (r .b < 13))) ⌝ }
 {
     let len = v.len;
     let mut r = Pair { a: 0, b: 0 };
@@ -96,7 +96,7 @@ fn following(terms: &[u8], t: usize, z: Monomial, last: Pick) -> Pick
 // The smallest monomial of the derivative of z behind the last one.
 fn next_monomial(terms: &[u8], z: Monomial, last: Pick) -> Pick
     requires { ⌜ CleanTerms (now terms) × AtMost 72 (z .e) ⌝ }
-    ensures { λ r. ⌜ Heads (keep (beyond last) (support plain (derivative (system (records (now (terms .entry)))) (z .e)))) r ⌝ }
+    ensures { λ r. ⌜ Heads (keep (beyond last) (support plain (derivative plain (system (records (now (terms .entry)))) (z .e)))) r ⌝ }
 {
     let count = terms.len() / 12;
     let mut best = Pick::NONE;
@@ -139,9 +139,9 @@ fn put_record(out: &mut [u8], at: usize, left: usize, p: Pair, c: i32)
 
 // Writes the records of one left variable behind the at records that stand there.
 fn write_row(terms: &[u8], v: Signals, left: usize, out: &mut [u8], from: usize) -> Written
-    requires { ⌜ CleanTerms (now terms) × ((v .len ≤ 13) × ((left < v .len) × (Fitting 72 (signalsOf v) × ((8 * from ≤ length (now out)) × Met (signalsOf v) (derivative (system (records (now terms)))))))) ⌝ }
+    requires { ⌜ CleanTerms (now terms) × ((v .len ≤ 13) × ((left < v .len) × (Fitting 72 (signalsOf v) × ((8 * from ≤ length (now out)) × Met plain (signalsOf v) (derivative plain (system (records (now terms)))))))) ⌝ }
     ensures { λ r. ⌜ ((done : List Wire) → Sheet done from (now (out .entry)) →
-        Wrote (done ++ row (signalsOf v) left (derivative (system (records (now (terms .entry)))) (getD (signalsOf v) left []))) r (now (out .exit))) ⌝ }
+        Wrote (done ++ row plain (signalsOf v) left (derivative plain (system (records (now (terms .entry)))) (getD (signalsOf v) left []))) r (now (out .exit))) ⌝ }
 {
     let z = v.m[left];
     let mut at = from;
@@ -160,8 +160,8 @@ fn write_row(terms: &[u8], v: Signals, left: usize, out: &mut [u8], from: usize)
 
 // Writes the whole list: the records of each left variable, ascending.
 pub fn write_wires(terms: &[u8], v: Signals, out: &mut [u8]) -> Written
-    requires { ⌜ CleanTerms (now terms) × ((v .len ≤ 13) × (Fitting 72 (signalsOf v) × (Sheet [] 0 (now out) × Met (signalsOf v) (derivative (system (records (now terms))))))) ⌝ }
-    ensures { λ r. ⌜ Wrote (wiring (signalsOf v) (derivative (system (records (now (terms .entry)))))) r (now (out .exit)) ⌝ }
+    requires { ⌜ CleanTerms (now terms) × ((v .len ≤ 13) × (Fitting 72 (signalsOf v) × (Sheet [] 0 (now out) × Met plain (signalsOf v) (derivative plain (system (records (now terms))))))) ⌝ }
+    ensures { λ r. ⌜ Wrote (wiring plain (signalsOf v) (derivative plain (system (records (now (terms .entry)))))) r (now (out .exit)) ⌝ }
 {
     let len = v.len;
     let mut w = Written { ok: true, at: 0 };

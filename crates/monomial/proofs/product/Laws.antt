@@ -1,5 +1,5 @@
 -- Products of monomials of any width, and bounds on exponents. Assumes nothing.
-use mathlib.Core.Path.{_≡_, refl, ap₂}
+use mathlib.Core.Path.{_≡_}
 use mathlib.Core.List.{[], _∷_}
 use Prim.Native.Nat.{ℕ, zero, suc, _+_, _≤_, _<_}
 use native.Mathlib.Omega.{arith}
@@ -7,27 +7,17 @@ use lib.ListN.{length, getD, set}
 use Rattle.monomial.specs.Lists.{pointwise}
 use Rattle.monomial.specs.Monomial.{Mono, one}
 use Rattle.monomial.specs.Product.{mul, AtMost}
-use Rattle.monomial.proofs.Loops.{pointwise-at}
+use Rattle.monomial.proofs.Loops.{pointwise-at, pointwise-comm, pointwise-assoc, pointwise-unit}
 
 -- ---- the product
 pub mul-comm : (a b : Mono) → mul a b ≡ mul b a
-unfolding pointwise
-mul-comm [] [] = refl
-mul-comm [] (y ∷ b) = refl
-mul-comm (x ∷ a) [] = refl
-mul-comm (x ∷ a) (y ∷ b) = let e : x + y ≡ y + x = omega arith in ap₂ _∷_ e (mul-comm a b)
+mul-comm = pointwise-comm _+_ (λ x y. omega arith)
 
 pub mul-assoc : (a b c : Mono) → mul (mul a b) c ≡ mul a (mul b c)
-unfolding pointwise
-mul-assoc [] b c = refl
-mul-assoc (x ∷ a) [] c = refl
-mul-assoc (x ∷ a) (y ∷ b) [] = refl
-mul-assoc (x ∷ a) (y ∷ b) (z ∷ c) = let e : x + y + z ≡ x + (y + z) = omega arith in ap₂ _∷_ e (mul-assoc a b c)
+mul-assoc = pointwise-assoc _+_ (λ x y z. omega arith)
 
 pub mul-one : (a : Mono) → mul a (one (length a)) ≡ a
-unfolding pointwise
-mul-one [] = refl
-mul-one (x ∷ a) = let e : x + 0 ≡ x = omega arith in ap₂ _∷_ e (mul-one a)
+mul-one = pointwise-unit _+_ 0 (λ x. omega arith)
 
 -- ---- bounds on exponents
 pub atMost-weaken : {b c : ℕ} (m : Mono) → b ≤ c → AtMost b m → AtMost c m

@@ -142,9 +142,9 @@ module _ (n : ℕ) (fs : List (Poly Mono)) (s : List Mono) (m : Mono) where
   pub not-both : m ∈ missing n fs s → (p : Mono × Mono) → mul (p .0) (p .1) ≡ m → (p .0 ∈ signals 6 n s) × (p .1 ∈ signals 6 n s) → ⊥
   not-both h p e both =
       let v = signals 6 n s in
-      let w : Nonsquare plain mono-order v (derivative fs) m = nonsquares-out plain mono-order v (derivative fs) m h in
+      let w : Nonsquare plain mono-order v (derivative plain fs) m = nonsquares-out plain mono-order v (derivative plain fs) m h in
       let f : Factors plain mono-order v m = record { a = p .0; b = p .1; a-in = both .0; b-in = both .1; is = e } in
-      unmet-out plain mono-order v (derivative fs (w .of)) m (w .missing) .1 (inV2-in plain mono-order v m f)
+      unmet-out plain mono-order v (derivative plain fs (w .of)) m (w .missing) .1 (inV2-in plain mono-order v m f)
 
   -- so its child is longer
   pub split-longer : Ascending before s → m ∈ missing n fs s → (p : Mono × Mono) → p ∈ pairs m → length s < length (child n s p)
@@ -199,7 +199,7 @@ module _ (terms : List ℕ) (clean : CleanTerms terms) (n : ℕ) (s : List Mono)
   pub imaged : (m : Mono) → m ∈ gaps → Imaged m
   imaged m h =
       let v = signals 6 n s in
-      let d = derivative (system (records terms)) in
+      let d = derivative plain (system (records terms)) in
       let w : Nonsquare plain mono-order v d m = nonsquares-out plain mono-order v d m h in
       let seen = unmet-out plain mono-order v (d (w .of)) m (w .missing) .0 in
       let from : Derived (records terms) (w .of) m = derived (records terms) (w .of) m (support-out plain mono-order (d (w .of)) m seen .0) in

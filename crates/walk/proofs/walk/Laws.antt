@@ -59,7 +59,7 @@ onward-end (full taken) = refl
 -- ---- a set is opened, at any bound on the depth that is large enough
 module _ (n : ℕ) (fs : List (Poly Mono)) (k limit room taken : ℕ) (finds : Finds) (s : List Mono) where
   abbrev gaps : List Mono
-  gaps = nonsquares plain (signals 6 n s) (derivative fs)
+  gaps = nonsquares plain (signals 6 n s) (derivative plain fs)
 
   after-spent : (below : List Mono → List Step) (l : List Mono) → limit ≤ taken → run limit room (after n fs k below s l) taken finds ≡ spent
   unfolding run after
@@ -184,7 +184,7 @@ module _ (n : ℕ) (fs : List (Poly Mono)) (k limit room : ℕ) (s : List Mono) 
 
 -- ---- what opening tells of the pairs that follow
 pub open-tells : (n : ℕ) (fs : List (Poly Mono)) (k limit room taken : ℕ) (finds : Finds) (s : List Mono) (d size : ℕ) (m : Mono) (l : List Mono) (turn : Turn) (out : List ℕ)
-    → k - size < d → taken < limit → nonsquares plain (signals 6 n s) (derivative fs) ≡ m ∷ l → length s < k
+    → k - size < d → taken < limit → nonsquares plain (signals 6 n s) (derivative plain fs) ≡ m ∷ l → length s < k
     → ((g : ℕ) → k - size ≤ g → Tells turn out (run limit room (gather (tried n fs k (opened n fs k g) s) (pairs (chosen m l))) (taken + 1) finds))
     → Tells turn out (run limit room (opened n fs k d s) taken finds)
 open-tells n fs k limit room taken finds s zero size m l turn out h t e g f = absurd (omega arith)

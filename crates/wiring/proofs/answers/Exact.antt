@@ -67,7 +67,7 @@ abbrev pub signalsIn : ℕ → List ℕ → List Mono
 signalsIn n set = signals 6 n (setOf set)
 
 abbrev pub derivativeIn : List ℕ → Mono → Poly Mono
-derivativeIn terms = derivative (system (records terms))
+derivativeIn terms = derivative plain (system (records terms))
 
 -- ---- what each reply of checking says
 module _ (n : ℕ) (terms set : List ℕ) where

@@ -36,14 +36,14 @@ use Rattle.wiring.proofs.terms.Laws.{clean-widens}
 module _ (n : ℕ) (fs : List (Poly Mono)) (s : List Mono) where
   -- whether a signal's derivative has a nonsquare
   abbrev bad : Mono → Bool
-  bad z = some (unmet plain (signals 6 n s) (derivative fs z))
+  bad z = some (unmet plain (signals 6 n s) (derivative plain fs z))
 
   some-missing : some (missing n fs s) ≡ any bad (signals 6 n s)
-  some-missing = some-nonsquares plain mono-order (signals 6 n s) (derivative fs)
+  some-missing = some-nonsquares plain mono-order (signals 6 n s) (derivative plain fs)
 
-  pub first-as : (v : List Mono) (at : ℕ) → v ≡ signals 6 n s → at ≡ place (λ z. some (unmet plain v (derivative fs z))) v → at ≡ firstUnmet n fs s
+  pub first-as : (v : List Mono) (at : ℕ) → v ≡ signals 6 n s → at ≡ place (λ z. some (unmet plain v (derivative plain fs z))) v → at ≡ firstUnmet n fs s
   unfolding firstUnmet
-  first-as v at e h = h ∙ ap (λ (l : List Mono). place (λ z. some (unmet plain l (derivative fs z))) l) e
+  first-as v at e h = h ∙ ap (λ (l : List Mono). place (λ z. some (unmet plain l (derivative plain fs z))) l) e
 
   -- the loop's answer is a signal's number, or that of none
   pub first-some : (at : ℕ) → at ≡ firstUnmet n fs s → at < length (signals 6 n s) → some (missing n fs s) ≡ true
@@ -79,14 +79,14 @@ module _ (n : ℕ) (fs : List (Poly Mono)) (s : List Mono) where
       go (failed p) = let q : Done (length s) 0 0 ≡ Done o c k = rw p at e in cc
 
   -- every monomial of every derivative is then in V2
-  pub none-met : missing n fs s ≡ [] → Met (signals 6 n s) (derivative fs)
+  pub none-met : missing n fs s ≡ [] → Met plain (signals 6 n s) (derivative plain fs)
   none-met e z m hz hm = go (test (inV2 plain (signals 6 n s) m))
     where
       go : Tested (inV2 plain (signals 6 n s) m) → T (inV2 plain (signals 6 n s) m)
       go (passed p) = is→T (inV2 plain (signals 6 n s) m) p
       go (failed p) =
-          let u = unmet-in plain mono-order (signals 6 n s) (derivative fs z) m hm (is→nT (inV2 plain (signals 6 n s) m) p) in
-          let l = nonsquares-in plain mono-order (signals 6 n s) (derivative fs) z m hz u in
+          let u = unmet-in plain mono-order (signals 6 n s) (derivative plain fs z) m hm (is→nT (inV2 plain (signals 6 n s) m) p) in
+          let l = nonsquares-in plain mono-order (signals 6 n s) (derivative plain fs) z m hz u in
           absurd (List·Memᴰ·not-nil (subst (λ (r : List Mono). m ∈ r) e l))
 
 -- ---- the checks in their order
@@ -213,7 +213,7 @@ wirable n terms bytes out size r a s e l = record {
   few = count-few n count;
   small = s .fits;
   fits = subst (Fitting 54) (sym held) (right-fits n bytes (a .long) (a .right));
-  met = subst (λ (m : List Mono). Met (signals 6 n m) (derivative (system (records terms)))) (sym held) (none-met n (system (records terms)) (setOf bytes) (a .none));
+  met = subst (λ (m : List Mono). Met plain (signals 6 n m) (derivative plain (system (records terms)))) (sym held) (none-met n (system (records terms)) (setOf bytes) (a .none));
   blank = e ∙ ap (λ (k : ℕ). replicate k 0) (sym l);
 }
   where

@@ -49,5 +49,5 @@ module _ (n : ℕ) (terms set : List ℕ) (w : WellFormed n terms set) where
       pub sum-fits-32 : (t : ℕ) → natAbs (summed (take t (records terms)) z m) < 2147483648
       sum-fits-32 t = let own = fitting-weaken 54 72 (signalsIn n set) (omega arith) signals-fit z h in sum-fits terms well-clean z m (own .0) (own .1) t
 
-      pub sum-is : (t : ℕ) → summed (take t (records terms)) z m ≡ coeff plain (derivative (system (take t (records terms))) z) m
+      pub sum-is : (t : ℕ) → summed (take t (records terms)) z m ≡ coeff plain (derivative plain (system (take t (records terms))) z) m
       sum-is t = clean-exchange terms well-clean z m t

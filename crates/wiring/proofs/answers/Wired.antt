@@ -29,6 +29,7 @@ use Rattle.wiring.proofs.quadratic.Definition1.{definition1}
 use Rattle.wiring.proofs.signals.Laws.{signals-length}
 use Rattle.wiring.proofs.terms.Laws.{records-length}
 use Rattle.wiring.proofs.sets.Exact.{right-recordable}
+use Rattle.wiring.proofs.kinds.Plain.{plain-lawful}
 use Rattle.wiring.proofs.wires.Laws.{Wired, joined, wiring-left}
 use Rattle.wiring.proofs.wires.Sheets.{list-length}
 use Rattle.wiring.proofs.wires.Correct.{Correct, wiring-correct, Decodes, wire-decodes, list-at, list-rest}
@@ -173,7 +174,7 @@ pub record Patch (n : ℕ) (terms set : List ℕ) (count : ℕ) (bytes : List �
   pub list : List Wire
   pub counted : count ≡ length list
   pub most : count ≤ 224
-  pub correct : Correct (signalsIn n set) (derivativeIn terms) list
+  pub correct : Correct plain (signalsIn n set) (derivativeIn terms) list
   pub written : (j : ℕ) (none : Wire) → j < count → Decodes (getD list j none) (take 8 (drop (8 * j) bytes))
   pub rest : (k : ℕ) → 8 * count ≤ k → getD bytes k 0 ≡ 0
 
@@ -191,15 +192,15 @@ module _ (n : ℕ) (terms set : List ℕ) (w : WellFormed n terms set) where
   signals-few = let m = w .ranged .1 in let k = few in let l = signals-length n (setOf set) m in omega arith
 
   module _ (q : Quadratic plain (signalsIn n set) (derivativeIn terms)) where
-    pub list-correct : Correct (signalsIn n set) (derivativeIn terms) (listIn n terms set)
+    pub list-correct : Correct plain (signalsIn n set) (derivativeIn terms) (listIn n terms set)
     list-correct =
-        wiring-correct (signalsIn n set) (derivativeIn terms)
+        wiring-correct plain (signalsIn n set) (derivativeIn terms) plain-lawful
         (none-met n (system (records terms)) (setOf set) (definition1 plain mono-order (signalsIn n set) (derivativeIn terms) .0 q))
 
-    list-wired : (x : Wire) → x ∈ listIn n terms set → Wired (signalsIn n set) (x .left) (derivativeIn terms (getD (signalsIn n set) (x .left) [])) x
+    list-wired : (x : Wire) → x ∈ listIn n terms set → Wired plain (signalsIn n set) (x .left) (derivativeIn terms (getD (signalsIn n set) (x .left) [])) x
     list-wired x h =
         let i : ℕ = x .left in
-        let k : i < length (signalsIn n set) = wiring-left (signalsIn n set) (derivativeIn terms) x h in
+        let k : i < length (signalsIn n set) = wiring-left plain (signalsIn n set) (derivativeIn terms) x h in
         list-correct .rows i k .each x (keep-in (λ y. eqb (y .left) i) (listIn n terms set) h (is→T (eqb i i) (eq-eqb i i refl)))
 
     -- a signal's number and a total fit where they are written
@@ -208,8 +209,8 @@ module _ (n : ℕ) (terms set : List ℕ) (w : WellFormed n terms set) where
         let v : List Mono = signalsIn n set in
         let r = list-wired x h in
         let many : length v ≤ 13 = signals-few in
-        let k : x .left < length v = wiring-left v (derivativeIn terms) x h in
-        let fits : natAbs (x .coefficient) < 2147483648 = rw (r .total) (total-fits-32 n terms set w (getD v (x .left) []) (at-in v (x .left) [] k) (joined v x)) in
+        let k : x .left < length v = wiring-left plain v (derivativeIn terms) x h in
+        let fits : natAbs (x .coefficient) < 2147483648 = rw (r .total) (total-fits-32 n terms set w (getD v (x .left) []) (at-in v (x .left) [] k) (joined plain v x)) in
         wire-decodes x (omega arith) (omega (arith, r .a-below)) (omega (arith, r .b-below)) fits
 
 pub wire-done : (n : ℕ) (terms set : List ℕ) (size o c k : ℕ) (bytes : List ℕ) → outcome (Done o c k) bytes ≡ wired n terms set size → Patch n terms set c bytes

@@ -3,18 +3,18 @@
 use mathlib.Core.Path.{_≡_, refl, sym, ap, ap₂, _∙_, subst}
 use mathlib.Core.Bool.{true, false}
 use mathlib.Core.List.{List, [], _∷_, Memᴰ·cast, Memᴰ·map, Memᴰ·of-map}
-use Prim.Native.Nat.{ℕ, zero, suc, _+_, _*_, _-_, _/_, _<_, _≤_}
+use Prim.Native.Nat.{ℕ, suc, _+_, _*_, _-_, _/_, _<_, _≤_}
 use native.Mathlib.Nat.{mul-le-mul, mul-le-mul-left, mul-le-mul-right}
 use native.Mathlib.Omega.{arith}
 use lib.Dec.{eqb}
 use borrow.Author.Tests.{eqb-true, eqb-false}
 use lib.IntN.{ℤ, pos, natAbs, _+ℤ_, _*ℤ_, +ℤ-idr}
-use lib.ListN.{length, getD, set, take, length-set}
+use lib.ListN.{length, set, take, length-set}
 use lib.Seq.{take-all}
 use mir.Syntax.{w32}
 use mir.Val.{SFits, toZ, ofZ}
 use mir.ValLaws.{toZ-pos, toZ-ofZ}
-use Rattle.monomial.specs.Lists.{keep}
+use Rattle.monomial.specs.Lists.{keep, below}
 use Rattle.monomial.specs.Monomial.{Mono}
 use Rattle.monomial.specs.Order.{same}
 use Rattle.monomial.specs.Product.{mul, AtMost}
@@ -23,15 +23,17 @@ use Rattle.monomial.proofs.Members.{_∈_, here, there, take-in}
 use Rattle.monomial.proofs.Loops.{pointwise-length}
 use Rattle.monomial.proofs.order.Laws.{mono-order}
 use Rattle.monomial.proofs.product.Laws.{atMost-mul, atMost-set, atMost-at}
-use Rattle.monomial.proofs.quotient.Laws.{mul-cancel}
-use Rattle.wiring.specs.Poly.{Term, Poly, plain, coeff, times, monos, support}
+use Rattle.wiring.specs.Poly.{Kind, Term, Poly, plain, coeff, times, monos, support}
 use Rattle.wiring.specs.Derivative.{derivative, part, partsFrom, power, image}
 use Rattle.wiring.specs.Terms.{Record, recordAt, records, equation, system, CleanTerms}
 use Rattle.wiring.proofs.Ints.{abs-sum, abs-product}
-use Rattle.wiring.proofs.Poly.{coeff-append, coeff-absent, support-out}
+use Rattle.wiring.proofs.Poly.{coeff-append, coeff-absent, support-out, Scaled, times-out}
+use Rattle.wiring.proofs.kinds.Laws.{Lawful}
+use Rattle.wiring.proofs.kinds.Plain.{plain-lawful}
 use Rattle.wiring.proofs.coefficient.Laws.{fits-32}
 use Rattle.wiring.proofs.terms.Laws.{alike-in, Rightful, clean-at, records-length, records-at, Unlike, clean-in, clean-take, clean-unlike}
-use Rattle.wiring.proofs.derivative.Records.{derived, Scaled, times-out, equation-out, equation-own, equation-other, run, partsOf, system-runs, summed, summed-next, exchange, contribution, contribution-flat, contribution-hit, contribution-miss}
+use Rattle.wiring.proofs.derivative.Rules.{Parted, absent, present, parted}
+use Rattle.wiring.proofs.derivative.Records.{derived, equation-out, equation-own, equation-other, system-length, summed, addedUp, added-next, exchange, contribution, adds-flat, adds-hit, adds-miss}
 
 -- ---- exponents
 -- the image of a record with six exponents, at most d each
@@ -46,79 +48,85 @@ image-fits r d b z l small lz a =
 
 -- the monomials of a derivative have six exponents, at most 9 more than the monomial's own
 pub derivative-fits : (bytes : List ℕ) → CleanTerms bytes → (b : ℕ) (z : Mono) → length z ≡ 6 → AtMost b z
-    → (m : Mono) → m ∈ support plain (derivative (system (records bytes)) z) → (length m ≡ 6) × AtMost (b + 9) m
+    → (m : Mono) → m ∈ support plain (derivative plain (system (records bytes)) z) → (length m ≡ 6) × AtMost (b + 9) m
 derivative-fits bytes c b z l a m h =
-    let from = derived (records bytes) z m (support-out plain mono-order (derivative (system (records bytes)) z) m h .0) in
+    let from = derived (records bytes) z m (support-out plain mono-order (derivative plain (system (records bytes)) z) m h .0) in
     let r = clean-in bytes c (from .by) (from .listed) in
     subst (λ (x : Mono). (length x ≡ 6) × AtMost (b + 9) x) (from .is) (image-fits (from .by) 9 b z (r .long) (r .small) l a)
 
--- ---- totals
+-- ---- totals, for any kind of monomials
 -- no monomial twice in a polynomial
-abbrev pub Apart : Poly Mono → Type 0
+abbrev pub Apart : {M : Type 0} → Poly M → Type 0
 Apart [] = Unit {0}
 Apart (t ∷ p) = (t .1 ∈ monos p → ⊥) × Apart p
 
--- terms of one width, coefficients at most c, no monomial twice
-pub record Distinct (w c : ℕ) (p : Poly Mono) : Type 0 where
-  pub sized : (t : Term Mono) → t ∈ p → length (t .1) ≡ w
-  pub small : (t : Term Mono) → t ∈ p → natAbs (t .0) ≤ c
+-- terms in w variables, coefficients at most c, no monomial twice
+pub record Distinct {M : Type 0} (k : Kind M) (w c : ℕ) (p : Poly M) : Type 0 where
+  pub sized : (t : Term M) → t ∈ p → k .width (t .1) ≡ w
+  pub small : (t : Term M) → t ∈ p → natAbs (t .0) ≤ c
   pub apart : Apart p
 
-distinct-tail : (w c : ℕ) (t : Term Mono) (p : Poly Mono) → Distinct w c (t ∷ p) → Distinct w c p
-distinct-tail w c t p d = record {
-  sized = λ u h. d .sized u (there h);
-  small = λ u h. d .small u (there h);
-  apart = d .apart .1;
-}
+module _ {M : Type 0} (k : Kind M) (l : Lawful k) (w c : ℕ) where
+  distinct-tail : (t : Term M) (p : Poly M) → Distinct k w c (t ∷ p) → Distinct k w c p
+  distinct-tail t p d = record {
+    sized = λ u h. d .sized u (there h);
+    small = λ u h. d .small u (there h);
+    apart = d .apart .1;
+  }
 
--- where the first term falls on m, no later one does
-times-once : (w c e : ℕ) (z : Mono) → length z ≡ w → (t : Term Mono) (p : Poly Mono) → Distinct w c (t ∷ p) → (m : Mono) → mul z (t .1) ≡ m
-    → coeff plain (times plain (pos e) z p) m ≡ pos 0
-times-once w c e z lz t p d m i = coeff-absent plain mono-order (times plain (pos e) z p) m (λ h. clash (times-out (pos e) z p m h))
-  where
-    clash : Scaled z p m → ⊥
-    clash s =
-        let width : length z ≡ length (t .1) = lz ∙ sym (d .sized t here) in
-        let other : length z ≡ length (s .term .1) = lz ∙ sym (d .sized (s .term) (there (s .listed))) in
-        let equal : t .1 ≡ s .term .1 = mul-cancel z (t .1) (s .term .1) width other (i ∙ sym (s .is)) in
-        d .apart .0 (Memᴰ·cast equal (Memᴰ·map (λ (x : Term Mono). x .1) (s .listed)))
+  -- where the first term falls on m, no later one does
+  times-once : (e : ℤ) (z : M) → k .width z ≡ w → (t : Term M) (p : Poly M) → Distinct k w c (t ∷ p) → (m : M) → k .mul z (t .1) ≡ m
+      → coeff k (times k e z p) m ≡ pos 0
+  times-once e z lz t p d m i = coeff-absent k (l .order) (times k e z p) m (λ h. clash (times-out k e z p m h))
+    where
+      clash : Scaled k z p m → ⊥
+      clash s =
+          let wide : k .width z ≡ k .width (t .1) = lz ∙ sym (d .sized t here) in
+          let other : k .width z ≡ k .width (s .term .1) = lz ∙ sym (d .sized (s .term) (there (s .listed))) in
+          let equal : t .1 ≡ s .term .1 = l .mul-cancel z (t .1) (s .term .1) wide other (i ∙ sym (s .is)) in
+          d .apart .0 (Memᴰ·cast equal (Memᴰ·map (λ (x : Term M). x .1) (s .listed)))
 
-times-bounded : (w c e : ℕ) (z : Mono) → length z ≡ w → (p : Poly Mono) → Distinct w c p → (m : Mono) → natAbs (coeff plain (times plain (pos e) z p) m) ≤ e * c
-unfolding coeff times
-times-bounded w c e z lz [] d m = omega arith
-times-bounded w c e z lz (t ∷ p) d m = go (times-bounded w c e z lz p (distinct-tail w c t p d) m) (test (same (mul z (t .1)) m))
-  where
-    go : natAbs (coeff plain (times plain (pos e) z p) m) ≤ e * c → Tested (same (mul z (t .1)) m) → natAbs (coeff plain (times plain (pos e) z (t ∷ p)) m) ≤ e * c
-    go ih (failed q) = rw q ih
-    go ih (passed q) =
-        let later = coeff plain (times plain (pos e) z p) m in
-        let none : natAbs later ≡ 0 = ap natAbs (times-once w c e z lz t p d m (mono-order .same-eq (mul z (t .1)) m (is→T (same (mul z (t .1)) m) q))) in
-        let sum : natAbs (pos e *ℤ t .0 +ℤ later) ≤ natAbs (pos e *ℤ t .0) + natAbs later = abs-sum (pos e *ℤ t .0) later in
-        let product : natAbs (pos e *ℤ t .0) ≡ e * natAbs (t .0) = abs-product (pos e) (t .0) in
-        let small : e * natAbs (t .0) ≤ e * c = mul-le-mul-left e (d .small t here) in
-        rw q (omega arith)
+  times-bounded : (e : ℤ) (z : M) → k .width z ≡ w → (p : Poly M) → Distinct k w c p → (m : M) → natAbs (coeff k (times k e z p) m) ≤ natAbs e * c
+  unfolding coeff times
+  times-bounded e z lz [] d m = omega arith
+  times-bounded e z lz (t ∷ p) d m = go (times-bounded e z lz p (distinct-tail t p d) m) (test (k .same (k .mul z (t .1)) m))
+    where
+      go : natAbs (coeff k (times k e z p) m) ≤ natAbs e * c → Tested (k .same (k .mul z (t .1)) m) → natAbs (coeff k (times k e z (t ∷ p)) m) ≤ natAbs e * c
+      go ih (failed q) = rw q ih
+      go ih (passed q) =
+          let later = coeff k (times k e z p) m in
+          let hit : k .mul z (t .1) ≡ m = l .order .same-eq (k .mul z (t .1)) m (is→T (k .same (k .mul z (t .1)) m) q) in
+          let none : natAbs later ≡ 0 = ap natAbs (times-once e z lz t p d m hit) in
+          let sum : natAbs (e *ℤ t .0 +ℤ later) ≤ natAbs (e *ℤ t .0) + natAbs later = abs-sum (e *ℤ t .0) later in
+          let product : natAbs (e *ℤ t .0) ≡ natAbs e * natAbs (t .0) = abs-product e (t .0) in
+          let small : natAbs e * natAbs (t .0) ≤ natAbs e * c = mul-le-mul-left (natAbs e) (d .small t here) in
+          rw q (omega arith)
 
-part-bounded : (w c e i : ℕ) (z : Mono) → length z ≡ w → (p : Poly Mono) → Distinct w c p → (m : Mono) → natAbs (coeff plain (part e i z p) m) ≤ e * c
-unfolding coeff
-part-bounded w c zero i z lz p d m = omega arith
-part-bounded w c (suc e) i z lz p d m = times-bounded w c (suc e) (set z i e) (length-set z i e ∙ lz) p d m
+  part-bounded : (i : ℕ) (z : M) → k .width z ≡ w → (p : Poly M) → Distinct k w c p → (m : M) → natAbs (coeff k (part k i z p) m) ≤ natAbs (k .power z i) * c
+  unfolding coeff
+  part-bounded i z lz p d m = go (parted k i z p)
+    where
+      go : Parted k i z p → natAbs (coeff k (part k i z p) m) ≤ natAbs (k .power z i) * c
+      go (absent e q) = rw q (omega arith)
+      go (present n q) = rw q (times-bounded (k .power z i) (k .over z i) (l .width-over z i ∙ lz) p d m)
 
--- ---- the equations of records: k of them from number i on
-module _ (w c b : ℕ) (rs : List Record) (z : Mono) (lz : length z ≡ w) (a : AtMost b z) (d : (i : ℕ) → Distinct w c (equation rs i)) (m : Mono) where
-  parts-bounded : (i k : ℕ) → natAbs (coeff plain (partsOf rs z i k) m) ≤ k * (b * c)
-  unfolding partsFrom run coeff
-  parts-bounded i zero = omega arith
-  parts-bounded i (suc k) =
-      let own = part (getD z i 0) i z (equation rs i) in
-      let rest = partsOf rs z (suc i) k in
-      let ih : natAbs (coeff plain rest m) ≤ k * (b * c) = parts-bounded (suc i) k in
-      let one : natAbs (coeff plain own m) ≤ getD z i 0 * c = part-bounded w c (getD z i 0) i z lz (equation rs i) (d i) m in
-      let most : getD z i 0 * c ≤ b * c = mul-le-mul-right c (atMost-at b z i a) in
-      let sum : natAbs (coeff plain own m +ℤ coeff plain rest m) ≤ natAbs (coeff plain own m) + natAbs (coeff plain rest m) = abs-sum (coeff plain own m) (coeff plain rest m) in
-      rw (coeff-append plain mono-order own rest m) (omega arith)
+  -- exponents of z up to b, and each equation adds at most one term
+  module _ (b : ℕ) (z : M) (lz : k .width z ≡ w) (a : (i : ℕ) → natAbs (k .power z i) ≤ b) (m : M) where
+    parts-bounded : (i : ℕ) (fs : List (Poly M)) → ((f : Poly M) → f ∈ fs → Distinct k w c f) → natAbs (coeff k (partsFrom k i z fs) m) ≤ length fs * (b * c)
+    unfolding partsFrom coeff
+    parts-bounded i [] d = omega arith
+    parts-bounded i (f ∷ fs) d =
+        let own = part k i z f in
+        let rest = partsFrom k (suc i) z fs in
+        let ih : natAbs (coeff k rest m) ≤ length fs * (b * c) = parts-bounded (suc i) fs (λ g h. d g (there h)) in
+        let one : natAbs (coeff k own m) ≤ natAbs (k .power z i) * c = part-bounded i z lz f (d f here) m in
+        let most : natAbs (k .power z i) * c ≤ b * c = mul-le-mul-right c (a i) in
+        let sum : natAbs (coeff k own m +ℤ coeff k rest m) ≤ natAbs (coeff k own m) + natAbs (coeff k rest m) = abs-sum (coeff k own m) (coeff k rest m) in
+        rw (coeff-append k (l .order) own rest m) (omega arith)
 
-  derivative-bounded : natAbs (coeff plain (derivative (system rs) z) m) ≤ 6 * (b * c)
-  derivative-bounded = rw (system-runs rs z) (parts-bounded 0 6)
+    pub derivative-bounded : (fs : List (Poly M)) → ((f : Poly M) → f ∈ fs → Distinct k w c f) → natAbs (coeff k (derivative k fs z) m) ≤ length fs * (b * c)
+    unfolding derivative
+    derivative-bounded fs d = parts-bounded 0 fs d
 
 -- ---- records of which no two are alike give equations without repeats
 equation-apart : (rs : List Record) (i : ℕ) → Unlike rs → Apart (equation rs i)
@@ -145,16 +153,24 @@ pub record Sized (w c : ℕ) (rs : List Record) : Type 0 where
   pub limited : (r : Record) → r ∈ rs → natAbs (r .coefficient) ≤ c
   pub unlike : Unlike rs
 
-equation-distinct : (w c : ℕ) (rs : List Record) → Sized w c rs → (i : ℕ) → Distinct w c (equation rs i)
+equation-distinct : (w c : ℕ) (rs : List Record) → Sized w c rs → (i : ℕ) → Distinct plain w c (equation rs i)
 equation-distinct w c rs s i = record {
   sized = λ t h. let o = equation-out rs i t h in subst (λ (x : Term Mono). length (x .1) ≡ w) (o .is) (s .long (o .by) (o .listed));
   small = λ t h. let o = equation-out rs i t h in subst (λ (x : Term Mono). natAbs (x .0) ≤ c) (o .is) (s .limited (o .by) (o .listed));
   apart = equation-apart rs i (s .unlike);
 }
 
+pub system-distinct : (w c : ℕ) (rs : List Record) → Sized w c rs → (f : Poly Mono) → f ∈ system rs → Distinct plain w c f
+unfolding system
+system-distinct w c rs s f h =
+    let e : (i : ℕ) × (i ∈ below 6) × (equation rs i ≡ f) = Memᴰ·of-map (equation rs) (below 6) h in
+    subst (Distinct plain w c) (e .2) (equation-distinct w c rs s (e .0))
+
 pub total-bounded : (w c b : ℕ) (rs : List Record) → Sized w c rs → (z m : Mono) → length z ≡ w → AtMost b z
-    → natAbs (coeff plain (derivative (system rs) z) m) ≤ 6 * (b * c)
-total-bounded w c b rs s z m lz a = derivative-bounded w c b rs z lz a (equation-distinct w c rs s) m
+    → natAbs (coeff plain (derivative plain (system rs) z) m) ≤ 6 * (b * c)
+total-bounded w c b rs s z m lz a =
+    subst (λ (n : ℕ). natAbs (coeff plain (derivative plain (system rs) z) m) ≤ n * (b * c)) (system-length rs)
+    (derivative-bounded plain plain-lawful w c b z lz (λ i. atMost-at b z i a) m (system rs) (system-distinct w c rs s))
 
 -- ---- clean records, and the sum over the first of them
 module _ (bytes : List ℕ) (clean : CleanTerms bytes) where
@@ -168,7 +184,7 @@ module _ (bytes : List ℕ) (clean : CleanTerms bytes) where
     unlike = clean-unlike 6 [] (take t (records bytes)) (clean-take 6 [] (records bytes) t clean);
   }
 
-  pub clean-exchange : (z m : Mono) (t : ℕ) → summed (take t (records bytes)) z m ≡ coeff plain (derivative (system (take t (records bytes))) z) m
+  pub clean-exchange : (z m : Mono) (t : ℕ) → summed (take t (records bytes)) z m ≡ coeff plain (derivative plain (system (take t (records bytes))) z) m
   clean-exchange z m t = exchange (take t (records bytes)) z m (λ r h. (first-in t r h .low, first-in t r h .high))
 
   pub sum-bounded : (b : ℕ) (z m : Mono) → length z ≡ 6 → AtMost b z → (t : ℕ) → natAbs (summed (take t (records bytes)) z m) ≤ 6 * (b * 1000000)
@@ -179,13 +195,13 @@ module _ (bytes : List ℕ) (clean : CleanTerms bytes) where
   sum-fits z m lz a t = let h = sum-bounded 72 z m lz a t in omega arith
 
   -- the sum over all of them is the total
-  pub sum-ends : (z m : Mono) (t : ℕ) → length (records bytes) ≤ t → summed (take t (records bytes)) z m ≡ coeff plain (derivative (system (records bytes)) z) m
-  sum-ends z m t h = clean-exchange z m t ∙ ap (λ (rs : List Record). coeff plain (derivative (system rs) z) m) (take-all t (records bytes) h)
+  pub sum-ends : (z m : Mono) (t : ℕ) → length (records bytes) ≤ t → summed (take t (records bytes)) z m ≡ coeff plain (derivative plain (system (records bytes)) z) m
+  sum-ends z m t h = clean-exchange z m t ∙ ap (λ (rs : List Record). coeff plain (derivative plain (system rs) z) m) (take-all t (records bytes) h)
 
-  pub clean-total : (b : ℕ) (z m : Mono) → length z ≡ 6 → AtMost b z → natAbs (coeff plain (derivative (system (records bytes)) z) m) ≤ 6 * (b * 1000000)
+  pub clean-total : (b : ℕ) (z m : Mono) → length z ≡ 6 → AtMost b z → natAbs (coeff plain (derivative plain (system (records bytes)) z) m) ≤ 6 * (b * 1000000)
   clean-total b z m lz a = rw (← sum-ends z m (length (records bytes)) (omega arith)) (sum-bounded b z m lz a (length (records bytes)))
 
-  pub total-fits : (z m : Mono) → length z ≡ 6 → AtMost 72 z → natAbs (coeff plain (derivative (system (records bytes)) z) m) < 2147483648
+  pub total-fits : (z m : Mono) → length z ≡ 6 → AtMost 72 z → natAbs (coeff plain (derivative plain (system (records bytes)) z) m) < 2147483648
   total-fits z m lz a = let h = clean-total 72 z m lz a in omega arith
 
 -- ---- a loop that adds the records up in 32 bits, sum so far, and has come to record number t
@@ -196,11 +212,11 @@ pub record Adding (bytes : List ℕ) (z m : Mono) (sum t : ℕ) : Type 0 where
   pub so-far : toZ w32 sum ≡ summed (take t (records bytes)) z m
 
 pub adding-start : (bytes : List ℕ) (z m : Mono) → CleanTerms bytes → length z ≡ 6 → AtMost 72 z → Adding bytes z m 0 0
-unfolding summed
+unfolding addedUp
 adding-start bytes z m c l a = record { clean = c; long = l; small = a; so-far = refl }
 
 pub adding-ends : {bytes : List ℕ} {z m : Mono} {sum t : ℕ} → Adding bytes z m sum t → length bytes / 12 ≤ t
-    → toZ w32 sum ≡ coeff plain (derivative (system (records bytes)) z) m
+    → toZ w32 sum ≡ coeff plain (derivative plain (system (records bytes)) z) m
 adding-ends {bytes} {z} {m} {sum} {t} a h = a .so-far ∙ sum-ends bytes (a .clean) z m t (rw (records-length bytes) h)
 
 module _ {bytes : List ℕ} {z m : Mono} {sum t : ℕ} (a : Adding bytes z m sum t) (h : t < length bytes / 12) where
@@ -208,7 +224,7 @@ module _ {bytes : List ℕ} {z m : Mono} {sum t : ℕ} (a : Adding bytes z m sum
   next-is : summed (take (t + 1) (records bytes)) z m ≡ summed (take t (records bytes)) z m +ℤ contribution (recordAt bytes t) z m
   next-is =
       let r = recordAt bytes t in
-      summed-next (records bytes) t r z m (rw (records-length bytes) h)
+      added-next plain mono-order (λ x. x) (records bytes) t r z m (rw (records-length bytes) h)
       ∙ ap (λ (q : Record). summed (take t (records bytes)) z m +ℤ contribution q z m) (records-at bytes t r h)
 
   adding-none : contribution (recordAt bytes t) z m ≡ pos 0 → Adding bytes z m sum (t + 1)
@@ -220,10 +236,10 @@ module _ {bytes : List ℕ} {z m : Mono} {sum t : ℕ} (a : Adding bytes z m sum
   }
 
   pub adding-flat : power (recordAt bytes t) z ≡ 0 → Adding bytes z m sum (t + 1)
-  adding-flat e = adding-none (contribution-flat (recordAt bytes t) z m e)
+  adding-flat e = adding-none (adds-flat plain mono-order (λ x. x) (recordAt bytes t) z m (ap pos e))
 
   pub adding-miss : (y : Mono) → y ≡ image (recordAt bytes t) z → same y m ≡ false → Adding bytes z m sum (t + 1)
-  adding-miss y y-is e = adding-none (contribution-miss (recordAt bytes t) z m (rw (← y-is) e))
+  adding-miss y y-is e = adding-none (adds-miss plain mono-order (λ x. x) (recordAt bytes t) z m (rw (← y-is) e))
 
   -- the product and the sum as the machine takes them: k is the record's power, x its coefficient
   module _ (k : ℕ) (k-is : k ≡ power (recordAt bytes t) z) where
@@ -249,11 +265,11 @@ module _ {bytes : List ℕ} {z m : Mono} {sum t : ℕ} (a : Adding bytes z m sum
         let most : k * natAbs x ≤ 72 * 1000000 = mul-le-mul (limited k k-is) million in
         rw plain-product (fits-32 (pos k *ℤ x) (omega arith))
 
-    module _ (raised : 0 < k) (y : Mono) (y-is : y ≡ image (recordAt bytes t) z) (hit : same y m ≡ true) where
+    module _ (y : Mono) (y-is : y ≡ image (recordAt bytes t) z) (hit : same y m ≡ true) where
       added : toZ w32 sum +ℤ toZ w32 (ofZ w32 product) ≡ summed (take (t + 1) (records bytes)) z m
       added =
           let r = recordAt bytes t in
-          let own = contribution-hit r z m (rw (← k-is) raised) (rw (← y-is) hit) ∙ ap₂ (λ (i : ℕ) (y : ℤ). pos i *ℤ y) (sym k-is) (sym x-is) in
+          let own = adds-hit plain mono-order (λ x. x) r z m (rw (← y-is) hit) ∙ ap₂ (λ (i : ℕ) (y : ℤ). pos i *ℤ y) (sym k-is) (sym x-is) in
           ap₂ _+ℤ_ (a .so-far) (toZ-ofZ w32 product product-fits ∙ plain-product ∙ sym own) ∙ sym next-is
 
       pub sum-of-fits : SFits w32 (toZ w32 sum +ℤ toZ w32 (ofZ w32 product))

@@ -1,23 +1,18 @@
 -- The derivative of every system that bytes hold obeys its rules, in six variables, and is the only one that does. Assumes nothing.
 use mathlib.Core.Path.{_≡_, sym, ap, _∙_}
-use mathlib.Core.List.{List, [], Memᴰ·of-map}
-use Prim.Native.Nat.{ℕ, _<_}
-use lib.ListN.{length, getD}
+use mathlib.Core.List.{List, Memᴰ·of-map}
+use Prim.Native.Nat.{ℕ}
+use lib.ListN.{length}
 use Rattle.monomial.specs.Lists.{below}
 use Rattle.monomial.specs.Monomial.{Mono}
 use Rattle.monomial.proofs.Members.{_∈_}
-use Rattle.monomial.proofs.Counting.{below-at}
 use Rattle.wiring.specs.Poly.{Term, Poly, plain, Same}
 use Rattle.wiring.specs.Derivative.{derivative}
 use Rattle.wiring.specs.Terms.{Record, records, equation, system}
 use Rattle.wiring.proofs.terms.Laws.{Numbered, records-out, record-long}
 use Rattle.wiring.proofs.derivative.Records.{Stated, equation-out}
+use Rattle.wiring.proofs.kinds.Plain.{plain-lawful}
 use Rattle.wiring.proofs.derivative.Rules.{Rules, Sized, derivative-rules, rules-fix}
-
--- equation number i, from 0
-pub panel-equation : (rs : List Record) (i : ℕ) → i < 6 → getD (system rs) i [] ≡ equation rs i
-unfolding system
-panel-equation rs i h = below-at (equation rs) 6 i [] h
 
 module _ (bytes : List ℕ) where
   abbrev fs : List (Poly Mono)
@@ -29,7 +24,7 @@ module _ (bytes : List ℕ) where
       let own : Numbered bytes (from .by) = records-out bytes (from .by) (from .listed) in
       sym (ap (λ (x : Term Mono). length (x .1)) (from .is)) ∙ sym (ap (λ (r : Record). length (r .monomial)) (own .is)) ∙ record-long bytes (own .number) (own .counted)
 
-  pub panel-sized : Sized 6 (system (records bytes))
+  pub panel-sized : Sized plain 6 (system (records bytes))
   unfolding system
   panel-sized f m hf hm =
       let e : (i : ℕ) × (i ∈ below 6) × (equation (records bytes) i ≡ f) = Memᴰ·of-map (equation (records bytes)) (below 6) hf in
@@ -37,8 +32,8 @@ module _ (bytes : List ℕ) where
       sym (ap length (t .2)) ∙ stated-long (e .0) (t .0) (rw (e .2) (t .1))
 
   -- 1' is 0, the derivative of a variable is its equation, and products follow the product rule
-  pub panel-rules : Rules 6 (system (records bytes)) (derivative (system (records bytes)))
-  panel-rules = derivative-rules 6 fs panel-sized
+  pub panel-rules : Rules plain 6 (system (records bytes)) (derivative plain (system (records bytes)))
+  panel-rules = derivative-rules plain plain-lawful 6 fs panel-sized
 
-  pub panel-fixed : (D : Mono → Poly Mono) → Rules 6 (system (records bytes)) D → (z : Mono) → length z ≡ 6 → Same plain (D z) (derivative (system (records bytes)) z)
-  panel-fixed D r = rules-fix r panel-rules
+  pub panel-fixed : (D : Mono → Poly Mono) → Rules plain 6 (system (records bytes)) D → (z : Mono) → length z ≡ 6 → Same plain (D z) (derivative plain (system (records bytes)) z)
+  panel-fixed D r = rules-fix plain plain-lawful r panel-rules

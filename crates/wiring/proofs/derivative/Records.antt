@@ -1,16 +1,15 @@
 -- The derivative of a monomial, record by record: where its monomials come from, and its coefficients as sums over the records in their
 -- order. Assumes nothing.
 use mathlib.Core.Path.{_≡_, refl, sym, ap, ap₂, _∙_, subst}
-use mathlib.Core.Logic.{_⊎_, inl, inr, ⊎-elim}
-use mathlib.Core.Bool.{Bool, true, false, cond, _&&_}
-use mathlib.Core.List.{List, [], _∷_, _++_, map, List·Memᴰ·head, List·Memᴰ·cases-cons, List·Memᴰ·not-nil, Memᴰ·of-map}
+use mathlib.Core.Bool.{Bool, true, false, cond}
+use mathlib.Core.List.{List, [], _∷_, _++_, map, map-map, map-id, List·Memᴰ·not-nil, Memᴰ·of-map}
 use Prim.Native.Nat.{ℕ, zero, suc, _+_, _-_, _<_, _≤_}
 use native.Mathlib.Omega.{arith}
 use native.Mathlib.Numerals.{add-one}
-use borrow.Author.Tests.{eqb-true, eqb-false, eq-eqb, lt-ltb, le-ltb}
+use borrow.Author.Tests.{eqb-true, eqb-false, eq-eqb, ltb-true, ltb-false}
 use lib.Dec.{eqb, ltb, eqb→eq}
-use lib.IntN.{ℤ, pos, _+ℤ_, _*ℤ_, +ℤ-idl, +ℤ-idr, +ℤ-assoc}
-use lib.ListN.{length, getD, set, take}
+use lib.IntN.{ℤ, pos, _+ℤ_, _*ℤ_, +ℤ-idl, +ℤ-idr, +ℤ-assoc, zero-*ℤ}
+use lib.ListN.{length, getD, set, take, length-map, List·getD-eq-default}
 use lib.Seq.{take-suc}
 use Rattle.monomial.specs.Lists.{keep, below}
 use Rattle.monomial.specs.Monomial.{Mono}
@@ -18,12 +17,15 @@ use Rattle.monomial.specs.Order.{same}
 use Rattle.monomial.specs.Product.{mul}
 use Rattle.monomial.proofs.Tests.{Tested, passed, failed, test, is→T}
 use Rattle.monomial.proofs.Members.{_∈_, here, there, keep-out, keep-yes, keep-no}
-use Rattle.monomial.proofs.order.Laws.{mono-order}
-use Rattle.wiring.specs.Poly.{Term, Poly, plain, coeff, times, monos}
+use Rattle.monomial.proofs.Counting.{below-at, below-length}
+use Rattle.monomial.proofs.order.Laws.{Order, mono-order}
+use Rattle.wiring.specs.Poly.{Kind, Term, Poly, plain, coeff, times, monos}
 use Rattle.wiring.specs.Derivative.{derivative, part, partsFrom, power, image}
 use Rattle.wiring.specs.Terms.{Record, equation, system}
 use Rattle.wiring.proofs.Ints.{+ℤ-left-comm}
-use Rattle.wiring.proofs.Poly.{coeff-append}
+use Rattle.wiring.proofs.Poly.{carry, coeff-append}
+use Rattle.wiring.proofs.derivative.Rules.{Parted, absent, present, parted, part-flat, part-raised}
+use Rattle.wiring.proofs.derivative.Terms.{derives}
 
 -- ---- the equations by their numbers
 -- what f gives for i, i + 1, .., k of them
@@ -44,14 +46,6 @@ pub run-below : {A : Type 0} (f : ℕ → A) (k : ℕ) → map f (below k) ≡ r
 unfolding run below
 run-below f zero = refl
 run-below f (suc k) = ap (_∷_ (f 0)) (map-suc f (below k) ∙ run-below (λ j. f (suc j)) k ∙ run-suc f 0 k)
-
--- the summands of the variables i, i + 1, .., k of them
-abbrev pub partsOf : List Record → Mono → ℕ → ℕ → Poly Mono
-partsOf rs z i k = partsFrom i z (run (equation rs) i k)
-
-pub system-runs : (rs : List Record) (z : Mono) → derivative (system rs) z ≡ partsOf rs z 0 6
-unfolding derivative system
-system-runs rs z = ap (partsFrom 0 z) (run-below (equation rs) 6)
 
 -- ---- m comes from a record
 pub record Derived (rs : List Record) (z m : Mono) : Type 0 where
@@ -76,96 +70,47 @@ equation-out rs i t h = go (Memᴰ·of-map (λ (r : Record). (r .coefficient, r 
         let k = keep-out (λ (r : Record). eqb (r .equation) (suc i)) rs (p .1) in
         record { by = p .0; listed = k .0; numbered = eqb→eq (p .0 .equation) (suc i) (k .1); is = p .2 }
 
-monos-append : (p q : Poly Mono) (m : Mono) → m ∈ monos (p ++ q) → (m ∈ monos p) ⊎ (m ∈ monos q)
-monos-append [] q m h = inr h
-monos-append (t ∷ p) q m h = ⊎-elim (λ e. inl (List·Memᴰ·head e)) (λ k. ⊎-elim (λ j. inl (there j)) (λ j. inr j) (monos-append p q m k)) (List·Memᴰ·cases-cons h)
-
--- a monomial of a product with a monomial
-pub record Scaled (z : Mono) (p : Poly Mono) (m : Mono) : Type 0 where
-  pub term : Term Mono
-  pub listed : term ∈ p
-  pub is : mul z (term .1) ≡ m
-
-pub times-out : (c : ℤ) (z : Mono) (p : Poly Mono) (m : Mono) → m ∈ monos (times plain c z p) → Scaled z p m
-unfolding times
-times-out c z [] m h = absurd (List·Memᴰ·not-nil h)
-times-out c z (t ∷ p) m h = ⊎-elim (λ e. record { term = t; listed = here; is = sym e }) (λ k. later (times-out c z p m k)) (List·Memᴰ·cases-cons h)
-  where
-    later : Scaled z p m → Scaled z (t ∷ p) m
-    later s = record { term = s .term; listed = there (s .listed); is = s .is }
-
--- the image of a record of equation i, where the exponent of its variable is known
-image-is : (r : Record) (z : Mono) (i e : ℕ) → r .equation ≡ suc i → getD z i 0 ≡ suc e → image r z ≡ mul (set z i e) (r .monomial)
-image-is r z i e h k = let j : r .equation - 1 ≡ i = omega arith in let l : suc e - 1 ≡ e = omega arith in rw (j, k, l)
-
 -- the image from its parts: x is z with one less at the record's variable, y the record's monomial
 pub image-made : (r : Record) (z x y : Mono) (i : ℕ) → i ≡ r .equation → x ≡ set z (i - 1) (getD z (i - 1) 0 - 1) → y ≡ r .monomial → mul x y ≡ image r z
 image-made r z x y i e f g = ap₂ mul (f ∙ ap (λ (j : ℕ). set z (j - 1) (getD z (j - 1) 0 - 1)) e) g
 
-part-out : (rs : List Record) (i e : ℕ) (z m : Mono) → getD z i 0 ≡ e → m ∈ monos (part e i z (equation rs i)) → Derived rs z m
-part-out rs i zero z m q h = absurd (List·Memᴰ·not-nil h)
-part-out rs i (suc e) z m q h =
-    let s = times-out (pos (suc e)) (set z i e) (equation rs i) m h in
-    let o = equation-out rs i (s .term) (s .listed) in
+pub panel-equation : (rs : List Record) (i : ℕ) → i < 6 → getD (system rs) i [] ≡ equation rs i
+unfolding system
+panel-equation rs i h = below-at (equation rs) 6 i [] h
+
+pub system-length : (rs : List Record) → length (system rs) ≡ 6
+unfolding system
+system-length rs = length-map (below 6) (equation rs) ∙ below-length 6
+
+pub panel-stated : (rs : List Record) (i : ℕ) (t : Term Mono) → t ∈ getD (system rs) i [] → Stated rs i t
+panel-stated rs i t h = go (test (ltb i 6))
+  where
+    go : Tested (ltb i 6) → Stated rs i t
+    go (passed e) = equation-out rs i t (subst (λ (f : Poly Mono). t ∈ f) (panel-equation rs i (ltb-true i 6 e)) h)
+    go (failed e) =
+        let n : length (system rs) ≡ 6 = system-length rs in
+        let k : 6 ≤ i = ltb-false i 6 e in
+        absurd (List·Memᴰ·not-nil (subst (λ (f : Poly Mono). t ∈ f) (List·getD-eq-default (system rs) [] {n = i} (omega arith)) h))
+
+-- an exponent that is not 0
+positive : (e : ℕ) → (pos e ≡ pos 0 → ⊥) → 0 < e
+positive zero n = absurd (n refl)
+positive (suc e) n = omega arith
+
+pub derived : (rs : List Record) (z m : Mono) → m ∈ monos (derivative plain (system rs) z) → Derived rs z m
+derived rs z m h =
+    let d = derives plain (system rs) z m h in
+    let i = d .number in
+    let o = panel-stated rs i (d .by .term) (d .by .listed) in
     let v : o .by .equation - 1 ≡ i = omega (arith, o .numbered) in
     record {
       by = o .by;
       listed = o .listed;
-      raised = rw (v, q) (omega arith);
-      is = image-is (o .by) z i e (o .numbered) q ∙ ap (λ (t : Term Mono). mul (set z i e) (t .1)) (o .is) ∙ s .is;
+      raised = rw v (positive (getD z i 0) (d .by .raised));
+      is = ap₂ (λ (j : ℕ) (y : Mono). mul (set z j (getD z j 0 - 1)) y) v (ap (λ (t : Term Mono). t .1) (o .is)) ∙ d .by .is;
     }
 
-parts-out : (rs : List Record) (i k : ℕ) (z m : Mono) → m ∈ monos (partsOf rs z i k) → Derived rs z m
-unfolding partsFrom run
-parts-out rs i zero z m h = absurd (List·Memᴰ·not-nil h)
-parts-out rs i (suc k) z m h =
-    ⊎-elim (λ p. part-out rs i (getD z i 0) z m refl p) (λ p. parts-out rs (suc i) k z m p)
-    (monos-append (part (getD z i 0) i z (equation rs i)) (partsOf rs z (suc i) k) m h)
-
-pub derived : (rs : List Record) (z m : Mono) → m ∈ monos (derivative (system rs) z) → Derived rs z m
-derived rs z m h = parts-out rs 0 6 z m (subst (λ (p : Poly Mono). m ∈ monos p) (system-runs rs z) h)
-
--- ---- a coefficient as a sum over the records, in their order
--- what a record adds to the coefficient of m
-unfoldable pub contribution : Record → Mono → Mono → ℤ
-contribution r z m = cond (ltb 0 (power r z) && same (image r z) m) (pos (power r z) *ℤ r .coefficient) (pos 0)
-
-unfoldable pub summed : List Record → Mono → Mono → ℤ
-summed [] z m = pos 0
-summed (r ∷ rs) z m = contribution r z m +ℤ summed rs z m
-
--- the three ways of a record: its variable is not in z, its image is m, its image is another
-pub contribution-flat : (r : Record) (z m : Mono) → power r z ≡ 0 → contribution r z m ≡ pos 0
-unfolding contribution
-contribution-flat r z m e = rw (le-ltb 0 (power r z) (omega arith))
-
-pub contribution-hit : (r : Record) (z m : Mono) → 0 < power r z → same (image r z) m ≡ true → contribution r z m ≡ pos (power r z) *ℤ r .coefficient
-unfolding contribution
-contribution-hit r z m h e = rw (lt-ltb 0 (power r z) h, e)
-
-pub contribution-miss : (r : Record) (z m : Mono) → same (image r z) m ≡ false → contribution r z m ≡ pos 0
-unfolding contribution
-contribution-miss r z m e = rw e (neither (ltb 0 (power r z)))
-  where
-    neither : (b : Bool) → cond (b && false) (pos (power r z) *ℤ r .coefficient) (pos 0) ≡ pos 0
-    neither true = refl
-    neither false = refl
-
--- the sum goes on by one record
-summed-append : (rs qs : List Record) (z m : Mono) → summed (rs ++ qs) z m ≡ summed rs z m +ℤ summed qs z m
-unfolding summed
-summed-append [] qs z m = sym (+ℤ-idl (summed qs z m))
-summed-append (r ∷ rs) qs z m =
-    ap (λ (y : ℤ). contribution r z m +ℤ y) (summed-append rs qs z m) ∙ sym (+ℤ-assoc (contribution r z m) (summed rs z m) (summed qs z m))
-
-pub summed-next : (rs : List Record) (t : ℕ) (d : Record) (z m : Mono) → t < length rs
-    → summed (take (t + 1) rs) z m ≡ summed (take t rs) z m +ℤ contribution (getD rs t d) z m
-unfolding summed
-summed-next rs t d z m h =
-    rw (add-one t, take-suc rs t d h)
-    (summed-append (take t rs) (getD rs t d ∷ []) z m ∙ ap (λ (y : ℤ). summed (take t rs) z m +ℤ y) (+ℤ-idr (contribution (getD rs t d) z m)))
-
--- ---- one record more
+-- ---- the equations with one record more
 pub equation-own : (r : Record) (rs : List Record) (i : ℕ) → r .equation ≡ suc i → equation (r ∷ rs) i ≡ (r .coefficient, r .monomial) ∷ equation rs i
 unfolding equation
 equation-own r rs i e =
@@ -177,82 +122,148 @@ unfolding equation
 equation-other r rs i n =
     ap (map (λ (q : Record). (q .coefficient, q .monomial))) (keep-no (λ (q : Record). eqb (q .equation) (suc i)) r rs (λ t. n (eqb→eq (r .equation) (suc i) t)))
 
--- equations behind its own are as before
-run-others : (r : Record) (rs : List Record) (i k : ℕ) → r .equation ≤ i → run (equation (r ∷ rs)) i k ≡ run (equation rs) i k
-unfolding run
-run-others r rs i zero h = refl
-run-others r rs i (suc k) h = rw (equation-other r rs i (λ e. omega arith), run-others r rs (suc i) k (omega arith))
-
+-- ---- a coefficient as a sum over the records, in their order, for any kind: h makes the records' monomials that kind's
 cond-sum : (b : Bool) (x y : ℤ) → cond b (x +ℤ y) y ≡ cond b x (pos 0) +ℤ y
 cond-sum true x y = refl
 cond-sum false x y = sym (+ℤ-idl y)
 
-contribution-own : (r : Record) (z m : Mono) (i e : ℕ) → r .equation ≡ suc i → getD z i 0 ≡ suc e
-    → contribution r z m ≡ cond (same (mul (set z i e) (r .monomial)) m) (pos (suc e) *ℤ r .coefficient) (pos 0)
-unfolding contribution
-contribution-own r z m i e h k =
-    let j : r .equation - 1 ≡ i = omega arith in
-    let l : suc e - 1 ≡ e = omega arith in
-    rw (j, k, l, lt-ltb 0 (suc e) (omega arith))
+module _ {M : Type 0} (k : Kind M) (o : Order (k .same) (k .before)) (h : Mono → M) where
+  -- what a record adds to the coefficient of m
+  unfoldable pub adds : Record → M → M → ℤ
+  adds r z m = cond (k .same (k .mul (k .over z (r .equation - 1)) (h (r .monomial))) m) (k .power z (r .equation - 1) *ℤ r .coefficient) (pos 0)
 
-part-more : (r : Record) (f : Poly Mono) (z m : Mono) (i e : ℕ) → r .equation ≡ suc i → getD z i 0 ≡ e
-    → coeff plain (part e i z ((r .coefficient, r .monomial) ∷ f)) m ≡ contribution r z m +ℤ coeff plain (part e i z f) m
-unfolding coeff times
-part-more r f z m i zero h k =
-    let j : r .equation - 1 ≡ i = omega arith in
-    rw (contribution-flat r z m (rw (j, k)))
-part-more r f z m i (suc e) h k =
-    rw (contribution-own r z m i e h k)
-    (cond-sum (same (mul (set z i e) (r .monomial)) m) (pos (suc e) *ℤ r .coefficient) (coeff plain (part (suc e) i z f) m))
+  unfoldable pub addedUp : List Record → M → M → ℤ
+  addedUp [] z m = pos 0
+  addedUp (r ∷ rs) z m = adds r z m +ℤ addedUp rs z m
 
--- a number more in one of two summands
-more-first : (p q r : Poly Mono) (m : Mono) (c : ℤ) → coeff plain p m ≡ c +ℤ coeff plain q m → coeff plain (p ++ r) m ≡ c +ℤ coeff plain (q ++ r) m
-more-first p q r m c e =
-    coeff-append plain mono-order p r m ∙ ap (λ (y : ℤ). y +ℤ coeff plain r m) e ∙ +ℤ-assoc c (coeff plain q m) (coeff plain r m)
-    ∙ ap (λ (y : ℤ). c +ℤ y) (sym (coeff-append plain mono-order q r m))
+  -- the three ways of a record: its variable is not in z, its image is m, its image is another
+  pub adds-flat : (r : Record) (z m : M) → k .power z (r .equation - 1) ≡ pos 0 → adds r z m ≡ pos 0
+  unfolding adds
+  adds-flat r z m e = rw (e, zero-*ℤ (r .coefficient)) (neither (k .same (k .mul (k .over z (r .equation - 1)) (h (r .monomial))) m))
+    where
+      neither : (b : Bool) → cond b (pos 0) (pos 0) ≡ pos 0
+      neither true = refl
+      neither false = refl
 
-more-second : (p q r : Poly Mono) (m : Mono) (c : ℤ) → coeff plain q m ≡ c +ℤ coeff plain r m → coeff plain (p ++ q) m ≡ c +ℤ coeff plain (p ++ r) m
-more-second p q r m c e =
-    coeff-append plain mono-order p q m ∙ ap (λ (y : ℤ). coeff plain p m +ℤ y) e ∙ +ℤ-left-comm (coeff plain p m) c (coeff plain r m)
-    ∙ ap (λ (y : ℤ). c +ℤ y) (sym (coeff-append plain mono-order p r m))
+  pub adds-hit : (r : Record) (z m : M) → k .same (k .mul (k .over z (r .equation - 1)) (h (r .monomial))) m ≡ true
+      → adds r z m ≡ k .power z (r .equation - 1) *ℤ r .coefficient
+  unfolding adds
+  adds-hit r z m e = rw e
 
-parts-more : (r : Record) (rs : List Record) (z m : Mono) (i k : ℕ) → i < r .equation → r .equation ≤ i + k
-    → coeff plain (partsOf (r ∷ rs) z i k) m ≡ contribution r z m +ℤ coeff plain (partsOf rs z i k) m
-unfolding partsFrom run
-parts-more r rs z m i zero h l = let o : ⊥ = omega arith in absurd o
-parts-more r rs z m i (suc k) h l = go (test (eqb (r .equation) (suc i))) (λ g. parts-more r rs z m (suc i) k g (omega arith))
-  where
-    go : Tested (eqb (r .equation) (suc i))
-        → (suc i < r .equation → coeff plain (partsOf (r ∷ rs) z (suc i) k) m ≡ contribution r z m +ℤ coeff plain (partsOf rs z (suc i) k) m)
-        → coeff plain (partsOf (r ∷ rs) z i (suc k)) m ≡ contribution r z m +ℤ coeff plain (partsOf rs z i (suc k)) m
-    go (passed p) ih =
-        let e : r .equation ≡ suc i = eqb-true (r .equation) (suc i) p in
-        rw (equation-own r rs i e, run-others r rs (suc i) k (omega arith))
-        (more-first (part (getD z i 0) i z ((r .coefficient, r .monomial) ∷ equation rs i)) (part (getD z i 0) i z (equation rs i)) (partsOf rs z (suc i) k) m
-        (contribution r z m) (part-more r (equation rs i) z m i (getD z i 0) e refl))
-    go (failed p) ih =
-        let n : r .equation ≡ suc i → ⊥ = eqb-false (r .equation) (suc i) p in
-        rw (equation-other r rs i n)
-        (more-second (part (getD z i 0) i z (equation rs i)) (partsOf (r ∷ rs) z (suc i) k) (partsOf rs z (suc i) k) m (contribution r z m) (ih (omega arith)))
+  pub adds-miss : (r : Record) (z m : M) → k .same (k .mul (k .over z (r .equation - 1)) (h (r .monomial))) m ≡ false → adds r z m ≡ pos 0
+  unfolding adds
+  adds-miss r z m e = rw e
 
-part-none : (e i : ℕ) (z : Mono) → part e i z [] ≡ []
-unfolding times
-part-none zero i z = refl
-part-none (suc e) i z = refl
+  -- the sum goes on by one record
+  added-append : (rs qs : List Record) (z m : M) → addedUp (rs ++ qs) z m ≡ addedUp rs z m +ℤ addedUp qs z m
+  unfolding addedUp
+  added-append [] qs z m = sym (+ℤ-idl (addedUp qs z m))
+  added-append (r ∷ rs) qs z m =
+      ap (λ (y : ℤ). adds r z m +ℤ y) (added-append rs qs z m) ∙ sym (+ℤ-assoc (adds r z m) (addedUp rs z m) (addedUp qs z m))
 
-parts-none : (z : Mono) (i k : ℕ) → partsOf [] z i k ≡ []
-unfolding partsFrom run equation keep
-parts-none z i zero = refl
-parts-none z i (suc k) = rw (part-none (getD z i 0) i z) (parts-none z (suc i) k)
+  pub added-next : (rs : List Record) (t : ℕ) (d : Record) (z m : M) → t < length rs
+      → addedUp (take (t + 1) rs) z m ≡ addedUp (take t rs) z m +ℤ adds (getD rs t d) z m
+  unfolding addedUp
+  added-next rs t d z m b =
+      rw (add-one t, take-suc rs t d b)
+      (added-append (take t rs) (getD rs t d ∷ []) z m ∙ ap (λ (y : ℤ). addedUp (take t rs) z m +ℤ y) (+ℤ-idr (adds (getD rs t d) z m)))
 
--- the records may be gone through in their own order: what they add is the coefficient
+  -- ---- one record more
+  -- equation number i with its monomials of this kind, and the summands of the variables i, i + 1, .., n of them
+  abbrev read : List Record → ℕ → Poly M
+  read rs i = carry h (equation rs i)
+
+  abbrev parts : List Record → M → ℕ → ℕ → Poly M
+  parts rs z i n = partsFrom k i z (run (read rs) i n)
+
+  run-others : (r : Record) (rs : List Record) (i n : ℕ) → r .equation ≤ i → run (read (r ∷ rs)) i n ≡ run (read rs) i n
+  unfolding run
+  run-others r rs i zero b = refl
+  run-others r rs i (suc n) b = rw (equation-other r rs i (λ e. omega arith), run-others r rs (suc i) n (omega arith))
+
+  part-more : (r : Record) (f : Poly M) (z m : M) (i : ℕ) → r .equation ≡ suc i
+      → coeff k (part k i z ((r .coefficient, h (r .monomial)) ∷ f)) m ≡ adds r z m +ℤ coeff k (part k i z f) m
+  unfolding coeff times adds
+  part-more r f z m i b = go (parted k i z f)
+    where
+      g : Poly M
+      g = (r .coefficient, h (r .monomial)) ∷ f
+
+      j : r .equation - 1 ≡ i
+      j = omega arith
+
+      go : Parted k i z f → coeff k (part k i z g) m ≡ adds r z m +ℤ coeff k (part k i z f) m
+      go (absent e p) = rw (part-flat k i z g e, p, adds-flat r z m (ap (k .power z) j ∙ e))
+      go (present n p) =
+          rw (part-raised k i z g n, p, j)
+          (cond-sum (k .same (k .mul (k .over z i) (h (r .monomial))) m) (k .power z i *ℤ r .coefficient) (coeff k (times k (k .power z i) (k .over z i) f) m))
+
+  -- a number more in one of two summands
+  more-first : (p q r : Poly M) (m : M) (c : ℤ) → coeff k p m ≡ c +ℤ coeff k q m → coeff k (p ++ r) m ≡ c +ℤ coeff k (q ++ r) m
+  more-first p q r m c e =
+      coeff-append k o p r m ∙ ap (λ (y : ℤ). y +ℤ coeff k r m) e ∙ +ℤ-assoc c (coeff k q m) (coeff k r m)
+      ∙ ap (λ (y : ℤ). c +ℤ y) (sym (coeff-append k o q r m))
+
+  more-second : (p q r : Poly M) (m : M) (c : ℤ) → coeff k q m ≡ c +ℤ coeff k r m → coeff k (p ++ q) m ≡ c +ℤ coeff k (p ++ r) m
+  more-second p q r m c e =
+      coeff-append k o p q m ∙ ap (λ (y : ℤ). coeff k p m +ℤ y) e ∙ +ℤ-left-comm (coeff k p m) c (coeff k r m)
+      ∙ ap (λ (y : ℤ). c +ℤ y) (sym (coeff-append k o p r m))
+
+  parts-more : (r : Record) (rs : List Record) (z m : M) (i n : ℕ) → i < r .equation → r .equation ≤ i + n
+      → coeff k (parts (r ∷ rs) z i n) m ≡ adds r z m +ℤ coeff k (parts rs z i n) m
+  unfolding partsFrom run
+  parts-more r rs z m i zero a b = let x : ⊥ = omega arith in absurd x
+  parts-more r rs z m i (suc n) a b = go (test (eqb (r .equation) (suc i))) (λ g. parts-more r rs z m (suc i) n g (omega arith))
+    where
+      go : Tested (eqb (r .equation) (suc i))
+          → (suc i < r .equation → coeff k (parts (r ∷ rs) z (suc i) n) m ≡ adds r z m +ℤ coeff k (parts rs z (suc i) n) m)
+          → coeff k (parts (r ∷ rs) z i (suc n)) m ≡ adds r z m +ℤ coeff k (parts rs z i (suc n)) m
+      go (passed p) ih =
+          let e : r .equation ≡ suc i = eqb-true (r .equation) (suc i) p in
+          rw (equation-own r rs i e, run-others r rs (suc i) n (omega arith))
+          (more-first (part k i z ((r .coefficient, h (r .monomial)) ∷ read rs i)) (part k i z (read rs i)) (parts rs z (suc i) n) m
+          (adds r z m) (part-more r (read rs i) z m i e))
+      go (failed p) ih =
+          let d : r .equation ≡ suc i → ⊥ = eqb-false (r .equation) (suc i) p in
+          rw (equation-other r rs i d)
+          (more-second (part k i z (read rs i)) (parts (r ∷ rs) z (suc i) n) (parts rs z (suc i) n) m (adds r z m) (ih (omega arith)))
+
+  part-none : (i : ℕ) (z : M) → part k i z [] ≡ []
+  unfolding times
+  part-none i z = go (parted k i z [])
+    where
+      go : Parted k i z [] → part k i z [] ≡ []
+      go (absent e p) = p
+      go (present n p) = p
+
+  parts-none : (z : M) (i n : ℕ) → parts [] z i n ≡ []
+  unfolding partsFrom run equation keep
+  parts-none z i zero = refl
+  parts-none z i (suc n) = rw (part-none i z) (parts-none z (suc i) n)
+
+  -- the records may be gone through in their own order: what they add is the coefficient
+  pub adds-up : (rs : List Record) (z m : M) → ((r : Record) → r ∈ rs → (1 ≤ r .equation) × (r .equation ≤ 6))
+      → addedUp rs z m ≡ coeff k (derivative k (map (carry h) (system rs)) z) m
+  unfolding addedUp coeff derivative system
+  adds-up rs z m b = go rs b ∙ sym (ap (λ (fs : List (Poly M)). coeff k (partsFrom k 0 z fs) m) (map-map (carry h) (equation rs) (below 6) ∙ run-below (read rs) 6))
+    where
+      go : (qs : List Record) → ((r : Record) → r ∈ qs → (1 ≤ r .equation) × (r .equation ≤ 6)) → addedUp qs z m ≡ coeff k (parts qs z 0 6) m
+      go [] b = rw (parts-none z 0 6)
+      go (r ∷ qs) b =
+          ap (λ (y : ℤ). adds r z m +ℤ y) (go qs (λ q n. b q (there n)))
+          ∙ sym (parts-more r qs z m 0 6 (b r here .0) (let high : r .equation ≤ 6 = b r here .1 in omega arith))
+
+-- ---- of plain monomials
+abbrev pub contribution : Record → Mono → Mono → ℤ
+contribution = adds plain mono-order (λ m. m)
+
+abbrev pub summed : List Record → Mono → Mono → ℤ
+summed = addedUp plain mono-order (λ m. m)
+
+carry-same : (fs : List (Poly Mono)) → map (carry (λ m. m)) fs ≡ fs
+carry-same [] = refl
+carry-same (f ∷ fs) = ap₂ _∷_ (map-id f) (carry-same fs)
+
 pub exchange : (rs : List Record) (z m : Mono) → ((r : Record) → r ∈ rs → (1 ≤ r .equation) × (r .equation ≤ 6))
-    → summed rs z m ≡ coeff plain (derivative (system rs) z) m
-unfolding summed coeff
-exchange rs z m h = go rs h ∙ sym (ap (λ (p : Poly Mono). coeff plain p m) (system-runs rs z))
-  where
-    go : (qs : List Record) → ((r : Record) → r ∈ qs → (1 ≤ r .equation) × (r .equation ≤ 6)) → summed qs z m ≡ coeff plain (partsOf qs z 0 6) m
-    go [] h = rw (parts-none z 0 6)
-    go (r ∷ qs) h =
-        ap (λ (y : ℤ). contribution r z m +ℤ y) (go qs (λ q k. h q (there k)))
-        ∙ sym (parts-more r qs z m 0 6 (h r here .0) (let high : r .equation ≤ 6 = h r here .1 in omega arith))
+    → summed rs z m ≡ coeff plain (derivative plain (system rs) z) m
+exchange rs z m b = adds-up plain mono-order (λ m. m) rs z m b ∙ ap (λ (fs : List (Poly Mono)). coeff plain (derivative plain fs z) m) (carry-same (system rs))

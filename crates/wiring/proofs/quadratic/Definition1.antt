@@ -20,6 +20,7 @@ use Rattle.wiring.specs.Derivative.{derivative}
 use Rattle.wiring.specs.Signals.{signals}
 use Rattle.wiring.specs.Quadratic.{Product, multiplied, inV2, unmet, nonsquares, Linked, Quadratic}
 use Rattle.wiring.proofs.Poly.{coeff-listed, support-out, graph, graph-support}
+use Rattle.wiring.proofs.kinds.Plain.{plain-lawful}
 use Rattle.wiring.proofs.derivative.Rules.{one-rule}
 use Rattle.wiring.proofs.quadratic.Laws.{Factors, inV2-in, inV2-out, unmet-in, unmet-out, nonsquares-in, nonsquares-out, Nonsquare, some-nonsquares}
 
@@ -149,10 +150,10 @@ module _ {M : Type 0} (k : Kind M) (o : Order (k .same) (k .before)) (v : List M
 
 -- signal number 0 is 1, whose derivative is zero: the first that fails is a variable or a new monomial
 pub first-unlinked-raised : (w n : ℕ) (fs : List (Poly Mono)) (s : List Mono) (i : ℕ)
-    → FirstUnlinked plain mono-order (signals w n s) (derivative fs) [] i → 1 ≤ i
+    → FirstUnlinked plain mono-order (signals w n s) (derivative plain fs) [] i → 1 ≤ i
 unfolding signals multiplied
 first-unlinked-raised w n fs s (suc i) f = omega arith
 first-unlinked-raised w n fs s zero f = absurd (f .unlinked (record { list = []; members = λ q h. absurd (List·Memᴰ·not-nil h); equal = nothing }))
   where
-    nothing : Same plain (multiplied plain (signals w n s) []) (derivative fs (one w))
-    nothing m = ap (λ (p : Poly Mono). coeff plain p m) (sym (one-rule w fs))
+    nothing : Same plain (multiplied plain (signals w n s) []) (derivative plain fs (one w))
+    nothing m = ap (λ (p : Poly Mono). coeff plain p m) (sym (one-rule plain plain-lawful w fs))

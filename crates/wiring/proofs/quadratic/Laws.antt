@@ -5,16 +5,13 @@ use mathlib.Core.Bool.{Bool, not}
 use mathlib.Core.List.{List, [], _∷_, map, List·Memᴰ·cases-cons, List·Memᴰ·not-nil, List·Memᴰ·append-cases, Memᴰ·append-left, Memᴰ·append-right, Memᴰ·cast, Memᴰ·map, Memᴰ·of-map}
 use lib.Dec.{T, T-not, not-T}
 use Rattle.monomial.specs.Lists.{any, some, gather}
-use Rattle.monomial.specs.Monomial.{Mono}
-use Rattle.monomial.specs.Order.{same}
-use Rattle.monomial.specs.Product.{mul}
 use Rattle.monomial.proofs.Tests.{same-test}
 use Rattle.monomial.proofs.Members.{_∈_, here, there, any-in, any-out, Passing, some-in, some-out, keep-in, keep-out, gather-in, gather-out, Gathered}
-use Rattle.monomial.proofs.order.Laws.{Order, mono-order}
+use Rattle.monomial.proofs.order.Laws.{Order}
 use Rattle.monomial.proofs.order.Ascending.{Ascending, arrange-asc, arrange-in, arrange-out, among-in, among-out}
-use Rattle.monomial.proofs.product.Laws.{mul-comm}
-use Rattle.wiring.specs.Poly.{Kind, Poly, plain, support}
+use Rattle.wiring.specs.Poly.{Kind, Poly, support}
 use Rattle.wiring.specs.Quadratic.{products, factor, inV2, unmet, nonsquares}
+use Rattle.wiring.proofs.kinds.Laws.{Lawful}
 
 module _ {M : Type 0} (k : Kind M) (o : Order (k .same) (k .before)) (v : List M) where
   -- ---- V2
@@ -87,40 +84,41 @@ module _ {M : Type 0} (k : Kind M) (o : Order (k .same) (k .before)) (v : List M
           some-in (nonsquares-in d (p .entry) (x .0) (p .member) (x .1))
 
 -- ---- the table
--- a product of two members is listed under the one that comes first, since products commute
-products-in : (v : List Mono) (a b : Mono) → a ∈ v → b ∈ v → mul a b ∈ products plain v
-unfolding products
-products-in [] a b h n = absurd (List·Memᴰ·not-nil h)
-products-in (x ∷ v) a b h n =
-    ⊎-elim
-    (λ e. Memᴰ·append-left (products plain v) (subst (λ (y : Mono). mul y b ∈ map (mul x) (x ∷ v)) (sym e) (Memᴰ·map (mul x) n)))
-    (λ i. ⊎-elim (λ e. Memᴰ·append-left (products plain v) (second e)) (λ j. Memᴰ·append-right (map (mul x) (x ∷ v)) (products-in v a b i j)) (List·Memᴰ·cases-cons n))
-    (List·Memᴰ·cases-cons h)
-  where
-    second : b ≡ x → mul a b ∈ map (mul x) (x ∷ v)
-    second e = Memᴰ·cast (mul-comm a b ∙ ap (λ (y : Mono). mul y a) e) (Memᴰ·map (mul x) h)
+module _ {M : Type 0} (k : Kind M) (l : Lawful k) where
+  -- a product of two members is listed under the one that comes first, since products commute
+  products-in : (v : List M) (a b : M) → a ∈ v → b ∈ v → k .mul a b ∈ products k v
+  unfolding products
+  products-in [] a b h n = absurd (List·Memᴰ·not-nil h)
+  products-in (x ∷ v) a b h n =
+      ⊎-elim
+      (λ e. Memᴰ·append-left (products k v) (subst (λ (y : M). k .mul y b ∈ map (k .mul x) (x ∷ v)) (sym e) (Memᴰ·map (k .mul x) n)))
+      (λ i. ⊎-elim (λ e. Memᴰ·append-left (products k v) (second e)) (λ j. Memᴰ·append-right (map (k .mul x) (x ∷ v)) (products-in v a b i j)) (List·Memᴰ·cases-cons n))
+      (List·Memᴰ·cases-cons h)
+    where
+      second : b ≡ x → k .mul a b ∈ map (k .mul x) (x ∷ v)
+      second e = Memᴰ·cast (l .mul-comm a b ∙ ap (λ (y : M). k .mul y a) e) (Memᴰ·map (k .mul x) h)
 
-products-out : (v : List Mono) (m : Mono) → m ∈ products plain v → Factors plain mono-order v m
-unfolding products
-products-out [] m h = absurd (List·Memᴰ·not-nil h)
-products-out (x ∷ v) m h = ⊎-elim own (λ i. later (products-out v m i)) (List·Memᴰ·append-cases (map (mul x) (x ∷ v)) h)
-  where
-    own : m ∈ map (mul x) (x ∷ v) → Factors plain mono-order (x ∷ v) m
-    own i =
-        let p : (y : Mono) × (y ∈ (x ∷ v)) × (mul x y ≡ m) = Memᴰ·of-map (mul x) (x ∷ v) i in
-        record { a = x; b = p .0; a-in = here; b-in = p .1; is = p .2 }
+  products-out : (v : List M) (m : M) → m ∈ products k v → Factors k (l .order) v m
+  unfolding products
+  products-out [] m h = absurd (List·Memᴰ·not-nil h)
+  products-out (x ∷ v) m h = ⊎-elim own (λ i. later (products-out v m i)) (List·Memᴰ·append-cases (map (k .mul x) (x ∷ v)) h)
+    where
+      own : m ∈ map (k .mul x) (x ∷ v) → Factors k (l .order) (x ∷ v) m
+      own i =
+          let p : (y : M) × (y ∈ (x ∷ v)) × (k .mul x y ≡ m) = Memᴰ·of-map (k .mul x) (x ∷ v) i in
+          record { a = x; b = p .0; a-in = here; b-in = p .1; is = p .2 }
 
-    later : Factors plain mono-order v m → Factors plain mono-order (x ∷ v) m
-    later f = record { a = f .a; b = f .b; a-in = there (f .a-in); b-in = there (f .b-in); is = f .is }
+      later : Factors k (l .order) v m → Factors k (l .order) (x ∷ v) m
+      later f = record { a = f .a; b = f .b; a-in = there (f .a-in); b-in = there (f .b-in); is = f .is }
 
--- it holds V2
-pub products-is : (v : List Mono) (m : Mono) → any (same m) (products plain v) ≡ inV2 plain v m
-products-is v m = same-test (any (same m) (products plain v)) (inV2 plain v m) into out
-  where
-    into : T (any (same m) (products plain v)) → T (inV2 plain v m)
-    into t = inV2-in plain mono-order v m (products-out v m (among-out mono-order m (products plain v) t))
+  -- it holds V2
+  pub products-is : (v : List M) (m : M) → any (k .same m) (products k v) ≡ inV2 k v m
+  products-is v m = same-test (any (k .same m) (products k v)) (inV2 k v m) into out
+    where
+      into : T (any (k .same m) (products k v)) → T (inV2 k v m)
+      into t = inV2-in k (l .order) v m (products-out v m (among-out (l .order) m (products k v) t))
 
-    out : T (inV2 plain v m) → T (any (same m) (products plain v))
-    out t =
-        let f : Factors plain mono-order v m = inV2-out plain mono-order v m t in
-        among-in mono-order (subst (λ (x : Mono). x ∈ products plain v) (f .is) (products-in v (f .a) (f .b) (f .a-in) (f .b-in)))
+      out : T (inV2 k v m) → T (any (k .same m) (products k v))
+      out t =
+          let f : Factors k (l .order) v m = inV2-out k (l .order) v m t in
+          among-in (l .order) (subst (λ (x : M). x ∈ products k v) (f .is) (products-in v (f .a) (f .b) (f .a-in) (f .b-in)))

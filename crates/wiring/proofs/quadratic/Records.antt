@@ -30,6 +30,7 @@ use Rattle.wiring.proofs.derivative.Records.{Derived, derived}
 use Rattle.wiring.proofs.choice.Laws.{best-members, cheap-order, picked, heads}
 use Rattle.wiring.specs.Quadratic.{products, inV2, unmet, nonsquares}
 use Rattle.wiring.proofs.terms.Laws.{records-at}
+use Rattle.wiring.proofs.kinds.Plain.{plain-lawful}
 use Rattle.wiring.proofs.quadratic.Laws.{products-is, nonsquares-in, nonsquares-out}
 
 -- ---- a record's turn, by the tests of the code: the power x, the monomial m, the test's word b, whether the total is zero
@@ -47,11 +48,11 @@ module _ (f : Mono → Bool) (fs : List (Poly Mono)) (z : Mono) (r : Record) whe
     unfolding offers
     offered-fails q p e = none-offered q e (rw (le-leb 1 (power r z) (omega arith), ← em, p))
 
-    pub offered-zero : (q : Pick) → f m ≡ true → isZero (coeff plain (derivative fs z) m) ≡ true → q .some ≡ false → Offered (offers f fs z r) (image r z) q
+    pub offered-zero : (q : Pick) → f m ≡ true → isZero (coeff plain (derivative plain fs z) m) ≡ true → q .some ≡ false → Offered (offers f fs z r) (image r z) q
     unfolding offers
     offered-zero q p t e = none-offered q e (rw (le-leb 1 (power r z) (omega arith), ← em, p, t))
 
-    pub offered-here : (q : Pick) → f m ≡ true → isZero (coeff plain (derivative fs z) m) ≡ false → q .some ≡ true → q .m .e ≡ m → Offered (offers f fs z r) (image r z) q
+    pub offered-here : (q : Pick) → f m ≡ true → isZero (coeff plain (derivative plain fs z) m) ≡ false → q .some ≡ true → q .m .e ≡ m → Offered (offers f fs z r) (image r z) q
     unfolding offers
     offered-here q p t e qm = record { told = e ∙ sym (rw (le-leb 1 (power r z) (omega arith), ← em, p, t)); is = λ s. qm ∙ em }
 
@@ -64,10 +65,10 @@ keep-alike f g (x ∷ l) h = rw (h x, keep-alike f g l h)
 module _ (f : Mono → Bool) (rs : List Record) (z : Mono) where
   -- the monomials of the derivative that pass
   abbrev pub passing : List Mono
-  passing = keep f (support plain (derivative (system rs) z))
+  passing = keep f (support plain (derivative plain (system rs) z))
 
   abbrev total : Mono → Bool
-  total m = isZero (coeff plain (derivative (system rs) z) m)
+  total m = isZero (coeff plain (derivative plain (system rs) z) m)
 
   pub offers-in : (r : Record) → 0 < power r z → T (f (image r z)) → (T (total (image r z)) → ⊥) → T (offers f (system rs) z r)
   unfolding offers
@@ -82,8 +83,8 @@ module _ (f : Mono → Bool) (rs : List Record) (z : Mono) where
       let m = image r z in
       let front : T (leb 1 (power r z) && f m) = and-l (leb 1 (power r z) && f m) (not (total m)) t in
       let not-zero : T (not (total m)) = and-r (leb 1 (power r z) && f m) (not (total m)) t in
-      let some-total : coeff plain (derivative (system rs) z) m ≡ pos 0 → ⊥ = λ e. T-not (total m) not-zero (subst (λ c. T (isZero c)) (sym e) tt) in
-      keep-in f (support plain (derivative (system rs) z)) (support-in plain mono-order (derivative (system rs) z) m some-total) (and-r (leb 1 (power r z)) (f m) front)
+      let some-total : coeff plain (derivative plain (system rs) z) m ≡ pos 0 → ⊥ = λ e. T-not (total m) not-zero (subst (λ c. T (isZero c)) (sym e) tt) in
+      keep-in f (support plain (derivative plain (system rs) z)) (support-in plain mono-order (derivative plain (system rs) z) m some-total) (and-r (leb 1 (power r z)) (f m) front)
 
   -- and each of them is given by one
   pub record Offering (m : Mono) : Type 0 where
@@ -94,11 +95,11 @@ module _ (f : Mono → Bool) (rs : List Record) (z : Mono) where
 
   pub offered-out : (m : Mono) → m ∈ passing → Offering m
   offered-out m h =
-      let k = keep-out f (support plain (derivative (system rs) z)) h in
-      let s = support-out plain mono-order (derivative (system rs) z) m (k .0) in
+      let k = keep-out f (support plain (derivative plain (system rs) z)) h in
+      let s = support-out plain mono-order (derivative plain (system rs) z) m (k .0) in
       let d : Derived rs z m = derived rs z m (s .0) in
       let passes : T (f (image (d .by) z)) = subst (λ (x : Mono). T (f x)) (sym (d .is)) (k .1) in
-      let some-total : T (total (image (d .by) z)) → ⊥ = λ t. s .1 (zero-is (coeff plain (derivative (system rs) z) m) (subst (λ (x : Mono). T (total x)) (d .is) t)) in
+      let some-total : T (total (image (d .by) z)) → ⊥ = λ t. s .1 (zero-is (coeff plain (derivative plain (system rs) z) m) (subst (λ (x : Mono). T (total x)) (d .is) t)) in
       record { by = d .by; listed = d .listed; offered = offers-in (d .by) (d .raised) passes some-total; is = d .is }
 
   -- some record offers exactly when some monomial passes
@@ -199,7 +200,7 @@ module _ (f : Mono → Bool) (rs : List Record) (z : Mono) where
 pub meeting-heads : (f : Mono → Bool) (rs : List Record) (z : Mono) (p : Pick) (t : ℕ) (best : Pick) → p .some ≡ false → Meeting f rs z mono-order p t best → length rs ≤ t
     → Heads (passing f rs z) best
 meeting-heads f rs z p t best e m h =
-    heads (passing f rs z) (passing f rs z) best (keep-asc f (support plain (derivative (system rs) z)) (support-asc plain mono-order (derivative (system rs) z)))
+    heads (passing f rs z) (passing f rs z) best (keep-asc f (support plain (derivative plain (system rs) z)) (support-asc plain mono-order (derivative plain (system rs) z)))
     (λ y k. k) (λ y k. k)
     (subst (λ (l : List Mono). Best before l best) (append-nil (passing f rs z)) (meeting-ends f rs z mono-order p t best m h [] none))
   where
@@ -214,13 +215,13 @@ at-record f bytes t h = ap f (records-at bytes t (recordAt bytes t) h)
 abbrev pub outside : List Mono → Mono → Bool
 outside l m = not (any (same m) l)
 
-pub passing-unmet : (l v : List Mono) (rs : List Record) (z : Mono) → l ≡ products plain v → passing (outside l) rs z ≡ unmet plain v (derivative (system rs) z)
+pub passing-unmet : (l v : List Mono) (rs : List Record) (z : Mono) → l ≡ products plain v → passing (outside l) rs z ≡ unmet plain v (derivative plain (system rs) z)
 unfolding unmet
 passing-unmet l v rs z e =
-    keep-alike (outside l) (λ m. not (inV2 plain v m)) (support plain (derivative (system rs) z)) (λ m. ap (λ (t : List Mono). not (any (same m) t)) e ∙ ap not (products-is v m))
+    keep-alike (outside l) (λ m. not (inV2 plain v m)) (support plain (derivative plain (system rs) z)) (λ m. ap (λ (t : List Mono). not (any (same m) t)) e ∙ ap not (products-is plain plain-lawful v m))
 
 pub found-unmet : (l v : List Mono) (rs : List Record) (z : Mono) → l ≡ products plain v
-    → any (offers (outside l) (system rs) z) rs ≡ some (unmet plain v (derivative (system rs) z))
+    → any (offers (outside l) (system rs) z) rs ≡ some (unmet plain v (derivative plain (system rs) z))
 found-unmet l v rs z e = offers-some (outside l) rs z ∙ ap some (passing-unmet l v rs z e)
 
 -- ---- the bests of the signals, one after the other, are the best of all nonsquares

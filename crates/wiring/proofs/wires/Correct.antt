@@ -8,23 +8,23 @@ use lib.IntN.{natAbs}
 use lib.ListN.{length, getD, take, drop, replicate}
 use lib.Seq.{take-at, drop-append-add, getD-append-add}
 use Rattle.monomial.specs.Lists.{gather, below}
-use Rattle.monomial.specs.Monomial.{Mono}
 use Rattle.monomial.specs.Product.{AtMost}
 use Rattle.monomial.proofs.Members.{_∈_, here, there}
 use Rattle.monomial.proofs.Counting.{below-out}
 use Rattle.monomial.proofs.product.Laws.{atMost-at}
 use Rattle.wiring.specs.Coefficient.{word, signed}
-use Rattle.wiring.specs.Poly.{Poly}
-use Rattle.wiring.specs.Wires.{Wire, row, wiring, wireRecord, wireList, Met}
+use Rattle.wiring.specs.Poly.{Kind, Poly}
+use Rattle.wiring.specs.Wires.{Wire, signal, row, wiring, wireRecord, wireList, Met}
 use Rattle.wiring.proofs.coefficient.Laws.{decode-bytes}
-use Rattle.wiring.proofs.derivative.Rules.{one-zero}
+use Rattle.wiring.proofs.kinds.Laws.{Lawful}
+use Rattle.wiring.proofs.kinds.Plain.{one-zero}
 use Rattle.wiring.proofs.wires.Laws.{Row, rowOf, wiring-rows, wiring-row, wiring-is, row-one}
 use Rattle.wiring.proofs.wires.Sheets.{record-length, list-length}
 
 -- ---- the list
 -- the records of each left variable are its derivative, and the list is these rows by ascending left variable
-pub record Correct (v : List Mono) (d : Mono → Poly Mono) (list : List Wire) : Type 0 where
-  pub rows : (i : ℕ) → i < length v → Row v i (d (getD v i [])) (rowOf i list)
+pub record Correct {M : Type 0} (k : Kind M) (v : List M) (d : M → Poly M) (list : List Wire) : Type 0 where
+  pub rows : (i : ℕ) → i < length v → Row k v i (d (signal k v i)) (rowOf i list)
   pub ordered : list ≡ gather (λ i. rowOf i list) (below (length v))
 
 gather-alike : (f g : ℕ → List Wire) (l : List ℕ) → ((i : ℕ) → i ∈ l → f i ≡ g i) → gather f l ≡ gather g l
@@ -32,19 +32,19 @@ unfolding gather
 gather-alike f g [] h = refl
 gather-alike f g (i ∷ l) h = ap₂ _++_ (h i here) (gather-alike f g l (λ j k. h j (there k)))
 
-module _ (v : List Mono) (d : Mono → Poly Mono) where
+module _ {M : Type 0} (k : Kind M) (v : List M) (d : M → Poly M) where
   abbrev own : ℕ → List Wire
-  own i = row v i (d (getD v i []))
+  own i = row k v i (d (signal k v i))
 
   -- the rows of any list that are the rows of the wiring list make that list
-  rows-alike : (l : List Wire) → ((i : ℕ) → i < length v → rowOf i l ≡ own i) → gather (λ i. rowOf i l) (below (length v)) ≡ wiring v d
-  rows-alike l h = gather-alike (λ i. rowOf i l) own (below (length v)) (λ i k. h i (below-out (length v) i k)) ∙ sym (wiring-rows v d)
+  rows-alike : (l : List Wire) → ((i : ℕ) → i < length v → rowOf i l ≡ own i) → gather (λ i. rowOf i l) (below (length v)) ≡ wiring k v d
+  rows-alike l h = gather-alike (λ i. rowOf i l) own (below (length v)) (λ i k. h i (below-out (length v) i k)) ∙ sym (wiring-rows k v d)
 
-  pub wiring-correct : Met v d → Correct v d (wiring v d)
-  wiring-correct met = record { rows = wiring-is v d met; ordered = sym (rows-alike (wiring v d) (wiring-row v d)) }
+  pub wiring-correct : Lawful k → Met k v d → Correct k v d (wiring k v d)
+  wiring-correct law met = record { rows = wiring-is k v d law met; ordered = sym (rows-alike (wiring k v d) (wiring-row k v d)) }
 
-  pub correct-one : (l : List Wire) → Correct v d l → l ≡ wiring v d
-  correct-one l c = c .ordered ∙ rows-alike l (λ i h. row-one v i (d (getD v i [])) (rowOf i l) (c .rows i h))
+  pub correct-one : Lawful k → (l : List Wire) → Correct k v d l → l ≡ wiring k v d
+  correct-one law l c = c .ordered ∙ rows-alike l (λ i h. row-one k law v i (d (signal k v i)) (rowOf i l) (c .rows i h))
 
 -- ---- the bytes of a record
 pub record Decodes (x : Wire) (bytes : List ℕ) : Type 0 where

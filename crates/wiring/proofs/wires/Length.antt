@@ -2,13 +2,13 @@
 use mathlib.Core.Path.{_≡_, refl, sym, ap, _∙_}
 use mathlib.Core.Bool.{Bool, true, false, not, cond}
 use mathlib.Core.List.{List, [], _∷_, _++_, map}
-use Prim.Native.Nat.{ℕ, zero, suc, _+_, _*_, _<_, _≤_}
+use Prim.Native.Nat.{ℕ, zero, suc, _+_, _-_, _*_, _<_, _≤_}
 use native.Mathlib.Nat.{mul-le-mul-left, mul-le-mul-right, le-of-eq}
 use native.Mathlib.Omega.{arith}
 use borrow.Author.Tests.{eqb-true}
-use lib.Dec.{T, eqb, ltb, eqb→eq, ltb→lt, lt→ltb}
+use lib.Dec.{T, T-not, not-T, eqb, ltb, eqb→eq, ltb→lt}
 use lib.IntN.{pos, _*ℤ_}
-use lib.ListN.{length, getD, take, drop, set, length-map, length-append, take-append-drop}
+use lib.ListN.{length, getD, take, drop, length-map, length-append, take-append-drop}
 use Rattle.monomial.specs.Lists.{keep, arrangeBy, below}
 use Rattle.monomial.specs.Monomial.{Mono, one, vars, constants}
 use Rattle.monomial.specs.Order.{same, before}
@@ -19,127 +19,148 @@ use Rattle.monomial.proofs.Counting.{below-asc}
 use Rattle.monomial.proofs.order.Ascending.{Ascending, head-first, tail-asc, arrange-length}
 use Rattle.wiring.specs.Panel.{width, cards, mostTerms}
 use Rattle.wiring.specs.Coefficient.{isZero}
-use Rattle.wiring.specs.Poly.{Term, Poly, plain, coeff, monos, support, times}
+use Rattle.wiring.specs.Poly.{Kind, Term, Poly, plain, coeff, monos, support, times}
 use Rattle.wiring.specs.Derivative.{part, partsFrom, derivative}
+use Rattle.wiring.specs.Quadratic.{members}
 use Rattle.wiring.specs.Signals.{signals}
 use Rattle.wiring.specs.Terms.{Record, equation, system}
 use Rattle.wiring.specs.Wires.{Wire, row, rowsFrom, wiring}
-use Rattle.wiring.proofs.derivative.Rules.{one-zero}
+use Rattle.wiring.proofs.kinds.Plain.{one-zero}
+use Rattle.wiring.proofs.derivative.Rules.{Parted, absent, present, parted}
+use Rattle.wiring.proofs.Poly.{zero-is, is-zero}
 use Rattle.wiring.proofs.wires.Laws.{wire}
 
-row-length : (v : List Mono) (i : ℕ) (p : Poly Mono) → length (row v i p) ≤ length p
-unfolding row support
-row-length v i p =
-    let f : Mono → Bool = λ m. not (isZero (coeff plain p m)) in
-    let e : length (map (wire v i p) (support plain p)) ≡ length (support plain p) = length-map (support plain p) (wire v i p) in
-    let h : length (arrangeBy same before (keep f (monos p))) ≤ length (keep f (monos p)) = arrange-length same before (keep f (monos p)) in
-    let k : length (keep f (monos p)) ≤ length (monos p) = keep-length f (monos p) in
-    let l : length (monos p) ≡ length p = length-map p (λ (t : Term Mono). t .1) in
-    omega arith
-
--- the terms of a system, and of the derivatives of a list of monomials by its equations from number i on
-unfoldable pub termCount : List (Poly Mono) → ℕ
+-- the terms of a system
+unfoldable pub termCount : {M : Type 0} → List (Poly M) → ℕ
 termCount [] = 0
 termCount (f ∷ fs) = length f + termCount fs
 
-unfoldable lengths : List (Poly Mono) → ℕ → List Mono → ℕ
-lengths fs i [] = 0
-lengths fs i (z ∷ l) = length (partsFrom i z fs) + lengths fs i l
+-- z has variable number i in it, and those of a list that do: only they have terms from equation i
+abbrev raised : {M : Type 0} → Kind M → ℕ → M → Bool
+raised k i z = not (isZero (k .power z i))
 
-rows-length : (fs : List (Poly Mono)) (v : List Mono) (i : ℕ) (l : List Mono) → length (rowsFrom v (derivative fs) i l) ≤ lengths fs 0 l
-unfolding rowsFrom lengths derivative
-rows-length fs v i [] = omega arith
-rows-length fs v i (z ∷ l) =
-    let ih : length (rowsFrom v (derivative fs) (suc i) l) ≤ lengths fs 0 l = rows-length fs v (suc i) l in
-    let r : List Wire = row v i (derivative fs z) in
-    let e : length (r ++ rowsFrom v (derivative fs) (suc i) l) ≡ length r + length (rowsFrom v (derivative fs) (suc i) l) = length-append r (rowsFrom v (derivative fs) (suc i) l) in
-    let h : length r ≤ length (derivative fs z) = row-length v i (derivative fs z) in
-    omega arith
+abbrev pub hits : {M : Type 0} → Kind M → ℕ → List M → List M
+hits k i l = keep (raised k i) l
 
--- those of the list that have x number i in them: only they have terms from equation i
-abbrev raised : ℕ → Mono → Bool
-raised i z = ltb 0 (getD z i 0)
+module _ {M : Type 0} (k : Kind M) where
+  row-length : (v : List M) (i : ℕ) (p : Poly M) → length (row k v i p) ≤ length p
+  unfolding row support
+  row-length v i p =
+      let f : M → Bool = λ m. not (isZero (coeff k p m)) in
+      let e : length (map (wire k v i p) (support k p)) ≡ length (support k p) = length-map (support k p) (wire k v i p) in
+      let h : length (arrangeBy (k .same) (k .before) (keep f (monos p))) ≤ length (keep f (monos p)) = arrange-length (k .same) (k .before) (keep f (monos p)) in
+      let q : length (keep f (monos p)) ≤ length (monos p) = keep-length f (monos p) in
+      let l : length (monos p) ≡ length p = length-map p (λ (t : Term M). t .1) in
+      omega arith
 
-abbrev hits : ℕ → List Mono → List Mono
-hits i l = keep (raised i) l
+  -- the terms of the derivatives of a list of monomials by equations from number i on
+  unfoldable lengths : List (Poly M) → ℕ → List M → ℕ
+  lengths fs i [] = 0
+  lengths fs i (z ∷ l) = length (partsFrom k i z fs) + lengths fs i l
 
-part-none : (e i : ℕ) (z : Mono) (f : Poly Mono) → (T (ltb 0 e) → ⊥) → length (part e i z f) ≡ 0
-part-none zero i z f n = refl
-part-none (suc e) i z f n = absurd (n (lt→ltb 0 (suc e) (omega arith)))
+  rows-length : (fs : List (Poly M)) (v : List M) (i : ℕ) (l : List M) → length (rowsFrom k v (derivative k fs) i l) ≤ lengths fs 0 l
+  unfolding rowsFrom lengths derivative
+  rows-length fs v i [] = omega arith
+  rows-length fs v i (z ∷ l) =
+      let rest : List Wire = rowsFrom k v (derivative k fs) (suc i) l in
+      let ih : length rest ≤ lengths fs 0 l = rows-length fs v (suc i) l in
+      let r : List Wire = row k v i (derivative k fs z) in
+      let e : length (r ++ rest) ≡ length r + length rest = length-append r rest in
+      let h : length r ≤ length (derivative k fs z) = row-length v i (derivative k fs z) in
+      omega arith
 
-part-length : (e i : ℕ) (z : Mono) (f : Poly Mono) → length (part e i z f) ≤ length f
-unfolding times
-part-length zero i z f = omega arith
-part-length (suc e) i z f = le-of-eq (length-map f (λ t. (pos (suc e) *ℤ t .0, mul (set z i e) (t .1))))
+  part-none : (i : ℕ) (z : M) (f : Poly M) → (T (raised k i z) → ⊥) → length (part k i z f) ≡ 0
+  part-none i z f n = go (parted k i z f)
+    where
+      go : Parted k i z f → length (part k i z f) ≡ 0
+      go (absent e p) = ap length p
+      go (present m p) = absurd (n (not-T (isZero (k .power z i)) (λ t. m (zero-is (k .power z i) t))))
 
-lengths-next : (f : Poly Mono) (fs : List (Poly Mono)) (i : ℕ) (l : List Mono) → lengths (f ∷ fs) i l ≤ length (hits i l) * length f + lengths fs (suc i) l
-unfolding lengths partsFrom keep
-lengths-next f fs i [] = omega arith
-lengths-next f fs i (z ∷ l) =
-    let ih : lengths (f ∷ fs) i l ≤ length (hits i l) * length f + lengths fs (suc i) l = lengths-next f fs i l in
-    let a : Poly Mono = part (getD z i 0) i z f in
-    let e : length (a ++ partsFrom (suc i) z fs) ≡ length a + length (partsFrom (suc i) z fs) = length-append a (partsFrom (suc i) z fs) in
-    cond-cases (λ (r : List Mono). length (a ++ partsFrom (suc i) z fs) + lengths (f ∷ fs) i l ≤ length r * length f + (length (partsFrom (suc i) z fs) + lengths fs (suc i) l))
-    (raised i z) (z ∷ hits i l) (hits i l)
-    (λ t. let h : length a ≤ length f = part-length (getD z i 0) i z f in omega arith)
-    (λ n. let h : length a ≡ 0 = part-none (getD z i 0) i z f n in omega arith)
+  part-length : (i : ℕ) (z : M) (f : Poly M) → length (part k i z f) ≤ length f
+  unfolding times
+  part-length i z f = go (parted k i z f)
+    where
+      go : Parted k i z f → length (part k i z f) ≤ length f
+      go (absent e p) = rw p (omega arith)
+      go (present n p) = rw p (le-of-eq (length-map f (λ t. (k .power z i *ℤ t .0, k .mul (k .over z i) (t .1)))))
 
-lengths-none : (i : ℕ) (l : List Mono) → lengths [] i l ≡ 0
-unfolding lengths partsFrom
-lengths-none i [] = refl
-lengths-none i (z ∷ l) = let ih : lengths [] i l ≡ 0 = lengths-none i l in omega arith
+  lengths-next : (f : Poly M) (fs : List (Poly M)) (i : ℕ) (l : List M) → lengths (f ∷ fs) i l ≤ length (hits k i l) * length f + lengths fs (suc i) l
+  unfolding lengths partsFrom keep
+  lengths-next f fs i [] = omega arith
+  lengths-next f fs i (z ∷ l) =
+      let ih : lengths (f ∷ fs) i l ≤ length (hits k i l) * length f + lengths fs (suc i) l = lengths-next f fs i l in
+      let a : Poly M = part k i z f in
+      let b : Poly M = partsFrom k (suc i) z fs in
+      let e : length (a ++ b) ≡ length a + length b = length-append a b in
+      cond-cases (λ (r : List M). length (a ++ b) + lengths (f ∷ fs) i l ≤ length r * length f + (length b + lengths fs (suc i) l))
+      (raised k i z) (z ∷ hits k i l) (hits k i l)
+      (λ t. let h : length a ≤ length f = part-length i z f in omega arith)
+      (λ n. let h : length a ≡ 0 = part-none i z f n in omega arith)
 
-lengths-bound : (c : ℕ) (fs : List (Poly Mono)) (i : ℕ) (l : List Mono) → ((j : ℕ) → length (hits j l) ≤ c) → lengths fs i l ≤ c * termCount fs
-unfolding termCount
-lengths-bound c [] i l h = let e : lengths [] i l ≡ 0 = lengths-none i l in omega arith
-lengths-bound c (f ∷ fs) i l h =
-    let n : lengths (f ∷ fs) i l ≤ length (hits i l) * length f + lengths fs (suc i) l = lengths-next f fs i l in
-    let k : length (hits i l) * length f ≤ c * length f = mul-le-mul-right (length f) (h i) in
-    let ih : lengths fs (suc i) l ≤ c * termCount fs = lengths-bound c fs (suc i) l h in
-    omega arith
+  lengths-none : (i : ℕ) (l : List M) → lengths [] i l ≡ 0
+  unfolding lengths partsFrom
+  lengths-none i [] = refl
+  lengths-none i (z ∷ l) = let ih : lengths [] i l ≡ 0 = lengths-none i l in omega arith
 
--- each variable is in none of the constants but itself, and in as many new monomials as there are at the most
-hits-take : (j n : ℕ) (l : List Mono) → length (hits j (take n l)) ≤ length (hits j l)
-hits-take j n l =
-    let e : hits j l ≡ hits j (take n l) ++ hits j (drop n l) = ap (hits j) (sym (take-append-drop n l)) ∙ keep-append (raised j) (take n l) (drop n l) in
-    let h : length (hits j l) ≡ length (hits j (take n l)) + length (hits j (drop n l)) = ap length e ∙ length-append (hits j (take n l)) (hits j (drop n l)) in
-    omega arith
+  lengths-bound : (c : ℕ) (fs : List (Poly M)) (i : ℕ) (l : List M) → ((j : ℕ) → length (hits k j l) ≤ c) → lengths fs i l ≤ c * termCount fs
+  unfolding termCount
+  lengths-bound c [] i l h = let e : lengths [] i l ≡ 0 = lengths-none i l in omega arith
+  lengths-bound c (f ∷ fs) i l h =
+      let n : lengths (f ∷ fs) i l ≤ length (hits k i l) * length f + lengths fs (suc i) l = lengths-next f fs i l in
+      let q : length (hits k i l) * length f ≤ c * length f = mul-le-mul-right (length f) (h i) in
+      let ih : lengths fs (suc i) l ≤ c * termCount fs = lengths-bound c fs (suc i) l h in
+      omega arith
 
-one-missed : (w j : ℕ) → T (raised j (one w)) → ⊥
-one-missed w j t = let h : 0 < getD (one w) j 0 = ltb→lt 0 (getD (one w) j 0) t in let e : getD (one w) j 0 ≡ 0 = one-zero w j in omega arith
+  -- each variable is in at most one of 1 and the variables, and in as many new monomials as there are at the most
+  hits-take : (j n : ℕ) (l : List M) → length (hits k j (take n l)) ≤ length (hits k j l)
+  hits-take j n l =
+      let e : hits k j l ≡ hits k j (take n l) ++ hits k j (drop n l) = ap (hits k j) (sym (take-append-drop n l)) ∙ keep-append (raised k j) (take n l) (drop n l) in
+      let h : length (hits k j l) ≡ length (hits k j (take n l)) + length (hits k j (drop n l)) = ap length e ∙ length-append (hits k j (take n l)) (hits k j (drop n l)) in
+      omega arith
 
-hits-vars : (w j : ℕ) → length (hits j (vars w)) ≤ 1
-unfolding vars keep
+  hits-members : (w n : ℕ) (s : List M) (j : ℕ) → length (hits k j (k .one w ∷ k .vars w)) ≤ 1 → length (hits k j (members k w n s)) ≤ suc (length s)
+  hits-members w n s j d =
+      let front : List M = take (suc n) (k .one w ∷ k .vars w) in
+      let a : length (hits k j (front ++ s)) ≡ length (hits k j front) + length (hits k j s) =
+      ap length (keep-append (raised k j) front s) ∙ length-append (hits k j front) (hits k j s) in
+      let b : length (hits k j front) ≤ length (hits k j (k .one w ∷ k .vars w)) = hits-take j (suc n) (k .one w ∷ k .vars w) in
+      let e : length (hits k j s) ≤ length s = keep-length (raised k j) s in
+      omega arith
+
+  -- one record for each term of the system, and one more for each new monomial
+  pub members-length : (w n : ℕ) (fs : List (Poly M)) (s : List M) → ((j : ℕ) → length (hits k j (k .one w ∷ k .vars w)) ≤ 1)
+      → length (wiring k (members k w n s) (derivative k fs)) ≤ suc (length s) * termCount fs
+  unfolding wiring
+  members-length w n fs s d =
+      let v : List M = members k w n s in
+      let a : length (rowsFrom k v (derivative k fs) 0 v) ≤ lengths fs 0 v = rows-length fs v 0 v in
+      let b : lengths fs 0 v ≤ suc (length s) * termCount fs = lengths-bound (suc (length s)) fs 0 v (λ j. hits-members w n s j (d j)) in
+      omega arith
+
+-- ---- the panel's kind
+one-missed : (w j : ℕ) → T (raised plain j (one w)) → ⊥
+one-missed w j t = T-not (isZero (pos (getD (one w) j 0))) t (is-zero (pos (getD (one w) j 0)) (ap pos (one-zero w j)))
+
+hits-vars : (w j : ℕ) → length (hits plain j (vars w)) ≤ 1
+unfolding vars keep isZero
 hits-vars zero j = omega arith
 hits-vars (suc w) zero =
-    let e : hits 0 (map (_∷_ 0) (vars w)) ≡ [] = keep-map (raised 0) (_∷_ 0) (vars w) ∙ ap (map (_∷_ 0)) (keep-none (λ x. raised 0 (0 ∷ x)) (vars w) (λ x h t. t)) in
-    let k : length (hits 0 (map (_∷_ 0) (vars w))) ≡ 0 = ap length e in
+    let e : hits plain 0 (map (_∷_ 0) (vars w)) ≡ [] =
+    keep-map (raised plain 0) (_∷_ 0) (vars w) ∙ ap (map (_∷_ 0)) (keep-none (λ x. raised plain 0 (0 ∷ x)) (vars w) (λ x h t. t)) in
+    let k : length (hits plain 0 (map (_∷_ 0) (vars w))) ≡ 0 = ap length e in
     omega arith
 hits-vars (suc w) (suc j) =
-    let ih : length (hits j (vars w)) ≤ 1 = hits-vars w j in
-    let e : hits (suc j) (map (_∷_ 0) (vars w)) ≡ map (_∷_ 0) (hits j (vars w)) = keep-map (raised (suc j)) (_∷_ 0) (vars w) in
-    let k : length (hits (suc j) (map (_∷_ 0) (vars w))) ≡ length (hits j (vars w)) = ap length e ∙ length-map (hits j (vars w)) (_∷_ 0) in
-    rw (keep-no (raised (suc j)) (1 ∷ one w) (map (_∷_ 0) (vars w)) (one-missed w j)) (omega arith)
+    let ih : length (hits plain j (vars w)) ≤ 1 = hits-vars w j in
+    let e : hits plain (suc j) (map (_∷_ 0) (vars w)) ≡ map (_∷_ 0) (hits plain j (vars w)) = keep-map (raised plain (suc j)) (_∷_ 0) (vars w) in
+    let k : length (hits plain (suc j) (map (_∷_ 0) (vars w))) ≡ length (hits plain j (vars w)) = ap length e ∙ length-map (hits plain j (vars w)) (_∷_ 0) in
+    rw (keep-no (raised plain (suc j)) (1 ∷ one w) (map (_∷_ 0) (vars w)) (one-missed w j)) (omega arith)
 
-hits-signals : (w n : ℕ) (s : List Mono) (j : ℕ) → length (hits j (signals w n s)) ≤ suc (length s)
+pub hits-constants : (w j : ℕ) → length (hits plain j (constants w)) ≤ 1
+hits-constants w j = rw (keep-no (raised plain j) (one w) (vars w) (one-missed w j)) (hits-vars w j)
+
+pub wiring-length : (w n : ℕ) (fs : List (Poly Mono)) (s : List Mono) → length (wiring plain (signals w n s) (derivative plain fs)) ≤ suc (length s) * termCount fs
 unfolding signals
-hits-signals w n s j =
-    let front : List Mono = take (suc n) (constants w) in
-    let a : length (hits j (front ++ s)) ≡ length (hits j front) + length (hits j s) = ap length (keep-append (raised j) front s) ∙ length-append (hits j front) (hits j s) in
-    let b : length (hits j front) ≤ length (hits j (constants w)) = hits-take j (suc n) (constants w) in
-    let c : length (hits j (constants w)) ≡ length (hits j (vars w)) = ap length (keep-no (raised j) (one w) (vars w) (one-missed w j)) in
-    let d : length (hits j (vars w)) ≤ 1 = hits-vars w j in
-    let e : length (hits j s) ≤ length s = keep-length (raised j) s in
-    omega arith
-
--- one record for each term of the system, and one more for each new monomial
-pub wiring-length : (w n : ℕ) (fs : List (Poly Mono)) (s : List Mono) → length (wiring (signals w n s) (derivative fs)) ≤ suc (length s) * termCount fs
-unfolding wiring
-wiring-length w n fs s =
-    let v : List Mono = signals w n s in
-    let a : length (rowsFrom v (derivative fs) 0 v) ≤ lengths fs 0 v = rows-length fs v 0 v in
-    let b : lengths fs 0 v ≤ suc (length s) * termCount fs = lengths-bound (suc (length s)) fs 0 v (hits-signals w n s) in
-    omega arith
+wiring-length w n fs s = members-length plain w n fs s (hits-constants w)
 
 -- a record is in one equation at the most
 own-count : (e : ℕ) (l : List ℕ) → Ascending ltb l → length (keep (λ i. eqb e (suc i)) l) ≤ 1
@@ -194,16 +215,16 @@ pub system-terms : (rs : List Record) → termCount (system rs) ≤ length rs
 unfolding system
 system-terms rs = terms-of (below width) (below-asc width) rs
 
-pub wiring-records : (n : ℕ) (rs : List Record) (s : List Mono) → length (wiring (signals width n s) (derivative (system rs))) ≤ suc (length s) * length rs
+pub wiring-records : (n : ℕ) (rs : List Record) (s : List Mono) → length (wiring plain (signals width n s) (derivative plain (system rs))) ≤ suc (length s) * length rs
 wiring-records n rs s =
-    let a : length (wiring (signals width n s) (derivative (system rs))) ≤ suc (length s) * termCount (system rs) = wiring-length width n (system rs) s in
+    let a : length (wiring plain (signals width n s) (derivative plain (system rs))) ≤ suc (length s) * termCount (system rs) = wiring-length width n (system rs) s in
     let b : suc (length s) * termCount (system rs) ≤ suc (length s) * length rs = mul-le-mul-left (suc (length s)) (system-terms rs) in
     omega arith
 
 -- with 32 records and six monomials
 pub wiring-most : (n : ℕ) (rs : List Record) (s : List Mono) → length rs ≤ mostTerms → length s ≤ cards
-    → length (wiring (signals width n s) (derivative (system rs))) ≤ 224
+    → length (wiring plain (signals width n s) (derivative plain (system rs))) ≤ 224
 wiring-most n rs s h k =
-    let a : length (wiring (signals width n s) (derivative (system rs))) ≤ suc (length s) * length rs = wiring-records n rs s in
+    let a : length (wiring plain (signals width n s) (derivative plain (system rs))) ≤ suc (length s) * length rs = wiring-records n rs s in
     let b : suc (length s) * length rs ≤ 7 * length rs = mul-le-mul-right (length rs) (omega arith) in
     omega arith

@@ -62,13 +62,13 @@ module _ (v : List Mono) (m : Mono) where
 
     -- or finds one
     module _ (b : ℕ) (k : b < length v) (i : Placing (beside (getD v a [])) v b) (t : beside (getD v a []) (getD v b []) ≡ true) where
-      pub pair-first : a ≡ firstOf v m
+      pub pair-first : a ≡ firstOf plain v m
       unfolding firstOf
       pair-first =
           placing-found (factor plain v m) [] o h
           (T→is (factor plain v m (getD v a [])) (beside-factor (getD v a []) (getD v b []) b k (is→T (beside (getD v a []) (getD v b [])) t)))
 
-      pub pair-second : b ≡ secondOf v m
+      pub pair-second : b ≡ secondOf plain v m
       unfolding secondOf
       pair-second =
           placing-found (beside (getD v a [])) [] i k t

@@ -110,9 +110,9 @@ behind-rest (x ∷ l) (suc k) a h =
 
 module _ (v : List Mono) (left : ℕ) (p : Poly Mono) where
   abbrev pub wireOf : Mono → Wire
-  wireOf m = record { left = left; a = firstOf v m; b = secondOf v m; coefficient = coeff plain p m }
+  wireOf m = record { left = left; a = firstOf plain v m; b = secondOf plain v m; coefficient = coeff plain p m }
 
-  pub wire-is : (m : Mono) (a b : ℕ) (x : ℤ) → a ≡ firstOf v m → b ≡ secondOf v m → x ≡ coeff plain p m → record { left = left; a = a; b = b; coefficient = x } ≡ wireOf m
+  pub wire-is : (m : Mono) (a b : ℕ) (x : ℤ) → a ≡ firstOf plain v m → b ≡ secondOf plain v m → x ≡ coeff plain p m → record { left = left; a = a; b = b; coefficient = x } ≡ wireOf m
   wire-is m a b x ea eb ex = rw (ea, eb, ex)
 
   -- k monomials of the row have been written behind `from` records, and the next one is at hand
@@ -187,7 +187,7 @@ module _ (v : List Mono) (left : ℕ) (p : Poly Mono) where
         more done = append-assoc done (map wireOf (take k S)) (w ∷ []) ∙ ap (λ (l : List Wire). done ++ l) (sym one-more)
 
     -- all are written
-    pub rowing-ends : next .some ≡ false → (done : List Wire) → Sheet done from out₀ → Sheet (done ++ row v left p) at out
+    pub rowing-ends : next .some ≡ false → (done : List Wire) → Sheet done from out₀ → Sheet (done ++ row plain v left p) at out
     unfolding row
     rowing-ends e done s =
         let none : drop k (support plain p) ≡ [] = heads-none (drop k (support plain p)) next e (r .heads) in
@@ -195,7 +195,7 @@ module _ (v : List Mono) (left : ℕ) (p : Poly Mono) where
         subst (λ (l : List Mono). Sheet (done ++ map wireOf l) at out) (take-all k (support plain p) all-done) (r .sheet done s)
 
     -- or there is no room for the next one
-    pub rowing-full : next .some ≡ true → length out < 8 * at + 8 → (done : List Wire) → Sheet done from out₀ → length out < 8 * length (done ++ row v left p)
+    pub rowing-full : next .some ≡ true → length out < 8 * at + 8 → (done : List Wire) → Sheet done from out₀ → length out < 8 * length (done ++ row plain v left p)
     unfolding row
     rowing-full e h done s =
         let c = r .come in
@@ -210,35 +210,35 @@ module _ (v : List Mono) (d : Mono → Poly Mono) where
     pub within : left ≤ length v
     pub done : List Wire
     pub sheet : Sheet done at out
-    pub whole : done ++ rowsFrom v d left (drop left v) ≡ wiring v d
+    pub whole : done ++ rowsFrom plain v d left (drop left v) ≡ wiring plain v d
 
   pub listing-start : (out : List ℕ) → Sheet [] 0 out → Listing 0 0 out
   unfolding wiring
   listing-start out s = record { within = omega arith; done = []; sheet = s; whole = refl }
 
-  next-row : (left : ℕ) → left < length v → rowsFrom v d left (drop left v) ≡ row v left (d (getD v left [])) ++ rowsFrom v d (left + 1) (drop (left + 1) v)
+  next-row : (left : ℕ) → left < length v → rowsFrom plain v d left (drop left v) ≡ row plain v left (d (getD v left [])) ++ rowsFrom plain v d (left + 1) (drop (left + 1) v)
   unfolding rowsFrom
   next-row left h = rw (add-one left, drop-cons v left [] h)
 
   module _ {left at : ℕ} {out : List ℕ} (l : Listing left at out) where
-    onward : left < length v → (l .done ++ row v left (d (getD v left []))) ++ rowsFrom v d (left + 1) (drop (left + 1) v) ≡ wiring v d
+    onward : left < length v → (l .done ++ row plain v left (d (getD v left []))) ++ rowsFrom plain v d (left + 1) (drop (left + 1) v) ≡ wiring plain v d
     onward h =
-        append-assoc (l .done) (row v left (d (getD v left []))) (rowsFrom v d (left + 1) (drop (left + 1) v))
+        append-assoc (l .done) (row plain v left (d (getD v left []))) (rowsFrom plain v d (left + 1) (drop (left + 1) v))
         ∙ ap (λ (r : List Wire). l .done ++ r) (sym (next-row left h)) ∙ l .whole
 
-    pub listing-more : (at' : ℕ) (out' : List ℕ) → left < length v → Sheet (l .done ++ row v left (d (getD v left []))) at' out' → Listing (left + 1) at' out'
-    listing-more at' out' h s = record { within = omega arith; done = l .done ++ row v left (d (getD v left [])); sheet = s; whole = onward h }
+    pub listing-more : (at' : ℕ) (out' : List ℕ) → left < length v → Sheet (l .done ++ row plain v left (d (getD v left []))) at' out' → Listing (left + 1) at' out'
+    listing-more at' out' h s = record { within = omega arith; done = l .done ++ row plain v left (d (getD v left [])); sheet = s; whole = onward h }
 
-    pub listing-full : (out' : List ℕ) → left < length v → length out' < 8 * length (l .done ++ row v left (d (getD v left []))) → length out' < 8 * length (wiring v d)
+    pub listing-full : (out' : List ℕ) → left < length v → length out' < 8 * length (l .done ++ row plain v left (d (getD v left []))) → length out' < 8 * length (wiring plain v d)
     listing-full out' h k =
         let e = ap length (onward h) in
-        omega (arith, e, length-append (l .done ++ row v left (d (getD v left []))) (rowsFrom v d (left + 1) (drop (left + 1) v)))
+        omega (arith, e, length-append (l .done ++ row plain v left (d (getD v left []))) (rowsFrom plain v d (left + 1) (drop (left + 1) v)))
 
-    pub listing-ends : length v ≤ left → Sheet (wiring v d) at out
+    pub listing-ends : length v ≤ left → Sheet (wiring plain v d) at out
     unfolding rowsFrom
     listing-ends h =
         subst (λ (r : List Wire). Sheet r at out)
-        (sym (append-nil (l .done)) ∙ ap (λ (r : List Mono). l .done ++ rowsFrom v d left r) (sym (drop-of-length-le v h)) ∙ l .whole) (l .sheet)
+        (sym (append-nil (l .done)) ∙ ap (λ (r : List Mono). l .done ++ rowsFrom plain v d left r) (sym (drop-of-length-le v h)) ∙ l .whole) (l .sheet)
 
 -- ---- what was written, by the word of the code
 module _ (list : List Wire) (w : Written) (out : List ℕ) where

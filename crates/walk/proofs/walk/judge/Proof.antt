@@ -144,7 +144,7 @@ returns-4 c =
     let first = first-as (a .f .n) fs m _ at (v .0) (c .before .before .before .before .before .before .before .before .first-unmet .ensures) in
     let there = is→T (some (missing (a .f .n) fs m)) (first-some (a .f .n) fs m at first (omega arith)) in
     let p = c .before .choose .result in
-    let picked = subst (λ (l : List Mono). Picked (nonsquares plain l (derivative fs)) p) (v .0) (c .before .choose .ensures) in
+    let picked = subst (λ (l : List Mono). Picked (nonsquares plain l (derivative plain fs)) p) (v .0) (c .before .choose .ensures) in
     let choice = picked-choice (missing (a .f .n) fs m) p there picked in
     record {
       taken = omega (arith, c .before .before .before .before .before .before .before .before .before .before .before .before .before .before .if1 .left);

@@ -7,6 +7,7 @@ use native.Mathlib.Omega.{arith}
 use borrow.Author.Needs.{needs}
 use lib.ListN.{length, replicate}
 use Rattle.monomial.specs.Monomial.{Mono}
+use Rattle.wiring.specs.Poly.{plain}
 use Rattle.wiring.specs.Derivative.{derivative}
 use Rattle.wiring.specs.Signals.{signals, Fitting}
 use Rattle.wiring.specs.Sets.{monomialsOf}
@@ -32,9 +33,9 @@ write-wires-requires c κs =
     let q = s .pre in
     let v = c .before .signals-of .ensures in
     let m = monomialsOf (s .args .set) in
-    let d = derivative (system (records (s .args .terms .now))) in
+    let d = derivative plain (system (records (s .args .terms .now))) in
     let fits = fitting-weaken 54 72 (signals 6 (s .args .n) m) (omega arith) (signals-fitting 54 (s .args .n) m (omega arith) (q .fits)) in
-    (q .clean, (omega arith, (subst (Fitting 72) (sym (v .0)) fits, (sheet-start (s .args .out .now) (q .blank), subst (λ (l : List Mono). Met l d) (sym (v .0)) (q .met)))))
+    (q .clean, (omega arith, (subst (Fitting 72) (sym (v .0)) fits, (sheet-start (s .args .out .now) (q .blank), subst (λ (l : List Mono). Met plain l d) (sym (v .0)) (q .met)))))
 
 same-length : tie.Need-same-length
 same-length c = c .before .before .before .write-wires .kept .1 .1 .0
@@ -46,11 +47,11 @@ returns c =
     let room : length (s .args .set .m) ≡ 6 = search (needs, array-length) in
     let few : s .args .set .len ≤ length (s .args .set .m) = omega (arith, s .pre .small) in
     let size : s .args .set .len ≡ length m = sym (front-length (s .args .set .len) (s .args .set .m) few) in
-    let d = derivative (system (records (s .args .terms .now))) in
+    let d = derivative plain (system (records (s .args .terms .now))) in
     let w = c .before .before .before .write-wires in
     let out = w .last .1 .1 .0 in
-    let wrote = subst (λ (l : List Mono). Wrote (wiring l d) (w .result) out) (c .before .before .before .before .before .signals-of .ensures .0) (w .ensures) in
-    let list = wiring (signals 6 (s .args .n) m) d in
+    let wrote = subst (λ (l : List Mono). Wrote (wiring plain l d) (w .result) out) (c .before .before .before .before .before .signals-of .ensures .0) (w .ensures) in
+    let list = wiring plain (signals 6 (s .args .n) m) d in
     ap (λ (k : ℕ). outcome (Done k (w .result .at) 0) out) size
     ∙ listed-done (length m) list (w .result .at) (length (s .args .out .now)) out (wrote-out list (w .result) out true (c .if1 .taken) wrote) (w .kept .1 .1 .0)
 
@@ -67,12 +68,12 @@ returns-2 c =
     let room : length (s .args .set .m) ≡ 6 = search (needs, array-length) in
     let few : s .args .set .len ≤ length (s .args .set .m) = omega (arith, s .pre .small) in
     let size : s .args .set .len ≡ length m = sym (front-length (s .args .set .len) (s .args .set .m) few) in
-    let d = derivative (system (records (s .args .terms .now))) in
+    let d = derivative plain (system (records (s .args .terms .now))) in
     let w = c .before .before .before .before .before .before .before .write-wires in
     let out = w .last .1 .1 .0 in
-    let wrote = subst (λ (l : List Mono). Wrote (wiring l d) (w .result) out)
+    let wrote = subst (λ (l : List Mono). Wrote (wiring plain l d) (w .result) out)
     (c .before .before .before .before .before .before .before .before .before .signals-of .ensures .0) (w .ensures) in
-    let list = wiring (signals 6 (s .args .n) m) d in
+    let list = wiring plain (signals 6 (s .args .n) m) d in
     let blank = c .before .before .clear .ensures ∙ ap (λ (k : ℕ). replicate k 0) (w .kept .1 .1 .0) in
     ap (λ (k : ℕ). outcome (Full k 0) (c .before .before .clear .last .0)) size
     ∙ listed-full (length m) list (length (s .args .out .now)) out (c .before .before .clear .last .0)

@@ -53,7 +53,7 @@ add-sum c =
     let i = c .before .before .before in
     let k = i .before .before in
     let hit = sym (c .before .before .same .ensures) ∙ c .before .if2 .taken in
-    sum-of-fits (k .before .before .loop .inv) (k .before .loop-test .taken) _ _ (k .power .ensures) (c .decode .ensures) (i .before .if1 .taken) _ (i .image .ensures) hit
+    sum-of-fits (k .before .before .loop .inv) (k .before .loop-test .taken) _ _ (k .power .ensures) (c .decode .ensures) _ (i .image .ensures) hit
 
 add-t : tie.Need-add-t Inv-loop μ-loop
 add-t c = search needs
@@ -67,7 +67,7 @@ loop-again c =
     let inv = k .before .before .loop .inv in
     let more = k .before .loop-test .taken in
     ⊎-elim
-    (λ w. rw (w .5) (adding-hit inv more _ _ (k .power .ensures) (w .4 .ensures) (w .0 .taken) _ (w .1 .ensures) (sym (w .2 .ensures) ∙ w .3 .taken)))
+    (λ w. rw (w .5) (adding-hit inv more _ _ (k .power .ensures) (w .4 .ensures) _ (w .1 .ensures) (sym (w .2 .ensures) ∙ w .3 .taken)))
     (⊎-elim (λ w. rw (w .4) (adding-miss inv more _ (w .1 .ensures) (sym (w .2 .ensures) ∙ w .3 .left))) (λ w. rw (w .1) (adding-flat inv more (omega (arith, k .power .ensures, w .0 .left)))))
     (c .if1 .came)
 

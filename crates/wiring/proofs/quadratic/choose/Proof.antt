@@ -5,6 +5,7 @@ use Prim.Native.Nat.{_-_}
 use native.Mathlib.Omega.{arith}
 use borrow.Author.Needs.{needs}
 use lib.ListN.{length}
+use Rattle.wiring.specs.Poly.{plain}
 use Rattle.wiring.specs.Derivative.{derivative}
 use Rattle.wiring.specs.Signals.{signalsOf}
 use Rattle.wiring.specs.Terms.{records, system}
@@ -14,7 +15,7 @@ use Rattle.wiring.proofs.quadratic.choose.Statement.{statement}
 use Rattle.wiring.proofs.quadratic.choose.Tie as tie
 
 abbrev Inv-loop : tie.InvT-loop
-Inv-loop terms sq v len best₀ j₀ best j = (len ≡ v .len) × Choosing (signalsOf v) (derivative (system (records terms))) j best
+Inv-loop terms sq v len best₀ j₀ best j = (len ≡ v .len) × Choosing (signalsOf v) (derivative plain (system (records terms))) j best
 
 abbrev μ-loop : tie.MeasureT-loop
 μ-loop terms sq v len best₀ j₀ best j = len - j
@@ -51,7 +52,7 @@ loop-again c =
     let here = front-at (v .len) (v .m) (k .j) [] (omega arith) (omega arith) in
     let more = c .choose-in .ensures (signalsOf v) in (
       k .inv .0,
-      choosing-next (signalsOf v) (derivative (system (records (s .args .terms .now)))) (k .j) (k .best) _ _ (k .inv .1) (omega arith) here
+      choosing-next (signalsOf v) (derivative plain (system (records (s .args .terms .now)))) (k .j) (k .best) _ _ (k .inv .1) (omega arith) here
           (λ l b. more l (s .pre .1 .1 .1) b),
     )
 
@@ -62,7 +63,7 @@ returns c =
     let k = c .before .loop in
     let room : length (v .m) ≡ 13 = search (needs, array-length) in
     let long = front-length (v .len) (v .m) (omega arith) in
-    choosing-ends (signalsOf v) (derivative (system (records (s .args .terms .now)))) (k .j) (k .best) (k .inv .1) (omega arith)
+    choosing-ends (signalsOf v) (derivative plain (system (records (s .args .terms .now)))) (k .j) (k .best) (k .inv .1) (omega arith)
 
 pub choose-spec : {M : Type 1} → statement M
 choose-spec =

@@ -20,7 +20,7 @@ use Rattle.wiring.proofs.quadratic.first_unmet.Tie as tie
 
 -- the test that the loop asks of each signal
 abbrev bad : List ℕ → List Mono → Mono → Bool
-bad terms v z = some (unmet plain v (derivative (system (records terms)) z))
+bad terms v z = some (unmet plain v (derivative plain (system (records terms)) z))
 
 abbrev Inv-loop : tie.InvT-loop
 Inv-loop terms sq v len j₀ j = (len ≡ v .len) × Placing (bad terms (signalsOf v)) (signalsOf v) j

@@ -26,7 +26,7 @@ abbrev nothing : Pick
 nothing = record { some = false; m = record { e = one 6 } }
 
 abbrev derived : List ℕ → Mono → Poly Mono
-derived terms z = derivative (system (records terms)) z
+derived terms z = derivative plain (system (records terms)) z
 
 abbrev Inv-loop : tie.InvT-loop
 Inv-loop terms left out₀ from v z at₀ next₀ out at next = (from ≤ at) ×

@@ -6,6 +6,7 @@ use native.Mathlib.Omega.{arith}
 use borrow.Author.Needs.{needs}
 use borrow.Author.Tests.{not-true, not-false}
 use lib.ListN.{length}
+use Rattle.wiring.specs.Poly.{plain}
 use Rattle.wiring.specs.Derivative.{derivative}
 use Rattle.wiring.specs.Signals.{signalsOf}
 use Rattle.wiring.specs.Terms.{records, system}
@@ -17,7 +18,7 @@ use Rattle.wiring.proofs.wires.write_wires.Tie as tie
 
 abbrev Inv-loop : tie.InvT-loop
 Inv-loop terms v out₀ len w₀ left₀ out w left = (len ≡ v .len) ×
-    ((length out ≡ length out₀) × ((w .ok ≡ true) × Listing (signalsOf v) (derivative (system (records terms))) left (w .at) out))
+    ((length out ≡ length out₀) × ((w .ok ≡ true) × Listing (signalsOf v) (derivative plain (system (records terms))) left (w .at) out))
 
 abbrev μ-loop : tie.MeasureT-loop
 μ-loop terms v out₀ len w₀ left₀ out w left = len - left
@@ -40,7 +41,7 @@ returns : tie.Need-returns Inv-loop μ-loop
 returns c =
     let s = c .before .before .before .before .before .before .before .before .before .before in
     let k = c .before .before .before .before .before .before .before .loop in
-    let d = derivative (system (records (s .args .terms .now))) in
+    let d = derivative plain (system (records (s .args .terms .now))) in
     let w = c .before .before .before .before .write-row in
     let no = not-true (w .result .ok) (c .if1 .taken) in
     let wrote = w .ensures (k .inv .1 .1 .1 .done) (k .inv .1 .1 .1 .sheet) in
@@ -48,7 +49,7 @@ returns c =
     let few : k .left < length (signalsOf (s .args .v)) = omega (arith, front-length (s .args .v .len) (s .args .v .m) (omega arith)) in
     let out = w .last .1 .1 .1 .0 in
     let full = listing-full (signalsOf (s .args .v)) d (k .inv .1 .1 .1) out few (wrote-out _ (w .result) out false no wrote) in
-    wrote-in (wiring (signalsOf (s .args .v)) d) (w .result) out false no full
+    wrote-in (wiring plain (signalsOf (s .args .v)) d) (w .result) out false no full
 
 add-left : tie.Need-add-left Inv-loop μ-loop
 add-left c = search needs
@@ -60,7 +61,7 @@ loop-again : tie.Need-loop-again Inv-loop μ-loop
 loop-again c =
     let s = c .before .before .before .before .before .before .before .before .before .before in
     let k = c .before .before .before .before .before .before .before .loop in
-    let d = derivative (system (records (s .args .terms .now))) in
+    let d = derivative plain (system (records (s .args .terms .now))) in
     let w = c .before .before .before .before .write-row in
     let yes = not-false (w .result .ok) (c .if1 .left) in
     let wrote = w .ensures (k .inv .1 .1 .1 .done) (k .inv .1 .1 .1 .sheet) in
@@ -77,10 +78,10 @@ returns-2 : tie.Need-returns-2 Inv-loop μ-loop
 returns-2 c =
     let s = c .before .before .before .before in
     let k = c .before .loop in
-    let d = derivative (system (records (s .args .terms .now))) in
+    let d = derivative plain (system (records (s .args .terms .now))) in
     let room : length (s .args .v .m) ≡ 13 = search (needs, array-length) in
     let all-done : length (signalsOf (s .args .v)) ≤ k .left = omega (arith, front-length (s .args .v .len) (s .args .v .m) (omega arith)) in
-    wrote-in (wiring (signalsOf (s .args .v)) d) (k .w) (k .out) true (k .inv .1 .1 .0) (listing-ends (signalsOf (s .args .v)) d (k .inv .1 .1 .1) all-done)
+    wrote-in (wiring plain (signalsOf (s .args .v)) d) (k .w) (k .out) true (k .inv .1 .1 .0) (listing-ends (signalsOf (s .args .v)) d (k .inv .1 .1 .1) all-done)
 
 pub write-wires-spec : {M : Type 1} → statement M
 write-wires-spec =

@@ -1,0 +1,4 @@
+-- Kinds of monomials: what each obeys, and that the panel's does.
+pub mod Laws
+pub mod Powers
+pub mod Plain
