@@ -1,6 +1,7 @@
 -- Laws that belong to no module of src/. Those of a module stand under its name: order, product, divisors.
 pub mod Tests
 pub mod Members
+pub mod Rearranged
 pub mod Counting
 pub mod Loops
 pub mod Strips

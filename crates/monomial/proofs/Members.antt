@@ -1,10 +1,10 @@
 -- Members of the lists that `any`, `keep` and `gather` speak of. Assumes nothing.
-use mathlib.Core.Path.{_≡_, refl, sym, ap, subst, _∙_}
+use mathlib.Core.Path.{_≡_, refl, sym, ap, ap₂, subst, _∙_}
 use mathlib.Core.Logic.{⊎-elim}
 use mathlib.Core.Bool.{Bool}
 use mathlib.Core.List.{List, [], _∷_, List·Memᴰ, List·Memᴰ·head, List·Memᴰ·tail, List·Memᴰ·cases-cons, List·Memᴰ·not-nil, List·Memᴰ·append-cases, Memᴰ·append-left, Memᴰ·append-right, _++_, map, append-assoc}
-use lib.ListN.{length, take}
-use Prim.Native.Nat.{ℕ, zero, suc, _≤_}
+use lib.ListN.{length, getD, take}
+use Prim.Native.Nat.{ℕ, zero, suc, _<_, _≤_}
 use native.Mathlib.Omega.{arith}
 use lib.Dec.{T}
 use Rattle.monomial.specs.Lists.{any, some, all, keep, gather}
@@ -161,6 +161,17 @@ pub gather-append : {A B : Type 0} (f : A → List B) (a b : List A) → gather 
 unfolding gather
 gather-append f [] b = refl
 gather-append f (x ∷ a) b = ap (λ l. f x ++ l) (gather-append f a b) ∙ sym (append-assoc (f x) (gather f a) (gather f b))
+
+pub gather-same : {A B : Type 0} (f g : A → List B) (l : List A) → ((x : A) → x ∈ l → f x ≡ g x) → gather f l ≡ gather g l
+unfolding gather
+gather-same f g [] e = refl
+gather-same f g (x ∷ l) e = ap₂ _++_ (e x here) (gather-same f g l (λ y h. e y (there h)))
+
+-- ---- map, place by place
+pub map-at : {A B : Type 0} (f : A → B) (l : List A) (i : ℕ) (a : A) (b : B) → i < length l → getD (map f l) i b ≡ f (getD l i a)
+map-at f [] i a b h = let z : ⊥ = omega arith in absurd z
+map-at f (x ∷ l) zero a b h = refl
+map-at f (x ∷ l) (suc i) a b h = map-at f l i a b (omega arith)
 
 -- ---- take
 pub take-in : {A : Type 0} (n : ℕ) (l : List A) {x : A} → x ∈ take n l → x ∈ l

@@ -1,18 +1,19 @@
--- The walk misses no smallest quadratic set: below a set s that stands inside a quadratic set t, of any powers, a quadratic set inside t is
--- found; where t holds no smaller one, it is t. Assumes nothing.
+-- The walk misses no smallest quadratic set that its rules admit: below a set s that stands inside a quadratic set t, of any powers, whose further
+-- monomials may be, a quadratic set inside t is found; where t holds no smaller one, it is t. Assumes nothing.
 use mathlib.Core.Path.{_≡_, refl, sym, _∙_, subst}
+use mathlib.Core.Bool.{true, false}
 use mathlib.Core.Logic.{_⊎_, inl, inr, ⊎-elim}
 use mathlib.Core.List.{List, [], _∷_, List·Memᴰ·not-nil, Memᴰ·cast}
-use Prim.Native.Nat.{ℕ, zero, suc, _+_, _<_, _≤_}
+use Prim.Native.Nat.{ℕ, zero, suc, _+_, _-_, _<_, _≤_}
 use native.Mathlib.Omega.{arith}
-use borrow.Author.Tests.{le-leb, lt-leb}
+use lib.Dec.{T}
 use lib.ListN.{length}
 use Rattle.monomial.specs.Monomial.{Mono}
 use Rattle.monomial.specs.Order.{before}
 use Rattle.monomial.specs.Product.{mul}
 use Rattle.monomial.specs.Divisors.{pairs}
-use Rattle.monomial.proofs.Tests.{Tested, passed, failed, test, is→T, is→nT}
-use Rattle.monomial.proofs.Members.{_∈_, here, there, gather-in}
+use Rattle.monomial.proofs.Tests.{Tested, passed, failed, test, T→is, is→T, nT→is, is→nT}
+use Rattle.monomial.proofs.Members.{_∈_}
 use Rattle.monomial.proofs.order.Laws.{mono-order}
 use Rattle.monomial.proofs.order.Ascending.{_⊆_, Ascending, sub-length, sub-equal}
 use Rattle.monomial.proofs.divisors.Pairs.{pairs-either}
@@ -25,12 +26,10 @@ use Rattle.wiring.specs.Answers.{missing}
 use Rattle.wiring.proofs.quadratic.Laws.{Factors, inV2-in, inV2-out, unmet-in, unmet-out, Nonsquare, nonsquares-in, nonsquares-out}
 use Rattle.wiring.proofs.quadratic.Definition1.{no-members}
 use Rattle.wiring.proofs.signals.Laws.{base-in, signals-cases}
-use Rattle.walk.specs.Walk.{child, Step, found, tried, after, opened}
-use Rattle.walk.proofs.children.Laws.{chosen-in, signals-grow, signals-wide, Grown, old, left, right, child-out, child-asc, split-longer}
-
--- monomials of six exponents
-abbrev pub Wide : List Mono → Type 0
-Wide s = (m : Mono) → m ∈ s → length m ≡ 6
+use Rattle.walk.specs.Walk.{Rules, child, found, ends, opened}
+use Rattle.walk.proofs.Rules.{Wide, Orderly, Extends, extends-self, extends-on, extends-lower, extends-upper, opens-is, goes-on, Sparing}
+use Rattle.walk.proofs.Sound.{find-in, find-on}
+use Rattle.walk.proofs.children.Laws.{chosen-in, signals-grow, signals-wide, Grown, old, left, right, child-sub, child-out, child-asc, split-longer}
 
 module _ (n : ℕ) (fs : List (Poly Mono)) where
   -- ---- where t has no nonsquare, each monomial of a derivative of its V is a product
@@ -103,55 +102,59 @@ module _ (n : ℕ) (fs : List (Poly Mono)) where
       go (inl k) = make (f .a, f .b) (subst (λ x. (f .a, f .b) ∈ pairs x) (f .is) k) (f .a-in) (f .b-in)
       go (inr k) = make (f .b, f .a) (subst (λ x. (f .b, f .a) ∈ pairs x) (f .is) k) (f .b-in) (f .a-in)
 
-  module _ (k : ℕ) where
-    -- a step of a child that is small enough is a step of the set
-    after-in : (below : List Mono → List Step) (s : List Mono) (m : Mono) (l : List Mono) (p : Mono × Mono) {x : Step} → length s < k
-        → p ∈ pairs (chosen m l) → length (child n s p) ≤ k → x ∈ below (child n s p) → x ∈ after n fs k below s (m ∷ l)
-    unfolding after tried
-    after-in below s m l p {x} hs hp hc hx =
-        rw (lt-leb k (length s) hs)
-        (there (gather-in (tried n fs k below s) (pairs (chosen m l)) hp (there (rw (le-leb (length (child n s p)) k hc) hx))))
+-- ---- the walk by rules that try every pair and close no set that is needed
+module _ (r : Rules) (n : ℕ) (fs : List (Poly Mono)) (spares : Sparing r n fs) (k : ℕ) where
+  -- a set inside a quadratic one for which the level has room goes on
+  pub not-closed : (s t l : List Mono) → Ascending before s → Ascending before t → Wide t → Extends r s t → missing n fs t ≡ [] → length t ≤ k
+      → missing n fs s ≡ l → length s < k → ends r n k s l ≡ false
+  not-closed s t l a at wide ext q ht e hs =
+      let shut : r .closed (k - length s) (signals 6 n s) (missing n fs s) ≡ true → ⊥ = spares (k - length s) s t a at wide ext q (omega arith) in
+      goes-on r n k s l hs
+      (nT→is (r .closed (k - length s) (signals 6 n s) l)
+      (λ x. shut (T→is (r .closed (k - length s) (signals 6 n s) (missing n fs s)) (subst (λ u. T (r .closed (k - length s) (signals 6 n s) u)) (sym e) x))))
 
-    -- a quadratic set inside t that is found below s
-    pub record Met (t : List Mono) (d : ℕ) (s : List Mono) : Type 0 where
-      pub set : List Mono
-      pub ascending : Ascending before set
-      pub within : set ⊆ t
-      pub quadratic : missing n fs set ≡ []
-      pub listed : found set ∈ opened n fs k d s
+module _ (r : Rules) (o : Orderly r) (n : ℕ) (fs : List (Poly Mono)) (spares : Sparing r n fs) (k : ℕ) where
+  -- a quadratic set inside t that is found below s
+  pub record Met (t : List Mono) (d : ℕ) (s : List Mono) : Type 0 where
+    pub set : List Mono
+    pub ascending : Ascending before set
+    pub extends : Extends r s set
+    pub within : set ⊆ t
+    pub quadratic : missing n fs set ≡ []
+    pub listed : found set ∈ opened r n fs k d s
 
-    pub reached : (t : List Mono) → Ascending before t → Wide t → missing n fs t ≡ [] → length t ≤ k
-        → (d : ℕ) (s : List Mono) → Ascending before s → s ⊆ t → k < length s + d → Met t d s
-    unfolding opened after
-    reached t at wide q ht zero s a sub h = let i : length s ≤ length t = sub-length mono-order s t a at sub in let z : ⊥ = omega arith in absurd z
-    reached t at wide q ht (suc d) s a sub h = go (missing n fs s) refl (reached t at wide q ht d)
-      where
-        later : {x : Step} {l : List Mono} → missing n fs s ≡ l → x ∈ after n fs k (opened n fs k d) s l → x ∈ opened n fs k (suc d) s
-        later {x} e i = subst (λ r. x ∈ after n fs k (opened n fs k d) s r) (sym e) i
+  pub reached : (t : List Mono) → Ascending before t → Wide t → missing n fs t ≡ [] → length t ≤ k
+      → (d : ℕ) (s : List Mono) → Ascending before s → Extends r s t → k < length s + d → Met t d s
+  reached t at wide q ht zero s a ext h = let i : length s ≤ length t = sub-length mono-order s t a at (ext .holds) in let z : ⊥ = omega arith in absurd z
+  reached t at wide q ht (suc d) s a ext h = go (missing n fs s) refl (reached t at wide q ht d)
+    where
+      go : (l : List Mono) → missing n fs s ≡ l → ((c : List Mono) → Ascending before c → Extends r c t → k < length c + d → Met t d c) → Met t (suc d) s
+      go [] e ih = record { set = s; ascending = a; extends = extends-self r s; within = ext .holds; quadratic = e; listed = find-in r o n fs k d s e }
+      go (m ∷ l) e ih =
+          let gap : chosen m l ∈ missing n fs s = subst (λ u. chosen m l ∈ u) (sym e) (chosen-in m l) in
+          let w : Towards n fs s t (chosen m l) = towards n fs s t (chosen m l) a (ext .holds) wide q gap in
+          let c : List Mono = child n s (w .pair) in
+          let up : s ⊆ c = child-sub n s (w .pair) in
+          let ac : Ascending before c = child-asc n s (w .pair) a in
+          let lc : length c ≤ length t = sub-length mono-order c t ac at (w .within) in
+          let lw : length s < length c = w .longer in
+          let own : Extends r s c = extends-lower r s c t ext up (w .within) in
+          let x : Met t d c = ih c ac (extends-upper r s c t ext up (w .within)) (omega arith) in
+          let on : ends r n k s (m ∷ l) ≡ false = not-closed r n fs spares k s t (m ∷ l) a at wide ext q ht e (omega arith) in
+          record {
+            set = x .set;
+            ascending = x .ascending;
+            extends = extends-on r s c (x .set) own (x .extends);
+            within = x .within;
+            quadratic = x .quadratic;
+            listed = find-on r o n fs k d s m l e (x .set) (w .pair) on (w .listed) (opens-is r n k s (w .pair) own (omega arith)) (x .listed);
+          }
 
-        go : (l : List Mono) → missing n fs s ≡ l → ((c : List Mono) → Ascending before c → c ⊆ t → k < length c + d → Met t d c) → Met t (suc d) s
-        go [] e ih = record { set = s; ascending = a; within = sub; quadratic = e; listed = later e here }
-        go (m ∷ l) e ih =
-            let gap : chosen m l ∈ missing n fs s = subst (λ r. chosen m l ∈ r) (sym e) (chosen-in m l) in
-            let w : Towards s t (chosen m l) = towards s t (chosen m l) a sub wide q gap in
-            let c : List Mono = child n s (w .pair) in
-            let ac : Ascending before c = child-asc n s (w .pair) a in
-            let lc : length c ≤ length t = sub-length mono-order c t ac at (w .within) in
-            let lw : length s < length c = w .longer in
-            let r : Met t d c = ih c ac (w .within) (omega arith) in
-            record {
-              set = r .set;
-              ascending = r .ascending;
-              within = r .within;
-              quadratic = r .quadratic;
-              listed = later e (after-in (opened n fs k d) s m l (w .pair) (omega arith) (w .listed) (omega arith) (r .listed));
-            }
-
-    -- t itself, where no quadratic set inside it is smaller
-    pub complete : (t : List Mono) → Ascending before t → Wide t → missing n fs t ≡ [] → length t ≤ k
-        → ((u : List Mono) → Ascending before u → u ⊆ t → missing n fs u ≡ [] → length t ≤ length u)
-        → (d : ℕ) (s : List Mono) → Ascending before s → s ⊆ t → k < length s + d → found t ∈ opened n fs k d s
-    complete t at wide q ht least d s a sub h =
-        let r : Met t d s = reached t at wide q ht d s a sub h in
-        let e : r .set ≡ t = sub-equal mono-order (r .set) t (r .ascending) at (r .within) (least (r .set) (r .ascending) (r .within) (r .quadratic)) in
-        subst (λ (u : List Mono). found u ∈ opened n fs k d s) e (r .listed)
+  -- t itself, where no quadratic set between s and t is smaller
+  pub complete : (t : List Mono) → Ascending before t → Wide t → missing n fs t ≡ [] → length t ≤ k
+      → (d : ℕ) (s : List Mono) → ((u : List Mono) → Ascending before u → Extends r s u → u ⊆ t → missing n fs u ≡ [] → length t ≤ length u)
+      → Ascending before s → Extends r s t → k < length s + d → found t ∈ opened r n fs k d s
+  complete t at wide q ht d s least a ext h =
+      let x : Met t d s = reached t at wide q ht d s a ext h in
+      let e : x .set ≡ t = sub-equal mono-order (x .set) t (x .ascending) at (x .within) (least (x .set) (x .ascending) (x .extends) (x .within) (x .quadratic)) in
+      subst (λ (u : List Mono). found u ∈ opened r n fs k d s) e (x .listed)

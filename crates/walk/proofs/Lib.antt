@@ -1,9 +1,11 @@
 -- Laws that belong to no module of src/. Those of a module stand under its name.
+pub mod Rules
 pub mod Steps
 pub mod Sound
 pub mod Complete
 pub mod Runs
 pub mod Stops
+pub mod Begins
 pub mod Smallest
 pub mod Unused
 pub mod Worked

@@ -1,23 +1,21 @@
--- What is found is quadratic, holds the set that was opened, and is a set of the walk: it has a record, its exponents are small, and it says
--- nothing of variables beyond xn. Whatever each child keeps of its set, each find keeps. Assumes nothing.
+-- By any rules: what is found is quadratic, holds the set that was opened and besides only what may be, and is a set of the walk: it has a record,
+-- its exponents are small, and it says nothing of variables beyond xn. Whatever each child keeps of its set, each find keeps. Assumes nothing.
 use mathlib.Core.Path.{_≡_, refl, sym, ap, _∙_, subst}
 use mathlib.Core.Logic.{⊎-elim}
-use mathlib.Core.Bool.{cond}
+use mathlib.Core.Bool.{true, false}
 use mathlib.Core.List.{List, [], _∷_, map, List·Memᴰ·head, List·Memᴰ·cases-cons, List·Memᴰ·not-nil, Memᴰ·map, Memᴰ·of-map}
 use Prim.Native.Nat.{ℕ, zero, suc, _-_, _<_, _≤_}
 use native.Mathlib.Omega.{arith}
-use borrow.Author.Tests.{leb-true}
 use lib.Dec.{T, leb}
 use lib.IntN.{natAbs}
 use lib.ListN.{length, getD, set, take}
-use Rattle.monomial.specs.Lists.{gather, pairwise, pointwise}
+use Rattle.monomial.specs.Lists.{pairwise, pointwise}
 use Rattle.monomial.specs.Monomial.{Mono, one, vars, constants}
 use Rattle.monomial.specs.Product.{mul, AtMost}
 use Rattle.monomial.specs.Quotient.{divides}
 use Rattle.monomial.specs.Divisors.{pairs}
-use Rattle.monomial.proofs.Tests.{Tested, passed, failed, test, and-r}
-use Rattle.monomial.proofs.Members.{_∈_, there, gather-out, Gathered, take-in}
-use Rattle.monomial.proofs.order.Ascending.{_⊆_}
+use Rattle.monomial.proofs.Tests.{Tested, passed, failed, test, is→T, and-r}
+use Rattle.monomial.proofs.Members.{_∈_, here, there, gather-in, gather-out, Gathered, take-in}
 use Rattle.monomial.proofs.product.Laws.{mul-comm, atMost-weaken, atMost-mul, atMost-at, atMost-all}
 use Rattle.monomial.proofs.quotient.Laws.{factor-divides, atMost-divides}
 use Rattle.monomial.proofs.divisors.Pairs.{Splits, pairs-out}
@@ -33,9 +31,11 @@ use Rattle.wiring.proofs.signals.Laws.{base, base-in, signals-cases, constants-
 use Rattle.wiring.proofs.derivative.Records.{summed}
 use Rattle.wiring.proofs.derivative.Bounds.{sum-fits, total-fits}
 use Rattle.wiring.proofs.sets.Exact.{Recordable}
-use Rattle.walk.specs.Walk.{child, Step, found, other, tried, after, opened}
+use Rattle.walk.specs.Walk.{Rules, child, Step, found, other, opens, ends, tried, triedAll, opened}
 use Rattle.walk.specs.Turns.{Walked}
-use Rattle.walk.proofs.children.Laws.{chosen-in, Grown, old, left, right, child-sub, child-out, Imaged, imaged, nonsquare-fits, child-walked, empty-walked, walked-54}
+use Rattle.walk.proofs.Rules.{Orderly, tries-in, tries-out, Extends, extends-self, extends-on, opens-fits, opens-extends}
+use Rattle.walk.proofs.Steps.{opened-found, opened-ends, opened-split, tried-open, tried-shut}
+use Rattle.walk.proofs.children.Laws.{chosen-in, Grown, old, left, right, child-out, Imaged, imaged, nonsquare-fits, child-walked, walked-54}
 
 -- ---- steps told apart
 pub other-found : {C : Type 0} {x : List Mono} → found x ≡ other → C
@@ -44,54 +44,80 @@ other-found e = let z : _≡_ {A = ℕ} 0 1 = cc in let y : ⊥ = omega arith in
 pub found-is : {x y : List Mono} → found x ≡ found y → x ≡ y
 found-is e = cc
 
-module _ (n : ℕ) (fs : List (Poly Mono)) (k : ℕ) where
-  -- each child that the walk opens keeps P of its set
-  abbrev pub Kept : (List Mono → Type 0) → Type 0
-  Kept P = (s : List Mono) (m : Mono) (p : Mono × Mono) → P s → m ∈ missing n fs s → p ∈ pairs m → length (child n s p) ≤ k → P (child n s p)
+-- each child that the walk opens keeps P of its set
+abbrev pub Kept : Rules → ℕ → List (Poly Mono) → ℕ → (List Mono → Type 0) → Type 0
+Kept r n fs k P = (s : List Mono) (m : Mono) (p : Mono × Mono) → P s → m ∈ missing n fs s → p ∈ pairs m → T (opens r n k s p) → P (child n s p)
 
+module _ (r : Rules) (o : Orderly r) (n : ℕ) (fs : List (Poly Mono)) (k : ℕ) where
   -- a find behind the opening of a set with nonsquares is one below a child
   pub record Below (below : List Mono → List Step) (s : List Mono) (m : Mono) (t : List Mono) : Type 0 where
     pub pair : Mono × Mono
     pub listed : pair ∈ pairs m
-    pub fits : length (child n s pair) ≤ k
+    pub taken : T (opens r n k s pair)
     pub inside : found t ∈ below (child n s pair)
 
   tried-out : (below : List Mono → List Step) (s : List Mono) (m : Mono) (p : Mono × Mono) (t : List Mono) → p ∈ pairs m
-      → found t ∈ tried n fs k below s p → Below below s m t
-  unfolding tried
-  tried-out below s m p t i h = ⊎-elim (λ e. other-found e) (go (test (leb (length (child n s p)) k))) (List·Memᴰ·cases-cons h)
+      → found t ∈ tried r n fs k below s p → Below below s m t
+  tried-out below s m p t i h = go (test (opens r n k s p))
     where
-      go : Tested (leb (length (child n s p)) k) → found t ∈ cond (leb (length (child n s p)) k) (below (child n s p)) [] → Below below s m t
-      go (passed e) j = record { pair = p; listed = i; fits = leb-true (length (child n s p)) k e; inside = rw e at j }
-      go (failed e) j = absurd (List·Memᴰ·not-nil (subst (λ b. found t ∈ cond b (below (child n s p)) []) e j))
+      go : Tested (opens r n k s p) → Below below s m t
+      go (passed e) =
+          ⊎-elim (λ q. other-found q) (λ j. record { pair = p; listed = i; taken = is→T (opens r n k s p) e; inside = j })
+          (List·Memᴰ·cases-cons (subst (λ es. found t ∈ es) (tried-open r n fs k below s p e) h))
+      go (failed e) =
+          ⊎-elim (λ q. other-found q) (λ j. absurd (List·Memᴰ·not-nil j))
+          (List·Memᴰ·cases-cons (subst (λ es. found t ∈ es) (tried-shut r n fs k below s p e) h))
 
-  pub after-out : (below : List Mono → List Step) (s : List Mono) (m : Mono) (l : List Mono) (t : List Mono) → found t ∈ after n fs k below s (m ∷ l)
-      → Below below s (chosen m l) t
-  unfolding after
-  after-out below s m l t h = ⊎-elim (λ e. other-found e) (go (test (leb k (length s)))) (List·Memᴰ·cases-cons h)
-    where
-      go : Tested (leb k (length s)) → found t ∈ cond (leb k (length s)) [] (gather (tried n fs k below s) (pairs (chosen m l))) → Below below s (chosen m l) t
-      go (passed e) j = absurd (List·Memᴰ·not-nil (subst (λ b. found t ∈ cond b [] (gather (tried n fs k below s) (pairs (chosen m l)))) e j))
-      go (failed e) j =
-          let steps : List Step = gather (tried n fs k below s) (pairs (chosen m l)) in
-          let g : Gathered (tried n fs k below s) (found t) (pairs (chosen m l)) =
-          gather-out (tried n fs k below s) (pairs (chosen m l)) (subst (λ b. found t ∈ cond b [] steps) e j) in
-          tried-out below s (chosen m l) (g .entry) t (g .member) (g .inside)
+  -- of a set without nonsquares the set is found, and no other
+  module _ (d : ℕ) (s : List Mono) (e : missing n fs s ≡ []) where
+    pub find-in : found s ∈ opened r n fs k (suc d) s
+    find-in = subst (λ es. found s ∈ es) (sym (opened-found r n fs k d s e)) here
 
-  pub sound : (P : List Mono → Type 0) → Kept P → (d : ℕ) (s t : List Mono) → P s → found t ∈ opened n fs k d s → P t × (missing n fs t ≡ [])
-  unfolding opened after
+    pub find-out : (t : List Mono) → found t ∈ opened r n fs k (suc d) s → t ≡ s
+    find-out t h =
+        ⊎-elim (λ q. found-is q) (λ j. absurd (List·Memᴰ·not-nil j))
+        (List·Memᴰ·cases-cons (subst (λ es. found t ∈ es) (opened-found r n fs k d s e) h))
+
+  -- of a set with nonsquares what is found below a child that is opened, and no other
+  module _ (d : ℕ) (s : List Mono) (m : Mono) (l : List Mono) (e : missing n fs s ≡ m ∷ l) (t : List Mono) where
+    abbrev below : List Mono → List Step
+    below = opened r n fs k d
+
+    abbrev two : List (Mono × Mono)
+    two = r .tries (signals 6 n s) (chosen m l)
+
+    pub find-on : (p : Mono × Mono) → ends r n k s (m ∷ l) ≡ false → p ∈ pairs (chosen m l) → opens r n k s p ≡ true
+        → found t ∈ opened r n fs k d (child n s p) → found t ∈ opened r n fs k (suc d) s
+    find-on p h i j x =
+        let own : found t ∈ tried r n fs k below s p = subst (λ es. found t ∈ es) (sym (tried-open r n fs k below s p j)) (there x) in
+        let tried-in = gather-in (tried r n fs k below s) two (tries-in r o (signals 6 n s) (chosen m l) p i) own in
+        subst (λ es. found t ∈ es) (sym (opened-split r n fs k d s m l e h)) (there tried-in)
+
+    pub find-below : found t ∈ opened r n fs k (suc d) s → Below (opened r n fs k d) s (chosen m l) t
+    find-below h = go (test (ends r n k s (m ∷ l)))
+      where
+        split : found t ∈ triedAll r n fs k (opened r n fs k d) s (chosen m l) → Below (opened r n fs k d) s (chosen m l) t
+        split j =
+            let g : Gathered (tried r n fs k below s) (found t) two = gather-out (tried r n fs k below s) two j in
+            tried-out below s (chosen m l) (g .entry) t (tries-out r o (signals 6 n s) (chosen m l) (g .entry) (g .member)) (g .inside)
+
+        go : Tested (ends r n k s (m ∷ l)) → Below (opened r n fs k d) s (chosen m l) t
+        go (passed b) =
+            ⊎-elim (λ q. other-found q) (λ j. absurd (List·Memᴰ·not-nil j))
+            (List·Memᴰ·cases-cons (subst (λ es. found t ∈ es) (opened-ends r n fs k d s m l e b) h))
+        go (failed b) = ⊎-elim (λ q. other-found q) split (List·Memᴰ·cases-cons (subst (λ es. found t ∈ es) (opened-split r n fs k d s m l e b) h))
+
+  pub sound : (P : List Mono → Type 0) → Kept r n fs k P → (d : ℕ) (s t : List Mono) → P s → found t ∈ opened r n fs k d s → P t × (missing n fs t ≡ [])
+  unfolding opened
   sound P keeps zero s t p h = absurd (List·Memᴰ·not-nil h)
-  sound P keeps (suc d) s t p h = go (missing n fs s) refl h (λ c. sound P keeps d c t)
+  sound P keeps (suc d) s t p h = go (missing n fs s) refl (λ c. sound P keeps d c t)
     where
-      go : (l : List Mono) → missing n fs s ≡ l → found t ∈ after n fs k (opened n fs k d) s (missing n fs s)
-          → ((c : List Mono) → P c → found t ∈ opened n fs k d c → P t × (missing n fs t ≡ [])) → P t × (missing n fs t ≡ [])
-      go [] e j ih =
-          let i : t ≡ s = ⊎-elim (λ q. found-is q) (λ q. absurd (List·Memᴰ·not-nil q)) (List·Memᴰ·cases-cons (rw e at j)) in
-          (subst P (sym i) p, ap (missing n fs) i ∙ e)
-      go (m ∷ l) e j ih =
-          let b : Below (opened n fs k d) s (chosen m l) t = after-out (opened n fs k d) s m l t (rw e at j) in
-          let gap : chosen m l ∈ missing n fs s = subst (λ r. chosen m l ∈ r) (sym e) (chosen-in m l) in
-          ih (child n s (b .pair)) (keeps s (chosen m l) (b .pair) p gap (b .listed) (b .fits)) (b .inside)
+      go : (l : List Mono) → missing n fs s ≡ l → ((c : List Mono) → P c → found t ∈ opened r n fs k d c → P t × (missing n fs t ≡ [])) → P t × (missing n fs t ≡ [])
+      go [] e ih = let i : t ≡ s = find-out d s e t h in (subst P (sym i) p, ap (missing n fs) i ∙ e)
+      go (m ∷ l) e ih =
+          let b : Below (opened r n fs k d) s (chosen m l) t = find-below d s m l e t h in
+          let gap : chosen m l ∈ missing n fs s = subst (λ x. chosen m l ∈ x) (sym e) (chosen-in m l) in
+          ih (child n s (b .pair)) (keeps s (chosen m l) (b .pair) p gap (b .listed) (b .taken)) (b .inside)
 
 -- ---- variables beyond xn
 -- no exponent from number n on
@@ -181,6 +207,9 @@ pub record Proper (n : ℕ) (s : List Mono) : Type 0 where
   pub new : (m : Mono) → m ∈ s → m ∈ base n → ⊥
   pub within : (m : Mono) → m ∈ s → Within n m
 
+pub empty-proper : (n : ℕ) → Proper n []
+empty-proper n = record { new = λ x i. absurd (List·Memᴰ·not-nil i); within = λ x i. absurd (List·Memᴰ·not-nil i) }
+
 module _ (n : ℕ) (terms : List ℕ) (clean : fault n (records terms) ≡ Clean) where
   abbrev fs : List (Poly Mono)
   fs = system (records terms)
@@ -199,8 +228,8 @@ module _ (n : ℕ) (terms : List ℕ) (clean : fault n (records terms) ≡ Clean
         let high : r .equation ≤ n = f .high in
         subst (Within n) (i .from .is) (within-mul n (set (i .of) at e) (r .monomial) (within-set n (i .of) at e (omega arith) own) term)
 
-    pub keeps-proper : (k : ℕ) → Kept n fs k (Proper n)
-    keeps-proper k s m p q h j f = record { new = λ x i. new-of x (child-out n s p i); within = λ x i. within-of x (child-out n s p i) }
+    pub keeps-proper : (r : Rules) (k : ℕ) → Kept r n fs k (Proper n)
+    keeps-proper r k s m p q h j f = record { new = λ x i. new-of x (child-out n s p i); within = λ x i. within-of x (child-out n s p i) }
       where
         two : Splits p m
         two = pairs-out p m j
@@ -222,43 +251,45 @@ module _ (n : ℕ) (terms : List ℕ) (clean : fault n (records terms) ≡ Clean
         within-of x (right e o) = subst (Within n) (sym e) (factor (p .1) (p .0) (two .right ∙ sym (two .left)) (mul-comm (p .1) (p .0) ∙ two .product))
 
 -- what a find t below the opened set s is like, at level k
-pub record Sound (n : ℕ) (terms : List ℕ) (k : ℕ) (s t : List Mono) : Type 0 where
+pub record Sound (r : Rules) (n : ℕ) (terms : List ℕ) (k : ℕ) (s t : List Mono) : Type 0 where
   pub quadratic : missing n (system (records terms)) t ≡ []
-  pub holds : s ⊆ t
+  pub extends : Extends r s t
   pub short : length t ≤ k
   pub walked : Walked t
 
-module _ (n : ℕ) (terms : List ℕ) (six : CleanTerms terms) (k : ℕ) (low : k ≤ 6) where
+module _ (r : Rules) (o : Orderly r) (n : ℕ) (terms : List ℕ) (six : CleanTerms terms) (k : ℕ) (low : k ≤ 6) where
   pub record Climbed (s₀ s : List Mono) : Type 0 where
-    pub holds : s₀ ⊆ s
+    pub extends : Extends r s₀ s
     pub short : length s ≤ k
     pub walked : Walked s
 
-  keeps-climbed : (s₀ : List Mono) → Kept n (system (records terms)) k (Climbed s₀)
-  keeps-climbed s₀ s m p c h j f = record {
-    holds = λ x i. child-sub n s p x (c .holds x i);
-    short = f;
-    walked = child-walked terms six n s (c .walked) m h p j (omega (arith, f, low));
-  }
+  keeps-climbed : (s₀ : List Mono) → Kept r n (system (records terms)) k (Climbed s₀)
+  keeps-climbed s₀ s m p c h j f =
+      let fits : length (child n s p) ≤ k = opens-fits r n k s p f in
+      record {
+        extends = extends-on r s₀ s (child n s p) (c .extends) (opens-extends r n k s p f);
+        short = fits;
+        walked = child-walked terms six n s (c .walked) m h p j (omega arith);
+      }
 
   -- for any set of the walk that is opened, at any depth
-  pub opened-sound : (d : ℕ) (s t : List Mono) → Walked s → length s ≤ k → found t ∈ opened n (system (records terms)) k d s → Sound n terms k s t
+  pub opened-sound : (d : ℕ) (s t : List Mono) → Walked s → length s ≤ k → found t ∈ opened r n (system (records terms)) k d s → Sound r n terms k s t
   opened-sound d s t w l h =
-      let start : Climbed s s = record { holds = λ x i. i; short = l; walked = w } in
-      let r = sound n (system (records terms)) k (Climbed s) (keeps-climbed s) d s t start h in
-      record { quadratic = r .1; holds = r .0 .holds; short = r .0 .short; walked = r .0 .walked }
+      let start : Climbed s s = record { extends = extends-self r s; short = l; walked = w } in
+      let x = sound r o n (system (records terms)) k (Climbed s) (keeps-climbed s) d s t start h in
+      record { quadratic = x .1; extends = x .0 .extends; short = x .0 .short; walked = x .0 .walked }
 
 -- ---- every set that level k opens, found or not
-module _ (n : ℕ) (terms : List ℕ) (six : CleanTerms terms) (k : ℕ) (low : k ≤ 6) where
-  -- the empty set, and the children of opened sets that have at most k monomials
+module _ (r : Rules) (begins : Walked (r .start)) (n : ℕ) (terms : List ℕ) (six : CleanTerms terms) (k : ℕ) (low : k ≤ 6) where
+  -- the start, and the children of opened sets that are opened
   pub data Opened : List Mono → Type 0 where
-    first : Opened []
-    next : (s : List Mono) (m : Mono) (p : Mono × Mono) → Opened s → m ∈ missing n (system (records terms)) s → p ∈ pairs m → length (child n s p) ≤ k
+    first : Opened (r .start)
+    next : (s : List Mono) (m : Mono) (p : Mono × Mono) → Opened s → m ∈ missing n (system (records terms)) s → p ∈ pairs m → T (opens r n k s p)
         → Opened (child n s p)
 
   pub opened-walked : (s : List Mono) → Opened s → Walked s
-  opened-walked [] first = empty-walked
-  opened-walked c (next s m p o h j f) = child-walked terms six n s (opened-walked s o) m h p j (omega arith)
+  opened-walked c first = begins
+  opened-walked c (next s m p o h j f) = child-walked terms six n s (opened-walked s o) m h p j (omega (arith, opens-fits r n k s p f))
 
   module _ (s : List Mono) (o : Opened s) where
     -- exponents of sets to 54, of nonsquares to 63
@@ -283,11 +314,11 @@ module _ (n : ℕ) (terms : List ℕ) (six : CleanTerms terms) (k : ℕ) (low : 
     sum-32 z m h t = let f = signal-72 z h in sum-fits terms six z m (f .0) (f .1) t
 
   -- what is found was opened
-  pub found-opened : (d : ℕ) (s t : List Mono) → Opened s → found t ∈ opened n (system (records terms)) k d s → Opened t
-  found-opened d s t o h = sound n (system (records terms)) k Opened (λ u m p q i j f. next u m p q i j f) d s t o h .0
+  pub found-opened : Orderly r → (d : ℕ) (s t : List Mono) → Opened s → found t ∈ opened r n (system (records terms)) k d s → Opened t
+  found-opened u d s t o h = sound r u n (system (records terms)) k Opened (λ u m p q i j f. next u m p q i j f) d s t o h .0
 
 -- and what may stand in a record of n variables stands in one
-module _ (n : ℕ) (terms : List ℕ) (few : n ≤ 6) (clean : fault n (records terms) ≡ Clean) where
+module _ (r : Rules) (o : Orderly r) (n : ℕ) (terms : List ℕ) (few : n ≤ 6) (clean : fault n (records terms) ≡ Clean) where
   six : CleanTerms terms
   six = clean-widens n (records terms) few clean
 
@@ -304,7 +335,7 @@ module _ (n : ℕ) (terms : List ℕ) (few : n ≤ 6) (clean : fault n (records 
   }
 
   pub opened-recordable : (k d : ℕ) → k ≤ 6 → (s t : List Mono) → Walked s → Proper n s → length s ≤ k
-      → found t ∈ opened n (system (records terms)) k d s → Recordable n t
+      → found t ∈ opened r n (system (records terms)) k d s → Recordable n t
   opened-recordable k d low s t w q l h =
-      let r : Sound n terms k s t = opened-sound n terms six k low d s t w l h in
-      recordable t (r .walked) (sound n (system (records terms)) k (Proper n) (keeps-proper n terms clean six k) d s t q h .0)
+      let x : Sound r n terms k s t = opened-sound r o n terms six k low d s t w l h in
+      recordable t (x .walked) (sound r o n (system (records terms)) k (Proper n) (keeps-proper n terms clean six r k) d s t q h .0)

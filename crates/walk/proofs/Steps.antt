@@ -1,24 +1,25 @@
 -- The steps of a set, as code that walks them one by one meets them: a run of two lists is the one and then the other, what opening a set and
 -- trying a pair come to, and that the bound on the depth does not matter where it is large enough. Assumes nothing.
-use mathlib.Core.Path.{_≡_, refl, sym, ap, ap₂, _∙_}
+use mathlib.Core.Path.{_≡_, refl, sym, ap, _∙_, subst}
 use mathlib.Core.Bool.{Bool, true, false, cond}
-use mathlib.Core.List.{List, [], _∷_, _++_}
+use mathlib.Core.List.{List, [], _∷_, _++_, List·Memᴰ·not-nil}
 use Prim.Native.Nat.{ℕ, zero, suc, _+_, _<_, _≤_}
 use native.Mathlib.Omega.{arith}
 use borrow.Author.Tests.{leb-true, leb-false, le-leb, lt-leb}
 use lib.Dec.{leb}
 use lib.ListN.{length}
-use Rattle.monomial.specs.Lists.{gather}
 use Rattle.monomial.specs.Monomial.{Mono}
 use Rattle.monomial.specs.Order.{before}
 use Rattle.monomial.specs.Divisors.{pairs}
-use Rattle.monomial.proofs.Tests.{Tested, passed, failed, test}
-use Rattle.monomial.proofs.Members.{_∈_, here, there}
+use Rattle.monomial.proofs.Tests.{Tested, passed, failed, test, is→T}
+use Rattle.monomial.proofs.Members.{_∈_, gather-same}
 use Rattle.monomial.proofs.order.Ascending.{Ascending}
 use Rattle.wiring.specs.Poly.{Poly}
+use Rattle.wiring.specs.Signals.{signals}
 use Rattle.wiring.specs.Choice.{chosen}
 use Rattle.wiring.specs.Answers.{missing}
-use Rattle.walk.specs.Walk.{Finds, child, Step, found, other, tried, after, opened, Run, ended, spent, full, kept, onward, run}
+use Rattle.walk.specs.Walk.{Finds, Rules, child, Step, found, other, opens, ends, tried, triedAll, after, opened, level, Run, ended, spent, full, kept, onward, run}
+use Rattle.walk.proofs.Rules.{Orderly, tries-out, opens-fits}
 use Rattle.walk.proofs.children.Laws.{chosen-in, child-asc, split-longer}
 
 -- ---- runs one after the other
@@ -60,86 +61,98 @@ module _ (limit room : ℕ) (es : List Step) (taken : ℕ) (finds : Finds) where
   unfolding run
   run-found s h = rw (lt-leb limit taken h)
 
--- a find and nothing behind it
-onward-ends : (r : Run) → onward r ended ≡ r
+-- a run and then nothing
+onward-ends : (y : Run) → onward y ended ≡ y
 unfolding onward
 onward-ends (ended t l) = refl
 onward-ends spent = refl
 onward-ends (full t) = refl
 
-onward-same : (r : Run) (f g : ℕ → Finds → Run) → ((t : ℕ) (l : Finds) → f t l ≡ g t l) → onward r f ≡ onward r g
-unfolding onward
-onward-same (ended t l) f g e = e t l
-onward-same spent f g e = refl
-onward-same (full t) f g e = refl
-
 pub run-last : (limit room : ℕ) (s : List Mono) (taken : ℕ) (finds : Finds) → taken < limit → run limit room (found s ∷ []) taken finds ≡ kept room s (suc taken) finds
 unfolding run
-run-last limit room s taken finds h =
-    let one = kept room s (suc taken) finds in
-    run-found limit room [] taken finds s h ∙ onward-same one (run limit room []) ended (λ t l. refl) ∙ onward-ends one
+run-last limit room s taken finds h = run-found limit room [] taken finds s h ∙ onward-ends (kept room s (suc taken) finds)
 
 -- ---- the steps of a set
-module _ (n : ℕ) (fs : List (Poly Mono)) (k d : ℕ) (s : List Mono) where
-  pub opened-found : missing n fs s ≡ [] → opened n fs k (suc d) s ≡ found s ∷ []
+module _ (r : Rules) (n : ℕ) (fs : List (Poly Mono)) (k d : ℕ) (s : List Mono) where
+  pub opened-found : missing n fs s ≡ [] → opened r n fs k (suc d) s ≡ found s ∷ []
   unfolding opened after
   opened-found e = rw e
 
-  pub opened-level : (m : Mono) (l : List Mono) → missing n fs s ≡ m ∷ l → k ≤ length s → opened n fs k (suc d) s ≡ other ∷ []
+  pub opened-ends : (m : Mono) (l : List Mono) → missing n fs s ≡ m ∷ l → ends r n k s (m ∷ l) ≡ true → opened r n fs k (suc d) s ≡ other ∷ []
   unfolding opened after
-  opened-level m l e h = rw (e, le-leb k (length s) h)
+  opened-ends m l e h = rw (e, h)
 
-  pub opened-split : (m : Mono) (l : List Mono) → missing n fs s ≡ m ∷ l → length s < k
-      → opened n fs k (suc d) s ≡ other ∷ gather (tried n fs k (opened n fs k d) s) (pairs (chosen m l))
+  pub opened-split : (m : Mono) (l : List Mono) → missing n fs s ≡ m ∷ l → ends r n k s (m ∷ l) ≡ false
+      → opened r n fs k (suc d) s ≡ other ∷ triedAll r n fs k (opened r n fs k d) s (chosen m l)
   unfolding opened after
-  opened-split m l e h = rw (e, lt-leb k (length s) h)
+  opened-split m l e h = rw (e, h)
 
 -- ---- the steps of a pair
-module _ (n : ℕ) (fs : List (Poly Mono)) (k : ℕ) (below : List Mono → List Step) (s : List Mono) (p : Mono × Mono) where
-  pub tried-open : length (child n s p) ≤ k → tried n fs k below s p ≡ other ∷ below (child n s p)
+module _ (r : Rules) (n : ℕ) (fs : List (Poly Mono)) (k : ℕ) (below : List Mono → List Step) (s : List Mono) (p : Mono × Mono) where
+  pub tried-open : opens r n k s p ≡ true → tried r n fs k below s p ≡ other ∷ below (child n s p)
   unfolding tried
-  tried-open h = rw (le-leb (length (child n s p)) k h)
+  tried-open h = rw h
 
-  pub tried-shut : k < length (child n s p) → tried n fs k below s p ≡ other ∷ []
+  pub tried-shut : opens r n k s p ≡ false → tried r n fs k below s p ≡ other ∷ []
   unfolding tried
-  tried-shut h = rw (lt-leb (length (child n s p)) k h)
+  tried-shut h = rw h
+
+-- ---- the steps of a level: those of the start, and none below its size
+module _ (r : Rules) (n : ℕ) (fs : List (Poly Mono)) (k : ℕ) where
+  pub level-opens : length (r .start) ≤ k → level r n fs k ≡ opened r n fs k (suc k) (r .start)
+  unfolding level
+  level-opens h = rw (le-leb (length (r .start)) k h)
+
+  pub level-shut : k < length (r .start) → level r n fs k ≡ []
+  unfolding level
+  level-shut h = rw (lt-leb (length (r .start)) k h)
+
+  pub level-out : (x : Step) → x ∈ level r n fs k → (length (r .start) ≤ k) × (x ∈ opened r n fs k (suc k) (r .start))
+  level-out x h = go (test (leb (length (r .start)) k))
+    where
+      go : Tested (leb (length (r .start)) k) → (length (r .start) ≤ k) × (x ∈ opened r n fs k (suc k) (r .start))
+      go (passed e) = let i : length (r .start) ≤ k = leb-true (length (r .start)) k e in (i, subst (λ l. x ∈ l) (level-opens i) h)
+      go (failed e) = absurd (List·Memᴰ·not-nil (subst (λ l. x ∈ l) (level-shut (leb-false (length (r .start)) k e)) h))
+
+-- ---- two walks alike, of n and of b variables, with f and g below: what a pair and what an opened set come to in both
+module _ (r : Rules) (n b : ℕ) (fs : List (Poly Mono)) (k : ℕ) (f g : List Mono → List Step) (s : List Mono) where
+  pub tried-alike : (p : Mono × Mono) → opens r n k s p ≡ opens r b k s p → (opens r n k s p ≡ true → f (child n s p) ≡ g (child b s p))
+      → tried r n fs k f s p ≡ tried r b fs k g s p
+  tried-alike p o e = go (test (opens r n k s p))
+    where
+      go : Tested (opens r n k s p) → tried r n fs k f s p ≡ tried r b fs k g s p
+      go (passed t) = tried-open r n fs k f s p t ∙ ap (λ (x : List Step). other ∷ x) (e t) ∙ sym (tried-open r b fs k g s p (sym o ∙ t))
+      go (failed t) = tried-shut r n fs k f s p t ∙ sym (tried-shut r b fs k g s p (sym o ∙ t))
+
+  pub after-alike : (m : Mono) (l : List Mono) → ends r n k s (m ∷ l) ≡ ends r b k s (m ∷ l)
+      → r .tries (signals 6 n s) (chosen m l) ≡ r .tries (signals 6 b s) (chosen m l)
+      → ((p : Mono × Mono) → p ∈ r .tries (signals 6 n s) (chosen m l) → tried r n fs k f s p ≡ tried r b fs k g s p)
+      → after r n fs k f s (m ∷ l) ≡ after r b fs k g s (m ∷ l)
+  unfolding after
+  after-alike m l stop order h =
+      rw (← stop, ← order)
+      (ap (λ (x : List Step). other ∷ cond (ends r n k s (m ∷ l)) [] x)
+      (gather-same (tried r n fs k f s) (tried r b fs k g s) (r .tries (signals 6 n s) (chosen m l)) h))
 
 -- ---- how deep the walk may go does not matter, where it may go deep enough
-pub gather-same : {A B : Type 0} (f g : A → List B) (l : List A) → ((x : A) → x ∈ l → f x ≡ g x) → gather f l ≡ gather g l
-unfolding gather
-gather-same f g [] e = refl
-gather-same f g (x ∷ l) e = ap₂ _++_ (e x here) (gather-same f g l (λ y h. e y (there h)))
-
-module _ (n : ℕ) (fs : List (Poly Mono)) (k : ℕ) where
-  -- the two walks agree on every child that is opened
-  abbrev Agree : (List Mono → List Step) → (List Mono → List Step) → List Mono → Mono → Type 0
-  Agree f g s m = (p : Mono × Mono) → p ∈ pairs m → length (child n s p) ≤ k → f (child n s p) ≡ g (child n s p)
-
-  tried-same : (f g : List Mono → List Step) (s : List Mono) (p : Mono × Mono) → (length (child n s p) ≤ k → f (child n s p) ≡ g (child n s p))
-      → tried n fs k f s p ≡ tried n fs k g s p
-  tried-same f g s p e = go (test (leb (length (child n s p)) k))
-    where
-      go : Tested (leb (length (child n s p)) k) → tried n fs k f s p ≡ tried n fs k g s p
-      go (passed b) =
-          let h : length (child n s p) ≤ k = leb-true (length (child n s p)) k b in
-          tried-open n fs k f s p h ∙ ap (λ (r : List Step). other ∷ r) (e h) ∙ sym (tried-open n fs k g s p h)
-      go (failed b) =
-          let h : k < length (child n s p) = leb-false (length (child n s p)) k b in
-          tried-shut n fs k f s p h ∙ sym (tried-shut n fs k g s p h)
-
-  after-same : (f g : List Mono → List Step) (s l : List Mono) → ((m : Mono) → m ∈ l → Agree f g s m) → after n fs k f s l ≡ after n fs k g s l
+module _ (r : Rules) (o : Orderly r) (n : ℕ) (fs : List (Poly Mono)) (k : ℕ) where
+  -- two walks that agree on every child that is opened
+  after-same : (f g : List Mono → List Step) (s l : List Mono)
+      → ((m : Mono) (p : Mono × Mono) → m ∈ l → p ∈ pairs m → length (child n s p) ≤ k → f (child n s p) ≡ g (child n s p))
+      → after r n fs k f s l ≡ after r n fs k g s l
   unfolding after
   after-same f g s [] e = refl
   after-same f g s (m ∷ l) e =
-      ap (λ (r : List Step). other ∷ cond (leb k (length s)) [] r)
-      (gather-same (tried n fs k f s) (tried n fs k g s) (pairs (chosen m l)) (λ p h. tried-same f g s p (e (chosen m l) (chosen-in m l) p h)))
+      after-alike r n n fs k f g s m l refl refl
+      (λ p h. tried-alike r n n fs k f g s p refl
+      (λ t. e (chosen m l) p (chosen-in m l) (tries-out r o (signals 6 n s) (chosen m l) p h) (opens-fits r n k s p (is→T (opens r n k s p) t))))
 
-  pub deep : (d e : ℕ) (s : List Mono) → Ascending before s → length s ≤ k → k < length s + d → k < length s + e → opened n fs k d s ≡ opened n fs k e s
+  pub deep : (d e : ℕ) (s : List Mono) → Ascending before s → length s ≤ k → k < length s + d → k < length s + e → opened r n fs k d s ≡ opened r n fs k e s
   unfolding opened
-  deep zero e s a r h i = let z : ⊥ = omega arith in absurd z
-  deep (suc d) zero s a r h i = let z : ⊥ = omega arith in absurd z
-  deep (suc d) (suc e) s a r h i =
-      after-same (opened n fs k d) (opened n fs k e) s (missing n fs s)
-      (λ m j p q f.
+  deep zero e s a l h i = let z : ⊥ = omega arith in absurd z
+  deep (suc d) zero s a l h i = let z : ⊥ = omega arith in absurd z
+  deep (suc d) (suc e) s a l h i =
+      after-same (opened r n fs k d) (opened r n fs k e) s (missing n fs s)
+      (λ m p j q f.
       let w : length s < length (child n s p) = split-longer n fs s m a j p q in
       deep d e (child n s p) (child-asc n s p a) f (omega arith) (omega arith))

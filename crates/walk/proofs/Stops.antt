@@ -11,75 +11,75 @@ use lib.ListN.{length, take}
 use Rattle.monomial.specs.Monomial.{Mono}
 use Rattle.monomial.proofs.Tests.{Tested, passed, failed, test}
 use Rattle.wiring.specs.Poly.{Poly}
-use Rattle.walk.specs.Walk.{Finds, Step, level, walked, Run, ended, spent, full, run}
+use Rattle.walk.specs.Walk.{Finds, Rules, Step, level, walked, Run, ended, spent, full, run}
 use Rattle.walk.specs.Plan.{Ending, done, none, fullAt, spentAt, settled, levels, plan}
 use Rattle.walk.proofs.Runs.{distinct, RunEnds, RunStops, RunFills, RunFate, run-exact}
 
 -- ---- the levels
 -- no level below k has a find
-abbrev pub Barren : ℕ → List (Poly Mono) → ℕ → Type 0
-Barren n fs k = (i : ℕ) → i < k → distinct (level n fs i) ≡ []
+abbrev pub Barren : Rules → ℕ → List (Poly Mono) → ℕ → Type 0
+Barren r n fs k = (i : ℕ) → i < k → distinct (level r n fs i) ≡ []
 
-module _ (n : ℕ) (fs : List (Poly Mono)) where
-  walked-next : (k : ℕ) → walked n fs (suc k) ≡ walked n fs k + length (level n fs k)
+module _ (r : Rules) (n : ℕ) (fs : List (Poly Mono)) where
+  walked-next : (k : ℕ) → walked r n fs (suc k) ≡ walked r n fs k + length (level r n fs k)
   unfolding walked
   walked-next k = refl
 
-  walked-grows : (a d : ℕ) → walked n fs a ≤ walked n fs (a + d)
+  walked-grows : (a d : ℕ) → walked r n fs a ≤ walked r n fs (a + d)
   walked-grows a zero = let e : a + 0 ≡ a = omega arith in rw e (omega arith)
   walked-grows a (suc d) =
       let e : a + suc d ≡ suc (a + d) = omega arith in
-      let ih : walked n fs a ≤ walked n fs (a + d) = walked-grows a d in
-      let next : walked n fs (suc (a + d)) ≡ walked n fs (a + d) + length (level n fs (a + d)) = walked-next (a + d) in
+      let ih : walked r n fs a ≤ walked r n fs (a + d) = walked-grows a d in
+      let next : walked r n fs (suc (a + d)) ≡ walked r n fs (a + d) + length (level r n fs (a + d)) = walked-next (a + d) in
       rw e (omega arith)
 
-  pub walked-more : (a b : ℕ) → a ≤ b → walked n fs a ≤ walked n fs b
-  walked-more a b h = let e : a + (b - a) ≡ b = omega arith in subst (λ (x : ℕ). walked n fs a ≤ walked n fs x) e (walked-grows a (b - a))
+  pub walked-more : (a b : ℕ) → a ≤ b → walked r n fs a ≤ walked r n fs b
+  walked-more a b h = let e : a + (b - a) ≡ b = omega arith in subst (λ (x : ℕ). walked r n fs a ≤ walked r n fs x) e (walked-grows a (b - a))
 
-  barren-next : (k : ℕ) → Barren n fs k → distinct (level n fs k) ≡ [] → Barren n fs (suc k)
+  barren-next : (k : ℕ) → Barren r n fs k → distinct (level r n fs k) ≡ [] → Barren r n fs (suc k)
   barren-next k b e i h = go (test (leb k i))
     where
-      go : Tested (leb k i) → distinct (level n fs i) ≡ []
+      go : Tested (leb k i) → distinct (level r n fs i) ≡ []
       go (passed p) = let j : k ≤ i = leb-true k i p in let q : i ≡ k = omega arith in rw q e
       go (failed p) = b i (leb-false k i p)
 
-module _ (n : ℕ) (fs : List (Poly Mono)) (limit room cap : ℕ) where
+module _ (r : Rules) (n : ℕ) (fs : List (Poly Mono)) (limit room cap : ℕ) where
   -- level j is the first with a find, it is walked to its end within the limit, and its sets have room
   pub record Ends (j u : ℕ) (l : Finds) : Type 0 where
     pub low : j ≤ cap
-    pub barren : Barren n fs j
-    pub steps : u ≡ walked n fs (suc j)
+    pub barren : Barren r n fs j
+    pub steps : u ≡ walked r n fs (suc j)
     pub within : u ≤ limit
-    pub sets : l ≡ distinct (level n fs j)
+    pub sets : l ≡ distinct (level r n fs j)
     pub some : l ≡ [] → ⊥
     pub roomy : length l ≤ room
 
   -- all levels up to the cap are walked within the limit, and none has a find
   pub record Lacks (j u : ℕ) : Type 0 where
     pub last : j ≡ suc cap
-    pub barren : Barren n fs j
-    pub steps : u ≡ walked n fs j
+    pub barren : Barren r n fs j
+    pub steps : u ≡ walked r n fs j
     pub within : u ≤ limit
 
   -- level j is the first with a find, and step number u, within the limit, finds there the first set for which there is no room
   pub record Fills (j u : ℕ) : Type 0 where
     pub low : j ≤ cap
-    pub barren : Barren n fs j
+    pub barren : Barren r n fs j
     pub at : ℕ
-    pub inside : at < length (level n fs j)
-    pub steps : u ≡ walked n fs j + suc at
+    pub inside : at < length (level r n fs j)
+    pub steps : u ≡ walked r n fs j + suc at
     pub within : u ≤ limit
-    pub filled : length (distinct (take at (level n fs j))) ≡ room
-    pub more : length (distinct (take (suc at) (level n fs j))) ≡ suc room
+    pub filled : length (distinct (take at (level r n fs j))) ≡ room
+    pub more : length (distinct (take (suc at) (level r n fs j))) ≡ suc room
 
   -- no level below j has a find, the step that would pass the limit is one of level j, and the sets found up to the limit have room
   pub record Spends (j u : ℕ) : Type 0 where
     pub low : j ≤ cap
-    pub barren : Barren n fs j
+    pub barren : Barren r n fs j
     pub steps : u ≡ limit
-    pub reached : walked n fs j ≤ limit
-    pub over : limit < walked n fs (suc j)
-    pub roomy : length (distinct (take (limit - walked n fs j) (level n fs j))) ≤ room
+    pub reached : walked r n fs j ≤ limit
+    pub over : limit < walked r n fs (suc j)
+    pub roomy : length (distinct (take (limit - walked r n fs j) (level r n fs j))) ≤ room
 
   abbrev pub Fate : Ending → Type 0
   Fate (done j u l) = Ends j u l
@@ -94,34 +94,34 @@ module _ (n : ℕ) (fs : List (Poly Mono)) (limit room cap : ℕ) where
   levelOf (spentAt j u) = j
 
   -- ---- what the levels come to has its fate
-  levels-fate : (left k : ℕ) → k + left ≡ suc cap → Barren n fs k → walked n fs k ≤ limit → Fate (levels n fs limit room left k (walked n fs k))
+  levels-fate : (left k : ℕ) → k + left ≡ suc cap → Barren r n fs k → walked r n fs k ≤ limit → Fate (levels r n fs limit room left k (walked r n fs k))
   unfolding levels settled
   levels-fate zero k c b h = record { last = omega arith; barren = b; steps = refl; within = h }
   levels-fate (suc left) k c b h =
-      go (run limit room steps (walked n fs k) []) (run-exact limit room steps (walked n fs k) [] _ h (omega arith) .0 refl) (levels-fate left (suc k) (omega arith))
+      go (run limit room steps (walked r n fs k) []) (run-exact limit room steps (walked r n fs k) [] _ h (omega arith) .0 refl) (levels-fate left (suc k) (omega arith))
     where
       steps : List Step
-      steps = level n fs k
+      steps = level r n fs k
 
-      go : (r : Run) → RunFate limit room (level n fs k) (walked n fs k) [] r
-          → (Barren n fs (suc k) → walked n fs (suc k) ≤ limit → Fate (levels n fs limit room left (suc k) (walked n fs (suc k))))
-          → Fate (settled n fs limit room k (levels n fs limit room left (suc k)) r)
+      go : (y : Run) → RunFate limit room (level r n fs k) (walked r n fs k) [] y
+          → (Barren r n fs (suc k) → walked r n fs (suc k) ≤ limit → Fate (levels r n fs limit room left (suc k) (walked r n fs (suc k))))
+          → Fate (settled limit k (levels r n fs limit room left (suc k)) y)
       go (ended t []) f ih =
-          let e : walked n fs (suc k) ≡ t = walked-next n fs k ∙ sym (f .steps) in
-          let w : walked n fs (suc k) ≤ limit = subst (λ (x : ℕ). x ≤ limit) (sym e) (f .within) in
-          subst (λ (x : ℕ). Fate (levels n fs limit room left (suc k) x)) e (ih (barren-next n fs k b (sym (f .sets))) w)
+          let e : walked r n fs (suc k) ≡ t = walked-next r n fs k ∙ sym (f .steps) in
+          let w : walked r n fs (suc k) ≤ limit = subst (λ (x : ℕ). x ≤ limit) (sym e) (f .within) in
+          subst (λ (x : ℕ). Fate (levels r n fs limit room left (suc k) x)) e (ih (barren-next r n fs k b (sym (f .sets))) w)
       go (ended t (s ∷ l)) f ih = record {
         low = omega arith;
         barren = b;
-        steps = f .steps ∙ sym (walked-next n fs k);
+        steps = f .steps ∙ sym (walked-next r n fs k);
         within = f .within;
         sets = f .sets;
         some = λ e. let z : _≡_ {A = ℕ} 0 1 = cc in omega arith;
         roomy = f .roomy;
       }
       go spent f ih =
-          let o : limit < walked n fs k + length (level n fs k) = f .over in
-          record { low = omega arith; barren = b; steps = refl; reached = h; over = omega (arith, walked-next n fs k); roomy = f .roomy }
+          let o : limit < walked r n fs k + length (level r n fs k) = f .over in
+          record { low = omega arith; barren = b; steps = refl; reached = h; over = omega (arith, walked-next r n fs k); roomy = f .roomy }
       go (full t) f ih = record {
         low = omega arith;
         barren = b;
@@ -133,63 +133,63 @@ module _ (n : ℕ) (fs : List (Poly Mono)) (limit room cap : ℕ) where
         more = f .more;
       }
 
-  pub fate : Fate (plan n fs limit room cap)
+  pub fate : Fate (plan r n fs limit room cap)
   unfolding plan walked
   fate = levels-fate (suc cap) 0 (omega arith) (λ i h. let z : ⊥ = omega arith in absurd z) (omega arith)
 
   -- ---- and a fate is that of one ending
-  reached-of : (e : Ending) → Fate e → walked n fs (levelOf e) ≤ limit
+  reached-of : (e : Ending) → Fate e → walked r n fs (levelOf e) ≤ limit
   reached-of (done j u l) f =
       let w : u ≤ limit = f .within in
-      let s : u ≡ walked n fs (suc j) = f .steps in
-      omega (arith, walked-more n fs j (suc j) (omega arith))
-  reached-of (none j u) f = let w : u ≤ limit = f .within in let s : u ≡ walked n fs j = f .steps in omega arith
-  reached-of (fullAt j u) f = let w : u ≤ limit = f .within in let s : u ≡ walked n fs j + suc (f .at) = f .steps in omega arith
+      let s : u ≡ walked r n fs (suc j) = f .steps in
+      omega (arith, walked-more r n fs j (suc j) (omega arith))
+  reached-of (none j u) f = let w : u ≤ limit = f .within in let s : u ≡ walked r n fs j = f .steps in omega arith
+  reached-of (fullAt j u) f = let w : u ≤ limit = f .within in let s : u ≡ walked r n fs j + suc (f .at) = f .steps in omega arith
   reached-of (spentAt j u) f = f .reached
 
-  barren-of : (e : Ending) → Fate e → Barren n fs (levelOf e)
+  barren-of : (e : Ending) → Fate e → Barren r n fs (levelOf e)
   barren-of (done j u l) f = f .barren
   barren-of (none j u) f = f .barren
   barren-of (fullAt j u) f = f .barren
   barren-of (spentAt j u) f = f .barren
 
   abbrev runOf : ℕ → Run
-  runOf k = run limit room (level n fs k) (walked n fs k) []
+  runOf k = run limit room (level r n fs k) (walked r n fs k) []
 
-  run-is : (k : ℕ) (r : Run) → walked n fs k ≤ limit → RunFate limit room (level n fs k) (walked n fs k) [] r → runOf k ≡ r
-  run-is k r h f = run-exact limit room (level n fs k) (walked n fs k) [] r h (omega arith) .1 f
+  run-is : (k : ℕ) (y : Run) → walked r n fs k ≤ limit → RunFate limit room (level r n fs k) (walked r n fs k) [] y → runOf k ≡ y
+  run-is k y h f = run-exact limit room (level r n fs k) (walked r n fs k) [] y h (omega arith) .1 f
 
   -- a level without a find is passed
-  level-passed : (k : ℕ) → walked n fs (suc k) ≤ limit → distinct (level n fs k) ≡ [] → runOf k ≡ ended (walked n fs (suc k)) []
+  level-passed : (k : ℕ) → walked r n fs (suc k) ≤ limit → distinct (level r n fs k) ≡ [] → runOf k ≡ ended (walked r n fs (suc k)) []
   level-passed k h e =
-      run-is k (ended (walked n fs (suc k)) []) (omega (arith, walked-more n fs k (suc k) (omega arith)))
-      (record { steps = walked-next n fs k; within = h; sets = sym e; roomy = omega arith })
+      run-is k (ended (walked r n fs (suc k)) []) (omega (arith, walked-more r n fs k (suc k) (omega arith)))
+      (record { steps = walked-next r n fs k; within = h; sets = sym e; roomy = omega arith })
 
   -- at its own level an ending is what the run comes to
   abbrev here : ℕ → (ℕ → Ending) → Ending
-  here k next = settled n fs limit room k next (runOf k)
+  here k next = settled limit k next (runOf k)
 
   here-done : (k u : ℕ) (l : Finds) (next : ℕ → Ending) → Ends k u l → here k next ≡ done k u l
   unfolding settled
   here-done k u [] next f = absurd (f .some refl)
   here-done k u (s ∷ l) next f =
-      let r : RunEnds limit room (level n fs k) (walked n fs k) [] u (s ∷ l) =
-      record { steps = f .steps ∙ walked-next n fs k; within = f .within; sets = f .sets; roomy = f .roomy } in
-      ap (settled n fs limit room k next) (run-is k (ended u (s ∷ l)) (reached-of (done k u (s ∷ l)) f) r)
+      let y : RunEnds limit room (level r n fs k) (walked r n fs k) [] u (s ∷ l) =
+      record { steps = f .steps ∙ walked-next r n fs k; within = f .within; sets = f .sets; roomy = f .roomy } in
+      ap (settled limit k next) (run-is k (ended u (s ∷ l)) (reached-of (done k u (s ∷ l)) f) y)
 
   here-full : (k u : ℕ) (next : ℕ → Ending) → Fills k u → here k next ≡ fullAt k u
   unfolding settled
   here-full k u next f =
-      let r : RunFills limit room (level n fs k) (walked n fs k) [] u =
+      let y : RunFills limit room (level r n fs k) (walked r n fs k) [] u =
       record { at = f .at; inside = f .inside; steps = f .steps; within = f .within; filled = f .filled; more = f .more } in
-      ap (settled n fs limit room k next) (run-is k (full u) (reached-of (fullAt k u) f) r)
+      ap (settled limit k next) (run-is k (full u) (reached-of (fullAt k u) f) y)
 
   here-spent : (k u : ℕ) (next : ℕ → Ending) → Spends k u → here k next ≡ spentAt k u
   unfolding settled
   here-spent k u next f =
-      let o : limit < walked n fs (suc k) = f .over in
-      let r : RunStops limit room (level n fs k) (walked n fs k) [] = record { over = omega (arith, walked-next n fs k); roomy = f .roomy } in
-      ap (settled n fs limit room k next) (run-is k spent (f .reached) r) ∙ ap (spentAt k) (sym (f .steps))
+      let o : limit < walked r n fs (suc k) = f .over in
+      let y : RunStops limit room (level r n fs k) (walked r n fs k) [] = record { over = omega (arith, walked-next r n fs k); roomy = f .roomy } in
+      ap (settled limit k next) (run-is k spent (f .reached) y) ∙ ap (spentAt k) (sym (f .steps))
 
   here-is : (k : ℕ) (next : ℕ → Ending) (e : Ending) → k ≤ cap → levelOf e ≡ k → Fate e → here k next ≡ e
   here-is k next (done j u l) h q f = rw (sym q) (here-done j u l next f)
@@ -198,41 +198,41 @@ module _ (n : ℕ) (fs : List (Poly Mono)) (limit room cap : ℕ) where
   here-is k next (spentAt j u) h q f = rw (sym q) (here-spent j u next f)
 
   -- beyond the cap there is none
-  beyond-is : (k : ℕ) (e : Ending) → k ≡ suc cap → k ≤ levelOf e → Fate e → none k (walked n fs k) ≡ e
+  beyond-is : (k : ℕ) (e : Ending) → k ≡ suc cap → k ≤ levelOf e → Fate e → none k (walked r n fs k) ≡ e
   beyond-is k (done j u l) c h f = let s : j ≤ cap = f .low in let z : ⊥ = omega arith in absurd z
   beyond-is k (none j u) c h f = let q : k ≡ j = c ∙ sym (f .last) in rw q (ap (none j) (sym (f .steps)))
   beyond-is k (fullAt j u) c h f = let s : j ≤ cap = f .low in let z : ⊥ = omega arith in absurd z
   beyond-is k (spentAt j u) c h f = let s : j ≤ cap = f .low in let z : ⊥ = omega arith in absurd z
 
-  levels-is : (left k : ℕ) (e : Ending) → k + left ≡ suc cap → k ≤ levelOf e → Fate e → levels n fs limit room left k (walked n fs k) ≡ e
+  levels-is : (left k : ℕ) (e : Ending) → k + left ≡ suc cap → k ≤ levelOf e → Fate e → levels r n fs limit room left k (walked r n fs k) ≡ e
   unfolding levels settled
   levels-is zero k e c h f = beyond-is k e (omega arith) h f
   levels-is (suc left) k e c h f = go (test (leb (suc k) (levelOf e))) (levels-is left (suc k) e (omega arith))
     where
-      go : Tested (leb (suc k) (levelOf e)) → (suc k ≤ levelOf e → Fate e → levels n fs limit room left (suc k) (walked n fs (suc k)) ≡ e)
-          → here k (levels n fs limit room left (suc k)) ≡ e
+      go : Tested (leb (suc k) (levelOf e)) → (suc k ≤ levelOf e → Fate e → levels r n fs limit room left (suc k) (walked r n fs (suc k)) ≡ e)
+          → here k (levels r n fs limit room left (suc k)) ≡ e
       go (passed p) ih =
           let above : suc k ≤ levelOf e = leb-true (suc k) (levelOf e) p in
-          let r : walked n fs (levelOf e) ≤ limit = reached-of e f in
-          let m : walked n fs (suc k) ≤ walked n fs (levelOf e) = walked-more n fs (suc k) (levelOf e) above in
-          ap (settled n fs limit room k (levels n fs limit room left (suc k))) (level-passed k (omega arith) (barren-of e f k above)) ∙ ih above f
-      go (failed p) ih = let w : levelOf e < suc k = leb-false (suc k) (levelOf e) p in here-is k (levels n fs limit room left (suc k)) e (omega arith) (omega arith) f
+          let y : walked r n fs (levelOf e) ≤ limit = reached-of e f in
+          let m : walked r n fs (suc k) ≤ walked r n fs (levelOf e) = walked-more r n fs (suc k) (levelOf e) above in
+          ap (settled limit k (levels r n fs limit room left (suc k))) (level-passed k (omega arith) (barren-of e f k above)) ∙ ih above f
+      go (failed p) ih = let w : levelOf e < suc k = leb-false (suc k) (levelOf e) p in here-is k (levels r n fs limit room left (suc k)) e (omega arith) (omega arith) f
 
   -- each ending comes exactly under its condition
-  pub fate-exact : (e : Ending) → (plan n fs limit room cap ≡ e) ↔ Fate e
+  pub fate-exact : (e : Ending) → (plan r n fs limit room cap ≡ e) ↔ Fate e
   unfolding plan walked
   fate-exact e = ((λ p. subst Fate p fate), (λ f. levels-is (suc cap) 0 e (omega arith) (omega arith) f))
 
-  pub done-exact : (j u : ℕ) (l : Finds) → (plan n fs limit room cap ≡ done j u l) ↔ Ends j u l
+  pub done-exact : (j u : ℕ) (l : Finds) → (plan r n fs limit room cap ≡ done j u l) ↔ Ends j u l
   done-exact j u l = fate-exact (done j u l)
 
-  pub none-exact : (j u : ℕ) → (plan n fs limit room cap ≡ none j u) ↔ Lacks j u
+  pub none-exact : (j u : ℕ) → (plan r n fs limit room cap ≡ none j u) ↔ Lacks j u
   none-exact j u = fate-exact (none j u)
 
-  pub full-exact : (j u : ℕ) → (plan n fs limit room cap ≡ fullAt j u) ↔ Fills j u
+  pub full-exact : (j u : ℕ) → (plan r n fs limit room cap ≡ fullAt j u) ↔ Fills j u
   full-exact j u = fate-exact (fullAt j u)
 
-  pub spent-exact : (j u : ℕ) → (plan n fs limit room cap ≡ spentAt j u) ↔ Spends j u
+  pub spent-exact : (j u : ℕ) → (plan r n fs limit room cap ≡ spentAt j u) ↔ Spends j u
   spent-exact j u = fate-exact (spentAt j u)
 
 -- ---- what the limit does
@@ -242,11 +242,11 @@ stepsOf (none j u) = u
 stepsOf (fullAt j u) = u
 stepsOf (spentAt j u) = u
 
-module _ (n : ℕ) (fs : List (Poly Mono)) (room cap : ℕ) where
+module _ (r : Rules) (n : ℕ) (fs : List (Poly Mono)) (room cap : ℕ) where
   -- the plan under a limit that allows every step of every level: it ends after the first find that has no room, or else after all steps
   -- up to and with the first level that has a find, or up to the cap
   abbrev pub endless : Ending
-  endless = plan n fs (walked n fs (suc cap)) room cap
+  endless = plan r n fs (walked r n fs (suc cap)) room cap
 
   abbrev Lasting : Ending → Type 0
   Lasting (done j u l) = Unit {0}
@@ -255,7 +255,7 @@ module _ (n : ℕ) (fs : List (Poly Mono)) (room cap : ℕ) where
   Lasting (spentAt j u) = ⊥
 
   -- under another limit that allows its steps an ending is the same, unless it is spent
-  relimit : (a b : ℕ) (e : Ending) → Lasting e → stepsOf e ≤ b → Fate n fs a room cap e → Fate n fs b room cap e
+  relimit : (a b : ℕ) (e : Ending) → Lasting e → stepsOf e ≤ b → Fate r n fs a room cap e → Fate r n fs b room cap e
   relimit a b (done j u l) t h f = record { low = f .low; barren = f .barren; steps = f .steps; within = h; sets = f .sets; some = f .some; roomy = f .roomy }
   relimit a b (none j u) t h f = record { last = f .last; barren = f .barren; steps = f .steps; within = h }
   relimit a b (fullAt j u) t h f = record {
@@ -270,53 +270,53 @@ module _ (n : ℕ) (fs : List (Poly Mono)) (room cap : ℕ) where
   }
   relimit a b (spentAt j u) t h f = absurd t
 
-  steps-bound : (a : ℕ) (e : Ending) → Lasting e → Fate n fs a room cap e → stepsOf e ≤ walked n fs (suc cap)
+  steps-bound : (a : ℕ) (e : Ending) → Lasting e → Fate r n fs a room cap e → stepsOf e ≤ walked r n fs (suc cap)
   steps-bound a (done j u l) t f =
-      let s : u ≡ walked n fs (suc j) = f .steps in
+      let s : u ≡ walked r n fs (suc j) = f .steps in
       let low : j ≤ cap = f .low in
-      omega (arith, walked-more n fs (suc j) (suc cap) (omega arith))
-  steps-bound a (none j u) t f = let e : u ≡ walked n fs (suc cap) = f .steps ∙ ap (walked n fs) (f .last) in omega arith
+      omega (arith, walked-more r n fs (suc j) (suc cap) (omega arith))
+  steps-bound a (none j u) t f = let e : u ≡ walked r n fs (suc cap) = f .steps ∙ ap (walked r n fs) (f .last) in omega arith
   steps-bound a (fullAt j u) t f =
-      let s : u ≡ walked n fs j + suc (f .at) = f .steps in
-      let i : f .at < length (level n fs j) = f .inside in
+      let s : u ≡ walked r n fs j + suc (f .at) = f .steps in
+      let i : f .at < length (level r n fs j) = f .inside in
       let low : j ≤ cap = f .low in
-      omega (arith, walked-next n fs j, walked-more n fs (suc j) (suc cap) (omega arith))
+      omega (arith, walked-next r n fs j, walked-more r n fs (suc j) (suc cap) (omega arith))
   steps-bound a (spentAt j u) t f = absurd t
 
-  endless-lasts : (e : Ending) → Fate n fs (walked n fs (suc cap)) room cap e → Lasting e
+  endless-lasts : (e : Ending) → Fate r n fs (walked r n fs (suc cap)) room cap e → Lasting e
   endless-lasts (done j u l) f = tt
   endless-lasts (none j u) f = tt
   endless-lasts (fullAt j u) f = tt
   endless-lasts (spentAt j u) f =
-      let o : walked n fs (suc cap) < walked n fs (suc j) = f .over in
+      let o : walked r n fs (suc cap) < walked r n fs (suc j) = f .over in
       let low : j ≤ cap = f .low in
-      omega (arith, walked-more n fs (suc j) (suc cap) (omega arith))
+      omega (arith, walked-more r n fs (suc j) (suc cap) (omega arith))
 
   -- a limit that allows the steps of the endless plan changes nothing
-  pub limit-allows : (limit : ℕ) → stepsOf endless ≤ limit → plan n fs limit room cap ≡ endless
+  pub limit-allows : (limit : ℕ) → stepsOf endless ≤ limit → plan r n fs limit room cap ≡ endless
   limit-allows limit h =
-      let own : Fate n fs (walked n fs (suc cap)) room cap endless = fate n fs (walked n fs (suc cap)) room cap in
-      fate-exact n fs limit room cap endless .1 (relimit (walked n fs (suc cap)) limit endless (endless-lasts endless own) h own)
+      let own : Fate r n fs (walked r n fs (suc cap)) room cap endless = fate r n fs (walked r n fs (suc cap)) room cap in
+      fate-exact r n fs limit room cap endless .1 (relimit (walked r n fs (suc cap)) limit endless (endless-lasts endless own) h own)
 
   pub record SpentBy (limit : ℕ) : Type 0 where
     pub level : ℕ
-    pub is : plan n fs limit room cap ≡ spentAt level limit
+    pub is : plan r n fs limit room cap ≡ spentAt level limit
 
   -- and any lower limit is spent
   pub limit-spends : (limit : ℕ) → limit < stepsOf endless → SpentBy limit
-  limit-spends limit h = go (plan n fs limit room cap) refl
+  limit-spends limit h = go (plan r n fs limit room cap) refl
     where
-      lasting : (e : Ending) → plan n fs limit room cap ≡ e → Lasting e → stepsOf e ≤ limit → SpentBy limit
+      lasting : (e : Ending) → plan r n fs limit room cap ≡ e → Lasting e → stepsOf e ≤ limit → SpentBy limit
       lasting e p t w =
-          let f : Fate n fs limit room cap e = fate-exact n fs limit room cap e .0 p in
-          let all : ℕ = walked n fs (suc cap) in
-          let same : endless ≡ e = fate-exact n fs all room cap e .1 (relimit limit all e t (steps-bound limit e t f) f) in
+          let f : Fate r n fs limit room cap e = fate-exact r n fs limit room cap e .0 p in
+          let all : ℕ = walked r n fs (suc cap) in
+          let same : endless ≡ e = fate-exact r n fs all room cap e .1 (relimit limit all e t (steps-bound limit e t f) f) in
           let steps : stepsOf endless ≡ stepsOf e = ap stepsOf same in
           let z : ⊥ = omega arith in
           absurd z
 
-      go : (e : Ending) → plan n fs limit room cap ≡ e → SpentBy limit
-      go (done j u l) p = lasting (done j u l) p tt (done-exact n fs limit room cap j u l .0 p .within)
-      go (none j u) p = lasting (none j u) p tt (none-exact n fs limit room cap j u .0 p .within)
-      go (fullAt j u) p = lasting (fullAt j u) p tt (full-exact n fs limit room cap j u .0 p .within)
-      go (spentAt j u) p = record { level = j; is = p ∙ ap (spentAt j) (spent-exact n fs limit room cap j u .0 p .steps) }
+      go : (e : Ending) → plan r n fs limit room cap ≡ e → SpentBy limit
+      go (done j u l) p = lasting (done j u l) p tt (done-exact r n fs limit room cap j u l .0 p .within)
+      go (none j u) p = lasting (none j u) p tt (none-exact r n fs limit room cap j u .0 p .within)
+      go (fullAt j u) p = lasting (fullAt j u) p tt (full-exact r n fs limit room cap j u .0 p .within)
+      go (spentAt j u) p = record { level = j; is = p ∙ ap (spentAt j) (spent-exact r n fs limit room cap j u .0 p .steps) }

@@ -1,12 +1,11 @@
--- Unused variables change neither sets nor steps: records that are clean for n variables plan alike for any larger number. The further
--- variables have no derivative, and no monomial that the walk meets holds them. Assumes nothing.
+-- Unused variables change neither sets nor steps, by rules that heed none of them: records that are clean for n variables plan alike for any
+-- larger number. The further variables have no derivative, and no monomial that the walk meets holds them. Assumes nothing.
 use mathlib.Core.Path.{_≡_, refl, sym, ap, _∙_, subst}
 use mathlib.Core.Logic.{⊎-elim}
 use mathlib.Core.Bool.{cond}
 use mathlib.Core.List.{List, [], _∷_, List·Memᴰ·head, List·Memᴰ·cases-cons, List·Memᴰ·not-nil, Memᴰ·of-map}
 use Prim.Native.Nat.{ℕ, zero, suc, _-_, _/_, _<_, _≤_}
 use native.Mathlib.Omega.{arith}
-use borrow.Author.Tests.{leb-true}
 use lib.Dec.{T, leb}
 use lib.ListN.{length, getD, take}
 use Rattle.monomial.specs.Lists.{any}
@@ -15,7 +14,7 @@ use Rattle.monomial.specs.Order.{same}
 use Rattle.monomial.specs.Product.{mul}
 use Rattle.monomial.specs.Quotient.{divides}
 use Rattle.monomial.specs.Divisors.{pairs}
-use Rattle.monomial.proofs.Tests.{Tested, passed, failed, test, same-test}
+use Rattle.monomial.proofs.Tests.{is→T, same-test}
 use Rattle.monomial.proofs.Members.{_∈_, there, take-in}
 use Rattle.monomial.proofs.order.Laws.{mono-order}
 use Rattle.monomial.proofs.order.Ascending.{_⊆_, sub-length, sub-equal, among-in, among-out}
@@ -37,12 +36,12 @@ use Rattle.wiring.proofs.terms.Exact.{Keeps, Alike, Flawless, clean-exact}
 use Rattle.wiring.proofs.answers.Exact.{count-in, beyond}
 use Rattle.wiring.proofs.terms.Laws.{Fields, fields-out, clean-right, clean-widens}
 use Rattle.wiring.proofs.signals.Laws.{base, base-in, set-in, signals-cases}
-use Rattle.walk.specs.Walk.{added, child, Step, other, tried, after, opened, level, Run, ended, spent, full, run}
+use Rattle.walk.specs.Walk.{Rules, bare, added, child, Step, opens, ends, tried, after, opened, level, Run, ended, spent, full, run}
 use Rattle.walk.specs.Plan.{Ending, settled, levels, plan, settingsRight, planned}
 use Rattle.walk.proofs.children.Laws.{chosen-in, signals-wide, Grown, old, left, right, child-out, nonsquare-wide}
-use Rattle.walk.proofs.Steps.{gather-same}
-use Rattle.walk.proofs.Complete.{Wide}
-use Rattle.walk.proofs.Sound.{Within, one-within, within-divides, within-base, Proper, gap-within, keeps-proper}
+use Rattle.walk.proofs.Steps.{tried-alike, after-alike}
+use Rattle.walk.proofs.Rules.{Wide, Orderly, tries-out, bare-orderly}
+use Rattle.walk.proofs.Sound.{Within, one-within, within-divides, within-base, Proper, empty-proper, gap-within, keeps-proper}
 
 -- the first entries are among more of them
 take-more : {A : Type 0} (a b : ℕ) (l : List A) → a ≤ b → {x : A} → x ∈ take a l → x ∈ take b l
@@ -67,6 +66,23 @@ raised-within (suc n) (suc w) i z h k r =
 constant-within : (n i : ℕ) (z : Mono) → z ∈ constants 6 → i < n → 0 < getD z i 0 → Within n z
 constant-within n i z h k r = ⊎-elim (λ e. rw e (one-within n 6)) (λ j. raised-within n 6 i z j k r) (List·Memᴰ·cases-cons h)
 
+-- V has more in it, but nothing more that says nothing of the further variables
+module _ (n b : ℕ) (more : n ≤ b) (s : List Mono) where
+  grow : signals 6 n s ⊆ signals 6 b s
+  grow x h = ⊎-elim (λ j. base-in b s (take-more (suc n) (suc b) (constants 6) (omega arith) j)) (λ j. set-in b s j) (signals-cases n s h)
+
+  shrink : (x : Mono) → x ∈ signals 6 b s → Within n x → x ∈ signals 6 n s
+  shrink x h w = ⊎-elim (λ j. base-in n s (within-base n x (take-in (suc b) (constants 6) j) w)) (λ j. set-in n s j) (signals-cases b s h)
+
+  pub signal-same : (x : Mono) → Within n x → any (same x) (signals 6 n s) ≡ any (same x) (signals 6 b s)
+  signal-same x w =
+      same-test (any (same x) (signals 6 n s)) (any (same x) (signals 6 b s))
+      (λ t. among-in mono-order (grow x (among-out mono-order x (signals 6 n s) t)))
+      (λ t. among-in mono-order (shrink x (among-out mono-order x (signals 6 b s) t) w))
+
+pub factor-within : (n : ℕ) (m x y : Mono) → Within n m → length x ≡ length y → mul x y ≡ m → Within n x
+factor-within n m x y w l e = within-divides n x m (subst (λ (z : Mono). T (divides x z)) e (factor-divides x y l)) w
+
 module _ (n b : ℕ) (terms : List ℕ) (more : n ≤ b) (few : b ≤ 6) (clean : fault n (records terms) ≡ Clean) where
   abbrev fs : List (Poly Mono)
   fs = system (records terms)
@@ -75,29 +91,19 @@ module _ (n b : ℕ) (terms : List ℕ) (more : n ≤ b) (few : b ≤ 6) (clean 
   six = clean-widens n (records terms) (omega arith) clean
 
   module _ (s : List Mono) (q : Proper n s) (wide : Wide s) where
-    -- V has more in it, but nothing more that says nothing of the further variables
-    grow : signals 6 n s ⊆ signals 6 b s
-    grow x h = ⊎-elim (λ j. base-in b s (take-more (suc n) (suc b) (constants 6) (omega arith) j)) (λ j. set-in b s j) (signals-cases n s h)
-
-    shrink : (x : Mono) → x ∈ signals 6 b s → Within n x → x ∈ signals 6 n s
-    shrink x h w = ⊎-elim (λ j. base-in n s (within-base n x (take-in (suc b) (constants 6) j) w)) (λ j. set-in n s j) (signals-cases b s h)
-
-    factor-within : (m x y : Mono) → Within n m → length x ≡ length y → mul x y ≡ m → Within n x
-    factor-within m x y w l e = within-divides n x m (subst (λ (z : Mono). T (divides x z)) e (factor-divides x y l)) w
-
     factors-grow : (m : Mono) → Factors plain mono-order (signals 6 n s) m → Factors plain mono-order (signals 6 b s) m
-    factors-grow m f = record { a = f .a; b = f .b; a-in = grow (f .a) (f .a-in); b-in = grow (f .b) (f .b-in); is = f .is }
+    factors-grow m f = record { a = f .a; b = f .b; a-in = grow n b more s (f .a) (f .a-in); b-in = grow n b more s (f .b) (f .b-in); is = f .is }
 
     factors-shrink : (m : Mono) → Within n m → Factors plain mono-order (signals 6 b s) m → Factors plain mono-order (signals 6 n s) m
     factors-shrink m w f =
         let long : length (f .a) ≡ length (f .b) = signals-wide b s wide (f .a) (f .a-in) ∙ sym (signals-wide b s wide (f .b) (f .b-in)) in
-        let first : Within n (f .a) = factor-within m (f .a) (f .b) w long (f .is) in
-        let second : Within n (f .b) = factor-within m (f .b) (f .a) w (sym long) (mul-comm (f .b) (f .a) ∙ f .is) in
-        record { a = f .a; b = f .b; a-in = shrink (f .a) (f .a-in) first; b-in = shrink (f .b) (f .b-in) second; is = f .is }
+        let first : Within n (f .a) = factor-within n m (f .a) (f .b) w long (f .is) in
+        let second : Within n (f .b) = factor-within n m (f .b) (f .a) w (sym long) (mul-comm (f .b) (f .a) ∙ f .is) in
+        record { a = f .a; b = f .b; a-in = shrink n b more s (f .a) (f .a-in) first; b-in = shrink n b more s (f .b) (f .b-in) second; is = f .is }
 
     -- a member of V whose derivative has a monomial holds a variable with a record
     derived-member : (z m : Mono) → z ∈ signals 6 b s → m ∈ support plain (derivative plain fs z) → z ∈ signals 6 n s
-    derived-member z m h k = shrink z h (⊎-elim constant (q .within z) (signals-cases b s h))
+    derived-member z m h k = shrink n b more s z h (⊎-elim constant (q .within z) (signals-cases b s h))
       where
         from : Derived (records terms) z m
         from = derived (records terms) z m (support-out plain mono-order (derivative plain fs z) m k .0)
@@ -118,7 +124,7 @@ module _ (n b : ℕ) (terms : List ℕ) (more : n ≤ b) (few : b ≤ 6) (clean 
         let u = unmet-out plain mono-order (signals 6 n s) (d (w .of)) m (w .missing) in
         let out : T (inV2 plain (signals 6 b s) m) → ⊥ = λ t.
         u .1 (inV2-in plain mono-order (signals 6 n s) m (factors-shrink m (gap-within n terms clean six s q m h) (inV2-out plain mono-order (signals 6 b s) m t))) in
-        nonsquares-in plain mono-order (signals 6 b s) d (w .of) m (grow (w .of) (w .of-in)) (unmet-in plain mono-order (signals 6 b s) (d (w .of)) m (u .0) out)
+        nonsquares-in plain mono-order (signals 6 b s) d (w .of) m (grow n b more s (w .of) (w .of-in)) (unmet-in plain mono-order (signals 6 b s) (d (w .of)) m (u .0) out)
 
     gaps-shrink : missing b fs s ⊆ missing n fs s
     gaps-shrink m h =
@@ -136,15 +142,9 @@ module _ (n b : ℕ) (terms : List ℕ) (more : n ≤ b) (few : b ≤ 6) (clean 
         let large = nonsquares-asc plain mono-order (signals 6 b s) (derivative plain fs) in
         sub-equal mono-order (missing n fs s) (missing b fs s) small large gaps-grow (sub-length mono-order (missing b fs s) (missing n fs s) large small gaps-shrink)
 
-    signal-same : (x : Mono) → Within n x → any (same x) (signals 6 n s) ≡ any (same x) (signals 6 b s)
-    signal-same x w =
-        same-test (any (same x) (signals 6 n s)) (any (same x) (signals 6 b s))
-        (λ t. among-in mono-order (grow x (among-out mono-order x (signals 6 n s) t)))
-        (λ t. among-in mono-order (shrink x (among-out mono-order x (signals 6 b s) t) w))
-
     child-same : (p : Mono × Mono) → Within n (p .0) → Within n (p .1) → child n s p ≡ child b s p
     unfolding child added
-    child-same p first second = rw (signal-same (p .0) first, signal-same (p .1) second)
+    child-same p first second = rw (signal-same n b more s (p .0) first, signal-same n b more s (p .1) second)
 
     -- ---- the children by a pair of a nonsquare
     module _ (m : Mono) (h : m ∈ missing n fs s) (p : Mono × Mono) (k : p ∈ pairs m) where
@@ -155,7 +155,7 @@ module _ (n b : ℕ) (terms : List ℕ) (more : n ≤ b) (few : b ≤ 6) (clean 
       pair-same =
           let w : Within n m = gap-within n terms clean six s q m h in
           let long : length (p .0) ≡ length (p .1) = two .left ∙ sym (two .right) in
-          child-same p (factor-within m (p .0) (p .1) w long (two .product)) (factor-within m (p .1) (p .0) w (sym long) (mul-comm (p .1) (p .0) ∙ two .product))
+          child-same p (factor-within n m (p .0) (p .1) w long (two .product)) (factor-within n m (p .1) (p .0) w (sym long) (mul-comm (p .1) (p .0) ∙ two .product))
 
       child-wide : Wide (child n s p)
       child-wide x i = go (child-out n s p i)
@@ -168,62 +168,101 @@ module _ (n b : ℕ) (terms : List ℕ) (more : n ≤ b) (few : b ≤ 6) (clean 
           go (left e f) = ap length e ∙ two .left ∙ six-of
           go (right e f) = ap length e ∙ two .right ∙ six-of
 
+settled-same : (limit k : ℕ) (f g : ℕ → Ending) (x : Run) → ((t : ℕ) → f t ≡ g t) → settled limit k f x ≡ settled limit k g x
+unfolding settled
+settled-same limit k f g (ended t []) e = e t
+settled-same limit k f g (ended t (s ∷ l)) e = refl
+settled-same limit k f g spent e = refl
+settled-same limit k f g (full t) e = refl
+
+-- ---- rules that heed no unused variable: of a set and nonsquares that hold none they say the same for n and for b variables
+pub record Heedless (r : Rules) (n b : ℕ) : Type 0 where
+  pub proper : Proper n (r .start)
+  pub wide : Wide (r .start)
+  pub closing : (room : ℕ) (s ns : List Mono) → Proper n s → Wide s → ((m : Mono) → m ∈ ns → Within n m) → Wide ns
+      → r .closed room (signals 6 n s) ns ≡ r .closed room (signals 6 b s) ns
+  pub trying : (s : List Mono) (m : Mono) → Proper n s → Wide s → Within n m → length m ≡ 6 → r .tries (signals 6 n s) m ≡ r .tries (signals 6 b s) m
+
+pub bare-heedless : (n b : ℕ) → Heedless bare n b
+bare-heedless n b = record {
+  proper = empty-proper n;
+  wide = λ x i. absurd (List·Memᴰ·not-nil i);
+  closing = λ room s ns q w i x. refl;
+  trying = λ s m q w i x. refl;
+}
+
+module _ (r : Rules) (o : Orderly r) (n b : ℕ) (heed : Heedless r n b) (terms : List ℕ) (more : n ≤ b) (few : b ≤ 6) (clean : fault n (records terms) ≡ Clean) where
+  abbrev system-of : List (Poly Mono)
+  system-of = system (records terms)
+
+  clean-6 : CleanTerms terms
+  clean-6 = clean-widens n (records terms) (omega arith) clean
+
   -- ---- the steps
-  module _ (k : ℕ) where
-    tried-same : (f g : List Mono → List Step) (s : List Mono) (p : Mono × Mono) → child n s p ≡ child b s p
-        → (length (child n s p) ≤ k → f (child n s p) ≡ g (child n s p)) → tried n fs k f s p ≡ tried b fs k g s p
-    unfolding tried
-    tried-same f g s p e h = go (child n s p) (child b s p) e h
-      where
-        go : (c c' : List Mono) → c ≡ c' → (length c ≤ k → f c ≡ g c) → other ∷ cond (leb (length c) k) (f c) [] ≡ other ∷ cond (leb (length c') k) (g c') []
-        go c c' e h = subst (λ (x : List Mono). other ∷ cond (leb (length c) k) (f c) [] ≡ other ∷ cond (leb (length x) k) (g x) []) e (own (test (leb (length c) k)))
-          where
-            own : Tested (leb (length c) k) → other ∷ cond (leb (length c) k) (f c) [] ≡ other ∷ cond (leb (length c) k) (g c) []
-            own (passed t) = rw t (ap (λ (r : List Step). other ∷ r) (h (leb-true (length c) k t)))
-            own (failed t) = rw t
+  module _ (k : ℕ) (s : List Mono) (q : Proper n s) (w : Wide s) where
+    gap-in : (m : Mono) → m ∈ missing n system-of s → Within n m
+    gap-in m h = gap-within n terms clean clean-6 s q m h
 
-    after-same : (f g : List Mono → List Step) (s l : List Mono) → ((m : Mono) → m ∈ l → (p : Mono × Mono) → p ∈ pairs m → tried n fs k f s p ≡ tried b fs k g s p)
-        → after n fs k f s l ≡ after b fs k g s l
+    gap-long : (m : Mono) → m ∈ missing n system-of s → length m ≡ 6
+    gap-long m h = nonsquare-wide terms clean-6 n s w m h
+
+    ends-same : ends r n k s (missing n system-of s) ≡ ends r b k s (missing n system-of s)
+    unfolding ends
+    ends-same = rw (heed .closing (k - length s) s (missing n system-of s) q w gap-in gap-long)
+
+    module _ (m : Mono) (h : m ∈ missing n system-of s) (p : Mono × Mono) (i : p ∈ pairs m) where
+      child-is : child n s p ≡ child b s p
+      child-is = pair-same n b terms more few clean s q w m h p i
+
+      part : (x y : Mono) → length x ≡ length y → mul x y ≡ m → any (same x) (signals 6 n s) ≡ any (same x) (signals 6 b s)
+      part x y l e = signal-same n b more s x (factor-within n m x y (gap-in m h) l e)
+
+      opens-same : opens r n k s p ≡ opens r b k s p
+      unfolding opens
+      opens-same =
+          let two : Splits p m = pairs-out p m i in
+          let long : length (p .0) ≡ length (p .1) = two .left ∙ sym (two .right) in
+          rw (part (p .0) (p .1) long (two .product), part (p .1) (p .0) (sym long) (mul-comm (p .1) (p .0) ∙ two .product), child-is)
+
+      tried-same : (f g : List Mono → List Step) → (T (opens r n k s p) → f (child n s p) ≡ g (child n s p)) → tried r n system-of k f s p ≡ tried r b system-of k g s p
+      tried-same f g e = tried-alike r n b system-of k f g s p opens-same (λ t. e (is→T (opens r n k s p) t) ∙ ap g child-is)
+
+    after-same : (f g : List Mono → List Step) (l : List Mono) → missing n system-of s ≡ l
+        → ((m : Mono) → m ∈ missing n system-of s → (p : Mono × Mono) → p ∈ pairs m → tried r n system-of k f s p ≡ tried r b system-of k g s p)
+        → after r n system-of k f s l ≡ after r b system-of k g s l
     unfolding after
-    after-same f g s [] e = refl
-    after-same f g s (m ∷ l) e =
-        ap (λ (r : List Step). other ∷ cond (leb k (length s)) [] r)
-        (gather-same (tried n fs k f s) (tried b fs k g s) (pairs (chosen m l)) (e (chosen m l) (chosen-in m l)))
+    after-same f g [] e h = refl
+    after-same f g (m ∷ l) e h =
+        let gap : chosen m l ∈ missing n system-of s = subst (λ x. chosen m l ∈ x) (sym e) (chosen-in m l) in
+        let stop : ends r n k s (m ∷ l) ≡ ends r b k s (m ∷ l) = subst (λ (x : List Mono). ends r n k s x ≡ ends r b k s x) e ends-same in
+        let order : r .tries (signals 6 n s) (chosen m l) ≡ r .tries (signals 6 b s) (chosen m l) = heed .trying s (chosen m l) q w (gap-in (chosen m l) gap) (gap-long (chosen m l) gap) in
+        after-alike r n b system-of k f g s m l stop order (λ p i. h (chosen m l) gap p (tries-out r o (signals 6 n s) (chosen m l) p i))
 
-    opened-same : (d : ℕ) (s : List Mono) → Proper n s → Wide s → opened n fs k d s ≡ opened b fs k d s
-    unfolding opened
-    opened-same zero s q w = refl
-    opened-same (suc d) s q w =
-        after-same (opened n fs k d) (opened b fs k d) s (missing n fs s)
-        (λ m h p i. tried-same (opened n fs k d) (opened b fs k d) s p (pair-same s q w m h p i)
-        (λ j. opened-same d (child n s p) (keeps-proper n terms clean six k s m p q h i j) (child-wide s q w m h p i)))
-        ∙ ap (after b fs k (opened b fs k d) s) (missing-same s q w)
+  opened-same : (k d : ℕ) (s : List Mono) → Proper n s → Wide s → opened r n system-of k d s ≡ opened r b system-of k d s
+  unfolding opened
+  opened-same k zero s q w = refl
+  opened-same k (suc d) s q w =
+      after-same k s q w (opened r n system-of k d) (opened r b system-of k d) (missing n system-of s) refl
+      (λ m h p i. tried-same k s q w m h p i (opened r n system-of k d) (opened r b system-of k d)
+      (λ j. opened-same k d (child n s p) (keeps-proper n terms clean clean-6 r k s m p q h i j) (child-wide n b terms more few clean s q w m h p i)))
+      ∙ ap (after r b system-of k (opened r b system-of k d) s) (missing-same n b terms more few clean s q w)
 
-  pub level-same : (k : ℕ) → level n fs k ≡ level b fs k
+  pub level-same : (k : ℕ) → level r n system-of k ≡ level r b system-of k
   unfolding level
-  level-same k =
-      opened-same k (suc k) []
-      (record { new = λ x i. absurd (List·Memᴰ·not-nil i); within = λ x i. absurd (List·Memᴰ·not-nil i) })
-      (λ x i. absurd (List·Memᴰ·not-nil i))
+  level-same k = ap (λ (x : List Step). cond (leb (length (r .start)) k) x []) (opened-same k (suc k) (r .start) (heed .proper) (heed .wide))
 
   -- ---- the plan
   module _ (limit room : ℕ) where
-    settled-same : (k : ℕ) (f g : ℕ → Ending) (r : Run) → ((t : ℕ) → f t ≡ g t) → settled n fs limit room k f r ≡ settled b fs limit room k g r
-    unfolding settled
-    settled-same k f g (ended t []) e = e t
-    settled-same k f g (ended t (s ∷ l)) e = refl
-    settled-same k f g spent e = refl
-    settled-same k f g (full t) e = refl
-
-    levels-same : (rest k taken : ℕ) → levels n fs limit room rest k taken ≡ levels b fs limit room rest k taken
+    levels-same : (rest k taken : ℕ) → levels r n system-of limit room rest k taken ≡ levels r b system-of limit room rest k taken
     unfolding levels
     levels-same zero k taken = refl
     levels-same (suc rest) k taken =
-        settled-same k (levels n fs limit room rest (suc k)) (levels b fs limit room rest (suc k)) (run limit room (level n fs k) taken []) (levels-same rest (suc k))
-        ∙ ap (λ (es : List Step). settled b fs limit room k (levels b fs limit room rest (suc k)) (run limit room es taken [])) (level-same k)
+        settled-same limit k (levels r n system-of limit room rest (suc k)) (levels r b system-of limit room rest (suc k))
+        (run limit room (level r n system-of k) taken []) (levels-same rest (suc k))
+        ∙ ap (λ (es : List Step). settled limit k (levels r b system-of limit room rest (suc k)) (run limit room es taken [])) (level-same k)
 
     -- the sets, the steps and the level are the same
-    pub plan-same : (cap : ℕ) → plan n fs limit room cap ≡ plan b fs limit room cap
+    pub plan-same : (cap : ℕ) → plan r n system-of limit room cap ≡ plan r b system-of limit room cap
     unfolding plan
     plan-same cap = levels-same (suc cap) 0 0
 
@@ -256,4 +295,5 @@ unfolding planned settingsRight
 planned-same n b cap limit terms size low more few clean =
     let high : n ≤ 6 = omega arith in
     let low' : 1 ≤ b = omega arith in
-    rw (count-in n (low, high), count-in b (low', few), clean, clean-more n b (records terms) more clean, plan-same n b terms more few clean limit (size / 36) cap)
+    let plans = plan-same bare bare-orderly n b (bare-heedless n b) terms more few clean limit (size / 36) cap in
+    rw (count-in n (low, high), count-in b (low', few), clean, clean-more n b (records terms) more clean, plans)

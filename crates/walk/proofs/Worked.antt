@@ -19,7 +19,7 @@ use Rattle.wiring.specs.Terms.{records, lengthRight, exponentsRight, coefficien
 use Rattle.wiring.specs.Sets.{places, sizeOf, setOf, ascending, monomialRight, setRight, setRecord}
 use Rattle.wiring.specs.Wires.{firstOf, secondOf, row as rowOf, rowsFrom, wiring, wireRecord}
 use Rattle.wiring.specs.Answers.{countRight, firstUnmet, judged, recordJudged, verdict, listed, wired}
-use Rattle.walk.specs.Walk.{added, child, tried, after, opened, level, kept, onward, run}
+use Rattle.walk.specs.Walk.{added, child, opens, ends, tried, after, opened, level, kept, onward, run}
 use Rattle.walk.specs.Plan.{settled, levels, plan, setsBytes, said, settingsRight, planned}
 
 record Row : Type 0 where
@@ -136,7 +136,7 @@ table =
 -- replies, buffers and lists are as written
 worked : map (λ r. r .got) table ≡ map (λ r. r .want) table
 unfolding table usual planning wiringOf plus minus set wire back padded planned settingsRight said setsBytes plan levels settled run onward
-    kept level opened after tried child added cheaper chosen pairs divisors score setRecord wired listed verdict recordJudged judged firstUnmet
+    kept level opened after ends tried opens child added cheaper chosen pairs divisors score setRecord wired listed verdict recordJudged judged firstUnmet
     countRight records lengthRight exponentsRight coefficientRight termRight faultFrom equation system places sizeOf setOf ascending monomialRight
     setRight firstOf secondOf rowOf rowsFrom wiring wireRecord signals factor inV2 unmet nonsquares partsFrom derivative coeff times support signed
     unsigned isZero vars any some all keep place gather below pairwise pointwise dictionary insertBy arrangeBy
@@ -148,7 +148,7 @@ pub record TwoSystems : Type 0 where
   pub cube : planned 1 0 1 (plus 1 (3 ∷ [])) 36 .said ≡ five 5 1 0 1 0
 
 pub two-systems : TwoSystems
-unfolding plus padded planned settingsRight said setsBytes plan levels settled run onward kept level opened after tried child added cheaper
+unfolding plus padded planned settingsRight said setsBytes plan levels settled run onward kept level opened after ends tried opens child added cheaper
     chosen pairs divisors score setRecord countRight records lengthRight exponentsRight coefficientRight termRight faultFrom equation system signals
     factor inV2 unmet nonsquares partsFrom derivative coeff times support signed isZero vars any some all keep gather below pairwise pointwise
     dictionary insertBy arrangeBy

@@ -13,7 +13,7 @@ use Rattle.wiring.specs.Terms.{records, lengthRight, fault, system}
 use Rattle.wiring.specs.Sets.{setRecord}
 use Rattle.wiring.specs.Answers.{countRight, unlessFault}
 use Rattle.wiring.specs.declared.reply.Reply.the-variants.{Done, Setting, Length, Nothing, Full, Spent}
-use Rattle.walk.specs.Walk.{Finds, level, Run, ended, spent, full, run}
+use Rattle.walk.specs.Walk.{Finds, Rules, bare, level, Run, ended, spent, full, run}
 
 -- how planning a system ends: the level, the steps, and for done the sets
 pub data Ending : Type 0 where
@@ -22,18 +22,18 @@ pub data Ending : Type 0 where
   fullAt : ℕ → ℕ → Ending
   spentAt : ℕ → ℕ → Ending
 
-module _ (n : ℕ) (fs : List (Poly Mono)) (limit room : ℕ) where
-  -- what follows level k, where `next` is the levels above it
-  unfoldable pub settled : ℕ → (ℕ → Ending) → Run → Ending
-  settled k next (ended taken []) = next taken
-  settled k next (ended taken (s ∷ l)) = done k taken (s ∷ l)
-  settled k next spent = spentAt k limit
-  settled k next (full taken) = fullAt k taken
+-- what follows the run of level k under a limit, where `next` is the levels above it
+unfoldable pub settled : ℕ → ℕ → (ℕ → Ending) → Run → Ending
+settled limit k next (ended taken []) = next taken
+settled limit k next (ended taken (s ∷ l)) = done k taken (s ∷ l)
+settled limit k next spent = spentAt k limit
+settled limit k next (full taken) = fullAt k taken
 
+module _ (r : Rules) (n : ℕ) (fs : List (Poly Mono)) (limit room : ℕ) where
   -- the levels from k on, `left` of them, with the steps taken before
   unfoldable pub levels : ℕ → ℕ → ℕ → Ending
   levels zero k taken = none k taken
-  levels (suc left) k taken = settled k (levels left (suc k)) (run limit room (level n fs k) taken [])
+  levels (suc left) k taken = settled limit k (levels left (suc k)) (run limit room (level r n fs k) taken [])
 
   -- levels 0 to the cap
   unfoldable pub plan : ℕ → Ending
@@ -56,7 +56,7 @@ settingsRight n cap limit = countRight n && leb cap cards && leb 1 limit && leb 
 
 unfoldable pub planned : ℕ → ℕ → ℕ → List ℕ → ℕ → Outcome
 planned n cap limit terms size =
-    let walk = said (plan n (system (records terms)) limit (size / setBytes) cap) size in
+    let walk = said (plan bare n (system (records terms)) limit (size / setBytes) cap) size in
     let read = unlessFault (λ r. refused r size) (fault n (records terms)) walk in
     let long = cond (lengthRight terms) read (refused Length size) in
     cond (settingsRight n cap limit) long (refused Setting size)

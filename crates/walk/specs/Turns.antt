@@ -21,7 +21,7 @@ use Rattle.walk.specs.declared.walk.Turn.{Turn}
 use Rattle.walk.specs.declared.walk.Turn.the-variants.{Going, Spent, Full}
 use Rattle.wiring.specs.Choice.{chosen}
 use Rattle.walk.specs.declared.walk.Opened.{Opened}
-use Rattle.walk.specs.Walk.{Finds, Run, ended, spent, full, run, opened}
+use Rattle.walk.specs.Walk.{Finds, Rules, ends, opened, Run, ended, spent, full, run}
 use Rattle.walk.specs.Listing.{Recorded, Shown}
 
 -- what each set of the walk keeps: it has a record, and its exponents are at most 9 for each of its monomials
@@ -72,29 +72,29 @@ pub record Splits (n : ℕ) (terms : List ℕ) (level : ℕ) (set : Set) (m : Mo
   pub below : set .len < level
   pub member : List·Memᴰ m (nonsquares plain (signals width n (monomialsOf set)) (derivative plain (system (records terms))))
 
--- ---- what taking the step of an opening tells
-module _ (n : ℕ) (terms : List ℕ) (level limit : ℕ) (set : Set) (st : State) (out₀ : List ℕ) where
+-- ---- what taking the step of an opening tells, by given rules
+module _ (r : Rules) (n : ℕ) (terms : List ℕ) (level limit : ℕ) (set : Set) (st : State) (out₀ : List ℕ) where
   abbrev gaps : List Mono
   gaps = nonsquares plain (signals width n (monomialsOf set)) (derivative plain (system (records terms)))
 
   -- nothing follows: the turn is that of the opening, whatever the bound on the depth
   abbrev pub Closed : Turn → List ℕ → Type 0
   Closed turn out = (d : ℕ) (finds : Finds) → 0 < d → Shown finds (st .count) out₀
-      → Tells turn out (run limit (length out₀ / 36) (opened n (system (records terms)) level d (monomialsOf set)) (st .steps) finds)
+      → Tells turn out (run limit (length out₀ / 36) (opened r n (system (records terms)) level d (monomialsOf set)) (st .steps) finds)
 
-  -- the pairs of a nonsquare follow: its step is taken, and the buffer is as it was
+  -- the pairs of a nonsquare follow: the step is taken, the set goes on, and the buffer is as it was
   pub record Split (m : Mono) (out : List ℕ) : Type 0 where
     pub taken : st .steps < limit
-    pub below : set .len < level
     pub first : Mono
     pub others : List Mono
     pub are : gaps ≡ first ∷ others
+    pub on : ends r n level (monomialsOf set) (first ∷ others) ≡ false
     pub is : m ≡ chosen first others
     pub kept : out ≡ out₀
 
   abbrev pub JudgedBy : Bool → Opened → List ℕ → Type 0
-  JudgedBy false r out = Closed (r .turn) out
-  JudgedBy true r out = Split (r .m .e) out
+  JudgedBy false o out = Closed (o .turn) out
+  JudgedBy true o out = Split (o .m .e) out
 
   abbrev pub Judged : Opened → List ℕ → Type 0
-  Judged r out = JudgedBy (r .split) r out
+  Judged o out = JudgedBy (o .split) o out

@@ -1,7 +1,8 @@
--- The walk as the list of its steps, without a limit, and a run of that list under a limit of steps and of room. Assumes nothing.
-use mathlib.Core.Bool.{cond}
+-- The walk as the list of its steps, by given rules and without a limit; and a run of that list under a limit of steps and of room. Document 01's
+-- walk is that by the rules `bare`. Assumes nothing.
+use mathlib.Core.Bool.{Bool, true, false, cond, _&&_, _||_}
 use mathlib.Core.List.{List, [], _∷_}
-use Prim.Native.Nat.{ℕ, zero, suc, _+_}
+use Prim.Native.Nat.{ℕ, zero, suc, _+_, _-_}
 use lib.Dec.{leb}
 use lib.ListN.{length}
 use Rattle.monomial.specs.Lists.{any, gather, insertBy}
@@ -27,34 +28,65 @@ added v m s = cond (any (same m) v) s (insertBy same before m s)
 unfoldable pub child : ℕ → List Mono → Mono × Mono → List Mono
 child n s p = let v = signals width n s in added v (p .0) (added v (p .1) s)
 
+-- the rules of a walk
+pub record Rules : Type 0 where
+  -- what a new monomial may be: a pair that would add another costs its step and opens nothing
+  pub may : Mono → Bool
+  -- whether a set that is not quadratic is closed after its opening step: by the room left below the level, V and the nonsquares
+  pub closed : ℕ → List Mono → List Mono → Bool
+  -- the factor pairs of a nonsquare in the order in which they are tried: by V
+  pub tries : List Mono → Mono → List (Mono × Mono)
+  -- the set that each level opens; the first level is its size
+  pub start : List Mono
+
+-- document 01's rules: everything may be, nothing is closed, pairs are tried by ascending m1, and the empty set is opened
+abbrev pub bare : Rules
+bare = record { may = λ m. true; closed = λ room v ns. false; tries = λ v m. pairs m; start = [] }
+
 -- a step: a set is opened and found, or it is a step without a find
 pub data Step : Type 0 where
   found : List Mono → Step
   other : Step
 
-module _ (n : ℕ) (fs : List (Poly Mono)) (k : ℕ) where
-  -- a pair costs one step; its child is opened at once if it has at most k monomials
+module _ (r : Rules) (n k : ℕ) where
+  -- whether the child of a pair is opened at level k: what it adds to V may be, and it has at most k monomials
+  unfoldable pub opens : List Mono → Mono × Mono → Bool
+  opens s p =
+      let fine : Mono → Bool = λ m. r .may m || any (same m) (signals width n s) in
+      fine (p .0) && fine (p .1) && leb (length (child n s p)) k
+
+  -- whether a set, whose nonsquares are given, goes no further at level k: it is closed, or it has k monomials
+  unfoldable pub ends : List Mono → List Mono → Bool
+  ends s ns = r .closed (k - length s) (signals width n s) ns || leb k (length s)
+
+module _ (r : Rules) (n : ℕ) (fs : List (Poly Mono)) (k : ℕ) where
+  -- a pair costs one step; its child is opened at once or not at all
   unfoldable pub tried : (List Mono → List Step) → List Mono → Mono × Mono → List Step
-  tried below s p = let c = child n s p in let r = below c in other ∷ cond (leb (length c) k) r []
+  tried below s p = let steps = below (child n s p) in other ∷ cond (opens r n k s p) steps []
+
+  -- the pairs of a nonsquare m of s, one after the other
+  abbrev pub triedAll : (List Mono → List Step) → List Mono → Mono → List Step
+  triedAll below s m = gather (tried below s) (r .tries (signals width n s) m)
 
   -- what follows the opening of s, whose nonsquares are given: it is found, or goes no further, or its pairs are tried
   unfoldable pub after : (List Mono → List Step) → List Mono → List Mono → List Step
   after below s [] = found s ∷ []
-  after below s (m ∷ l) = other ∷ cond (leb k (length s)) [] (gather (tried below s) (pairs (chosen m l)))
+  after below s (m ∷ l) = other ∷ cond (ends r n k s (m ∷ l)) [] (triedAll below s (chosen m l))
 
   -- the steps of opening s at level k. The first number bounds the depth; it is more than k less the set's size
   unfoldable pub opened : ℕ → List Mono → List Step
   opened zero s = []
   opened (suc d) s = after (opened d) s (nonsquares plain (signals width n s) (derivative plain fs))
 
--- level k: the empty set is opened
-unfoldable pub level : ℕ → List (Poly Mono) → ℕ → List Step
-level n fs k = opened n fs k (suc k) []
+module _ (r : Rules) (n : ℕ) (fs : List (Poly Mono)) where
+  -- level k: the start is opened; below its size no step is taken
+  unfoldable pub level : ℕ → List Step
+  level k = cond (leb (length (r .start)) k) (opened r n fs k (suc k) (r .start)) []
 
--- the steps of all levels below k
-unfoldable pub walked : ℕ → List (Poly Mono) → ℕ → ℕ
-walked n fs zero = 0
-walked n fs (suc k) = walked n fs k + length (level n fs k)
+  -- the steps of all levels below k
+  unfoldable pub walked : ℕ → ℕ
+  walked zero = 0
+  walked (suc k) = walked k + length (level k)
 
 -- ---- a run
 pub data Run : Type 0 where

@@ -9,11 +9,9 @@ use wiring::signals;
 ghost use mathlib.Core.Bool.{true, false};
 ghost use Prim.Native.Nat.{ℕ, _+_, _-_, _/_, _≤_, _<_};
 ghost use lib.ListN.{length};
-ghost use Rattle.monomial.specs.Lists.{gather};
-ghost use Rattle.monomial.specs.Divisors.{pairs};
 ghost use Rattle.wiring.specs.Terms.{records, system};
 ghost use Rattle.wiring.specs.Sets.{monomialsOf};
-ghost use Rattle.walk.specs.Walk.{Finds, opened, tried, run, kept};
+ghost use Rattle.walk.specs.Walk.{Finds, bare, opened, triedAll, run, kept};
 ghost use Rattle.walk.specs.Listing.{Shown};
 ghost use Rattle.walk.specs.Turns.{Tells, Ready, Splits, Found, Judged};
 
@@ -60,7 +58,7 @@ fn found(out: &mut [u8], set: Set, st: State) -> Turn
 // Takes the step of opening a set, and says what follows.
 fn judge(terms: &[u8], out: &mut [u8], f: Frame, set: Set, st: State) -> Opened
     requires { ⌜ Ready (f .n) (now terms) (f .level) set (st .count) (now out) ⌝ }
-    ensures { λ r. ⌜ Judged (f .n) (now (terms .entry)) (f .level) (f .limit) set st (now (out .entry)) r (now (out .exit)) ⌝ }
+    ensures { λ r. ⌜ Judged bare (f .n) (now (terms .entry)) (f .level) (f .limit) set st (now (out .entry)) r (now (out .exit)) ⌝ }
 {
     let taken = st.steps;
     if f.limit <= taken {
@@ -105,7 +103,7 @@ pub fn open(terms: &[u8], out: &mut [u8], f: Frame, set: Set, st: State) -> Turn
     requires { ⌜ Ready (f .n) (now terms) (f .level) set (st .count) (now out) ⌝ }
     ensures { λ r. ⌜ ((d : ℕ) (finds : Finds) → f .level - set .len < d → Shown finds (st .count) (now (out .entry)) →
         Tells r (now (out .exit))
-        (run (f .limit) (length (now (out .entry)) / 36) (opened (f .n) (system (records (now (terms .entry)))) (f .level) d (monomialsOf set)) (st .steps) finds)) ⌝ }
+        (run (f .limit) (length (now (out .entry)) / 36) (opened bare (f .n) (system (records (now (terms .entry)))) (f .level) d (monomialsOf set)) (st .steps) finds)) ⌝ }
 {
     let o = judge(terms, out, f, set, st);
     if !o.split {
@@ -125,7 +123,7 @@ fn pairs(terms: &[u8], out: &mut [u8], f: Frame, set: Set, m: Monomial, st: Stat
     ensures { λ r. ⌜ ((d : ℕ) (finds : Finds) → f .level - set .len ≤ d → Shown finds (st .count) (now (out .entry)) →
         Tells r (now (out .exit))
         (run (f .limit) (length (now (out .entry)) / 36)
-        (gather (tried (f .n) (system (records (now (terms .entry)))) (f .level) (opened (f .n) (system (records (now (terms .entry)))) (f .level) d) (monomialsOf set)) (pairs (m .e)))
+        (triedAll bare (f .n) (system (records (now (terms .entry)))) (f .level) (opened bare (f .n) (system (records (now (terms .entry)))) (f .level) d) (monomialsOf set) (m .e))
         (st .steps) finds)) ⌝ }
 {
     let v = signals::signals_of(f.n, set);

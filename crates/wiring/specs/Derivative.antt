@@ -4,7 +4,7 @@ use mathlib.Core.Bool.{Bool, not, cond, _&&_}
 use mathlib.Core.List.{List, [], _∷_, _++_}
 use Prim.Native.Nat.{ℕ, suc, _-_}
 use lib.Dec.{leb}
-use lib.ListN.{getD, set}
+use lib.ListN.{getD}
 use Rattle.monomial.specs.Monomial.{Mono}
 use Rattle.monomial.specs.Product.{mul}
 use Rattle.wiring.specs.Coefficient.{isZero}
@@ -30,7 +30,7 @@ abbrev pub power : Record → Mono → ℕ
 power r z = getD z (r .equation - 1) 0
 
 abbrev pub image : Record → Mono → Mono
-image r z = mul (set z (r .equation - 1) (power r z - 1)) (r .monomial)
+image r z = mul (plain .over z (r .equation - 1)) (r .monomial)
 
 -- a record gives a monomial with a coefficient that passes the test
 unfoldable pub offers : (Mono → Bool) → List (Poly Mono) → Mono → Record → Bool

@@ -16,13 +16,12 @@ use Rattle.wiring.specs.Coefficient.{isZero}
 
 -- a kind of monomials
 pub record Kind (M : Type 0) : Type 0 where
-  -- in how many variables a monomial is; 1 and the variables, x1 first, for so many
+  -- in how many variables a monomial is; 1 and the variables, x1 first, of so many
   pub width : M → ℕ
   pub one : ℕ → M
   pub vars : ℕ → List M
   pub mul : M → M → M
-  -- the exponent of variable number i, from 0, and the monomial divided by that variable: it means something where the exponent is not 0, and
-  -- for signed exponents always
+  -- the exponent of variable number i, from 0, and the monomial divided by that variable, which is asked only where the exponent is not 0
   pub power : M → ℕ → ℤ
   pub over : M → ℕ → M
   pub same : M → M → Bool

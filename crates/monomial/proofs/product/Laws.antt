@@ -7,7 +7,7 @@ use lib.ListN.{length, getD, set}
 use Rattle.monomial.specs.Lists.{pointwise}
 use Rattle.monomial.specs.Monomial.{Mono, one}
 use Rattle.monomial.specs.Product.{mul, AtMost}
-use Rattle.monomial.proofs.Loops.{pointwise-at, pointwise-comm, pointwise-assoc, pointwise-unit}
+use Rattle.monomial.proofs.Loops.{pointwise-at, pointwise-comm, pointwise-assoc, pointwise-unit, pointwise-cancel}
 
 -- ---- the product
 pub mul-comm : (a b : Mono) → mul a b ≡ mul b a
@@ -18,6 +18,10 @@ mul-assoc = pointwise-assoc _+_ (λ x y z. omega arith)
 
 pub mul-one : (a : Mono) → mul a (one (length a)) ≡ a
 mul-one = pointwise-unit _+_ 0 (λ x. omega arith)
+
+-- a factor is all that the product and the other factor leave
+pub mul-cancel : (a b c : Mono) → length a ≡ length b → length a ≡ length c → mul a b ≡ mul a c → b ≡ c
+mul-cancel = pointwise-cancel _+_ (λ x y z e. omega arith)
 
 -- ---- bounds on exponents
 pub atMost-weaken : {b c : ℕ} (m : Mono) → b ≤ c → AtMost b m → AtMost c m

@@ -1,5 +1,5 @@
 -- Quotients of monomials of any width, and division. Assumes nothing.
-use mathlib.Core.Path.{_≡_, refl, sym, ap, ap₂, _∙_}
+use mathlib.Core.Path.{_≡_, refl, ap, ap₂}
 use mathlib.Core.List.{[], _∷_}
 use Prim.Native.Nat.{ℕ, zero, suc, _+_, _-_, _≤_}
 use native.Mathlib.Omega.{arith}
@@ -18,10 +18,6 @@ quo-mul [] [] e = refl
 quo-mul [] (y ∷ b) e = let z : ⊥ = omega arith in absurd z
 quo-mul (x ∷ a) [] e = let z : ⊥ = omega arith in absurd z
 quo-mul (x ∷ a) (y ∷ b) e = let h : x + y - x ≡ y = omega arith in ap₂ _∷_ h (quo-mul a b (omega arith))
-
--- a factor is all that the product and the other factor leave
-pub mul-cancel : (a b c : Mono) → length a ≡ length b → length a ≡ length c → mul a b ≡ mul a c → b ≡ c
-mul-cancel a b c h k e = sym (quo-mul a b h) ∙ ap (λ (m : Mono). quo m a) e ∙ quo-mul a c k
 
 -- ---- division
 pub divides-length : (d m : Mono) → T (divides d m) → length d ≡ length m

@@ -70,7 +70,7 @@ module _ (v : List Mono) (m : Mono) where
   added-asc s a = cond-cases (Ascending before) (any (same m) v) s (insertBy same before m s) (λ t. a) (λ f. insert-asc mono-order m s a)
 
   -- m was in v, or it is new and in the set
-  data Placed (r : List Mono) : Type 0 where
+  pub data Placed (r : List Mono) : Type 0 where
     was : m ∈ v → Placed r
     now : (m ∈ v → ⊥) → m ∈ r → Placed r
 
@@ -107,7 +107,7 @@ module _ (n : ℕ) (s : List Mono) (p : Mono × Mono) where
   unfolding child
   child-asc a = added-asc (signals 6 n s) (p .0) half (added-asc (signals 6 n s) (p .1) s a)
 
-  child-left : Placed (signals 6 n s) (p .0) (child n s p)
+  pub child-left : Placed (signals 6 n s) (p .0) (child n s p)
   unfolding child
   child-left = added-new (signals 6 n s) (p .0) half
 
@@ -115,7 +115,7 @@ module _ (n : ℕ) (s : List Mono) (p : Mono × Mono) where
   carried sub (was h) = was h
   carried {m} sub (now f h) = now f (sub m h)
 
-  child-right : Placed (signals 6 n s) (p .1) (child n s p)
+  pub child-right : Placed (signals 6 n s) (p .1) (child n s p)
   unfolding child
   child-right = carried (added-sub (signals 6 n s) (p .0) half) (added-new (signals 6 n s) (p .1) s)
 

@@ -14,6 +14,7 @@ use Rattle.monomial.specs.Lists.{gather}
 use Rattle.monomial.specs.Monomial.{Mono}
 use Rattle.monomial.proofs.Tests.{Tested, passed, failed, test, T→is, nT→is, is→T, is→nT, and-l, and-r}
 use Rattle.monomial.proofs.Members.{_∈_, here, there}
+use Rattle.monomial.proofs.order.Ascending.{empty}
 use Rattle.wiring.specs.Poly.{Poly, plain}
 use Rattle.wiring.specs.Quadratic.{Quadratic}
 use Rattle.wiring.specs.Signals.{signals}
@@ -30,10 +31,13 @@ use Rattle.wiring.proofs.terms.Exact.{Measured, length-exact, Breaks, Repeats, 
 use Rattle.wiring.proofs.sets.Exact.{Recordable, record-length, record-set, record-right, right-iff, zeros-at}
 use Rattle.wiring.proofs.answers.Exact.{Ranged, count-in, count-out, beyond, WellFormed, signalsIn, derivativeIn, check-exact}
 use Rattle.wiring.proofs.answers.Wired.{listIn, wire-enough}
-use Rattle.walk.specs.Walk.{Finds, level}
+use Rattle.walk.specs.Walk.{Finds, bare, level}
 use Rattle.walk.specs.Plan.{Ending, done, none, fullAt, spentAt, plan, setsBytes, said, settingsRight, planned}
 use Rattle.walk.proofs.Runs.{distinct}
-use Rattle.walk.proofs.Stops.{Ends, Lacks, Fills, Spends, Fate, fate, fate-exact, done-exact}
+use Rattle.walk.proofs.Stops.{Barren, Ends, Lacks, Fills, Spends, Fate, fate, fate-exact, done-exact}
+use Rattle.walk.proofs.Rules.{bare-orderly, bare-sparing}
+use Rattle.walk.proofs.children.Laws.{empty-walked}
+use Rattle.walk.proofs.Sound.{empty-proper}
 use Rattle.walk.proofs.Smallest.{Listed, NoneSmaller, none-smaller, Done as Finished, plan-done}
 
 -- ---- the settings
@@ -69,7 +73,7 @@ module _ (n cap limit : ℕ) (terms : List ℕ) (size : ℕ) where
 
   -- the sets found at a level, ascending, each once
   abbrev pub setsAt : ℕ → Finds
-  setsAt order = distinct (level n (system (records terms)) order)
+  setsAt order = distinct (level bare n (system (records terms)) order)
 
   -- ---- what each reply of planning says
   abbrev pub PlanSays : Reply → Type 0
@@ -77,10 +81,10 @@ module _ (n cap limit : ℕ) (terms : List ℕ) (size : ℕ) where
   PlanSays Length = InRange n cap limit × (Measured terms → ⊥)
   PlanSays (Term p) = InRange n cap limit × Measured terms × Breaks n (records terms) beyond p
   PlanSays (Twice p) = InRange n cap limit × Measured terms × Repeats n (records terms) beyond p
-  PlanSays (Done o c k) = Accepted × (c ≡ length (setsAt o)) × Ends n fs limit (size / 36) cap o k (setsAt o)
-  PlanSays (Nothing o k) = Accepted × Lacks n fs limit (size / 36) cap o k
-  PlanSays (Full o k) = Accepted × Fills n fs limit (size / 36) cap o k
-  PlanSays (Spent o k) = Accepted × Spends n fs limit (size / 36) cap o k
+  PlanSays (Done o c k) = Accepted × (c ≡ length (setsAt o)) × Ends bare n fs limit (size / 36) cap o k (setsAt o)
+  PlanSays (Nothing o k) = Accepted × Lacks bare n fs limit (size / 36) cap o k
+  PlanSays (Full o k) = Accepted × Fills bare n fs limit (size / 36) cap o k
+  PlanSays (Spent o k) = Accepted × Spends bare n fs limit (size / 36) cap o k
   PlanSays BadSet = ⊥
   PlanSays (NotQuadratic o p) = ⊥
 
@@ -90,7 +94,7 @@ module _ (n cap limit : ℕ) (terms : List ℕ) (size : ℕ) where
 
   -- ---- what holds is said
   abbrev rest : Outcome
-  rest = said (plan n fs limit (size / 36) cap) size
+  rest = said (plan bare n fs limit (size / 36) cap) size
 
   with-setting : settingsRight n cap limit ≡ false → planned n cap limit terms size ≡ refused Setting size
   unfolding planned
@@ -105,10 +109,10 @@ module _ (n cap limit : ℕ) (terms : List ℕ) (size : ℕ) where
     unfolding planned
     with-fault m f e = rw (range-in n cap limit r, length-exact terms .1 m, e)
 
-  with-ending : Accepted → (e : Ending) → Fate n fs limit (size / 36) cap e → planned n cap limit terms size ≡ said e size
+  with-ending : Accepted → (e : Ending) → Fate bare n fs limit (size / 36) cap e → planned n cap limit terms size ≡ said e size
   with-ending a e f =
       with-fault (a .range) (a .measured) Clean (clean-exact n (records terms) beyond .1 (a .flawless))
-      ∙ ap (λ (x : Ending). said x size) (fate-exact n fs limit (size / 36) cap e .1 f)
+      ∙ ap (λ (x : Ending). said x size) (fate-exact bare n fs limit (size / 36) cap e .1 f)
 
   planned-is : (r : Reply) → PlanSays r → planned n cap limit terms size ≡ outcome r (leaves r)
   unfolding said
@@ -130,10 +134,10 @@ module _ (n cap limit : ℕ) (terms : List ℕ) (size : ℕ) where
     reply : Reply
     holds : PlanSays reply
 
-  told-ending : Accepted → (e : Ending) → Fate n fs limit (size / 36) cap e → Told
+  told-ending : Accepted → (e : Ending) → Fate bare n fs limit (size / 36) cap e → Told
   told-ending a (done o k l) f = record {
     reply = Done o (length l) k;
-    holds = (a, ap length (f .sets), subst (Ends n fs limit (size / 36) cap o k) (f .sets) f);
+    holds = (a, ap length (f .sets), subst (Ends bare n fs limit (size / 36) cap o k) (f .sets) f);
   }
   told-ending a (none o k) f = record { reply = Nothing o k; holds = (a, f) }
   told-ending a (fullAt o k) f = record { reply = Full o k; holds = (a, f) }
@@ -144,7 +148,7 @@ module _ (n cap limit : ℕ) (terms : List ℕ) (size : ℕ) where
   told-fault r m (Repeated p) e = record { reply = Twice p; holds = (r, m, repeated-exact n (records terms) beyond p .0 e) }
   told-fault r m Clean e =
       told-ending (record { range = r; measured = m; flawless = clean-exact n (records terms) beyond .0 e })
-      (plan n fs limit (size / 36) cap) (fate n fs limit (size / 36) cap)
+      (plan bare n fs limit (size / 36) cap) (fate bare n fs limit (size / 36) cap)
 
   told : Told
   told = go (test (settingsRight n cap limit)) (test (lengthRight terms))
@@ -199,31 +203,34 @@ module _ (n cap limit : ℕ) (terms : List ℕ) (size : ℕ) where
   says-twice p bytes = plan-exact (Twice p) bytes
 
   pub says-done : (o c k : ℕ) (bytes : List ℕ) → (outcome (Done o c k) bytes ≡ planned n cap limit terms size)
-      ↔ ((Accepted × (c ≡ length (setsAt o)) × Ends n (system (records terms)) limit (size / 36) cap o k (setsAt o))
+      ↔ ((Accepted × (c ≡ length (setsAt o)) × Ends bare n (system (records terms)) limit (size / 36) cap o k (setsAt o))
       × (bytes ≡ setsBytes (setsAt o) ++ replicate (size - 36 * c) 0))
   says-done o c k bytes = plan-exact (Done o c k) bytes
 
   pub says-none : (o k : ℕ) (bytes : List ℕ) → (outcome (Nothing o k) bytes ≡ planned n cap limit terms size)
-      ↔ ((Accepted × Lacks n (system (records terms)) limit (size / 36) cap o k) × (bytes ≡ replicate size 0))
+      ↔ ((Accepted × Lacks bare n (system (records terms)) limit (size / 36) cap o k) × (bytes ≡ replicate size 0))
   says-none o k bytes = plan-exact (Nothing o k) bytes
 
   pub says-full : (o k : ℕ) (bytes : List ℕ) → (outcome (Full o k) bytes ≡ planned n cap limit terms size)
-      ↔ ((Accepted × Fills n (system (records terms)) limit (size / 36) cap o k) × (bytes ≡ replicate size 0))
+      ↔ ((Accepted × Fills bare n (system (records terms)) limit (size / 36) cap o k) × (bytes ≡ replicate size 0))
   says-full o k bytes = plan-exact (Full o k) bytes
 
   pub says-spent : (o k : ℕ) (bytes : List ℕ) → (outcome (Spent o k) bytes ≡ planned n cap limit terms size)
-      ↔ ((Accepted × Spends n (system (records terms)) limit (size / 36) cap o k) × (bytes ≡ replicate size 0))
+      ↔ ((Accepted × Spends bare n (system (records terms)) limit (size / 36) cap o k) × (bytes ≡ replicate size 0))
   says-spent o k bytes = plan-exact (Spent o k) bytes
 
-  -- ---- none, full and spent: no quadratic list has fewer members than the order
-  pub plan-lacks : (o k : ℕ) (bytes : List ℕ) → outcome (Nothing o k) bytes ≡ planned n cap limit terms size → (o ≡ suc cap) × NoneSmaller n (system (records terms)) o
-  plan-lacks o k bytes e = let f = says-none o k bytes .0 e .0 .1 in (f .last, none-smaller n fs o (f .barren))
+  -- ---- none, full and spent: no quadratic list has fewer members than the order. By these rules every list counts (`bare-extends`)
+  none-below : (j : ℕ) → Barren bare n (system (records terms)) j → NoneSmaller bare n (system (records terms)) j
+  none-below = none-smaller bare bare-orderly empty n fs (bare-sparing n fs)
 
-  pub plan-fills : (o k : ℕ) (bytes : List ℕ) → outcome (Full o k) bytes ≡ planned n cap limit terms size → NoneSmaller n (system (records terms)) o
-  plan-fills o k bytes e = none-smaller n fs o (says-full o k bytes .0 e .0 .1 .barren)
+  pub plan-lacks : (o k : ℕ) (bytes : List ℕ) → outcome (Nothing o k) bytes ≡ planned n cap limit terms size → (o ≡ suc cap) × NoneSmaller bare n (system (records terms)) o
+  plan-lacks o k bytes e = let f = says-none o k bytes .0 e .0 .1 in (f .last, none-below o (f .barren))
 
-  pub plan-spends : (o k : ℕ) (bytes : List ℕ) → outcome (Spent o k) bytes ≡ planned n cap limit terms size → NoneSmaller n (system (records terms)) o
-  plan-spends o k bytes e = none-smaller n fs o (says-spent o k bytes .0 e .0 .1 .barren)
+  pub plan-fills : (o k : ℕ) (bytes : List ℕ) → outcome (Full o k) bytes ≡ planned n cap limit terms size → NoneSmaller bare n (system (records terms)) o
+  plan-fills o k bytes e = none-below o (says-full o k bytes .0 e .0 .1 .barren)
+
+  pub plan-spends : (o k : ℕ) (bytes : List ℕ) → outcome (Spent o k) bytes ≡ planned n cap limit terms size → NoneSmaller bare n (system (records terms)) o
+  plan-spends o k bytes e = none-below o (says-spent o k bytes .0 e .0 .1 .barren)
 
 -- ---- done: what the bytes say
 -- the records of sets of six exponents, one behind the other
@@ -249,7 +256,7 @@ pub record Planned (n cap limit : ℕ) (terms : List ℕ) (size order count step
   pub accepted : Accepted n cap limit terms size
   pub sets : Finds
   -- the smallest quadratic sets, all of them, found in the walk's steps, within the limit and the room
-  pub finished : Finished n terms cap limit (size / 36) order steps sets
+  pub finished : Finished bare n terms cap limit (size / 36) order steps sets
   pub counted : count ≡ length sets
   -- record number i holds set number i; behind them are zeros
   pub written : (i : ℕ) → i < count → take 36 (drop (36 * i) bytes) ≡ setRecord (getD sets i [])
@@ -289,10 +296,11 @@ module _ (n cap limit : ℕ) (terms : List ℕ) (size : ℕ) where
       left : bytes ≡ setsBytes (setsAt n cap limit terms size o) ++ replicate (size - 36 * c) 0
       left = says .1
 
-      f : Finished n terms cap limit (size / 36) o k (setsAt n cap limit terms size o)
+      f : Finished bare n terms cap limit (size / 36) o k (setsAt n cap limit terms size o)
       f =
-          let ending = done-exact n (system (records terms)) limit (size / 36) cap o k l .1 (says .0 .2) in
-          plan-done n terms (a .range .ranged .1) (clean-of a) cap limit (size / 36) (a .range .capped) o k l ending
+          let ending = done-exact bare n (system (records terms)) limit (size / 36) cap o k l .1 (says .0 .2) in
+          plan-done bare bare-orderly empty-walked n (empty-proper n) terms (a .range .ranged .1) (clean-of a) (bare-sparing n (system (records terms)))
+          cap limit (size / 36) (a .range .capped) o k l ending
 
       long-of : (s : List Mono) → s ∈ setsAt n cap limit terms size o → length (setRecord s) ≡ 36
       long-of s m = let r = f .sets .each s m .recordable in record-length s (r .few) (r .wide)
@@ -325,7 +333,7 @@ module _ (n cap limit : ℕ) (terms : List ℕ) (size : ℕ) where
           plan-finds (d .order) (d .count) (d .steps) bytes same .long
 
 -- ---- a listed set can be handed to checking and wiring, and neither refuses it
-module _ (n cap limit : ℕ) (terms : List ℕ) (size : ℕ) (a : Accepted n cap limit terms size) (o : ℕ) (s : List Mono) (l : Listed n terms o s) where
+module _ (n cap limit : ℕ) (terms : List ℕ) (size : ℕ) (a : Accepted n cap limit terms size) (o : ℕ) (s : List Mono) (l : Listed bare n terms o s) where
   listed-formed : WellFormed n terms (setRecord s)
   listed-formed =
       let r : Recordable n s = l .recordable in

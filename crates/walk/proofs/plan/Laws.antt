@@ -23,10 +23,12 @@ use Rattle.wiring.proofs.terms.Laws.{clean-widens}
 use Rattle.walk.specs.declared.walk.State.{State}
 use Rattle.walk.specs.declared.walk.Turn.{Turn}
 use Rattle.walk.specs.declared.walk.Turn.the-variants.{Going, Spent, Full}
-use Rattle.walk.specs.Walk.{Finds, opened, level, Run, ended, spent, full, run}
+use Rattle.walk.specs.Walk.{Finds, Rules, bare, opened, level, Run, ended, spent, full, run}
 use Rattle.walk.specs.Plan.{Ending, done, none, settled, levels, plan, setsBytes, said, settingsRight, planned}
 use Rattle.walk.specs.Listing.{Shown}
 use Rattle.walk.specs.Turns.{Ended, Tells}
+use Rattle.walk.proofs.Steps.{level-opens}
+use Rattle.walk.proofs.Begins.{plan-begins}
 
 -- ---- a buffer without finds
 -- a buffer of zeros shows no set
@@ -50,53 +52,61 @@ none-shown [] count out s z =
     s .bytes ∙ ap (λ (k : ℕ). replicate k 0) n
 none-shown (x ∷ l) count out s z = let y : ⊥ = omega (arith, s .counted) in absurd y
 
+-- ---- a level that ended without a find, and with one
+settled-none : (limit k : ℕ) (next : ℕ → Ending) (l : Finds) (taken : ℕ) → length l ≡ 0 → settled limit k next (ended taken l) ≡ next taken
+unfolding settled
+settled-none limit k next [] taken h = refl
+settled-none limit k next (x ∷ l) taken h = let z : ⊥ = omega arith in absurd z
+
+settled-some : (limit k : ℕ) (next : ℕ → Ending) (l : Finds) (taken : ℕ) → 0 < length l → settled limit k next (ended taken l) ≡ done k taken l
+unfolding settled
+settled-some limit k next [] taken h = let z : ⊥ = omega arith in absurd z
+settled-some limit k next (x ∷ l) taken h = refl
+
 -- ---- the levels, one turn at a time
-module _ (n : ℕ) (fs : List (Poly Mono)) (limit cap size : ℕ) where
+module _ (r : Rules) (n : ℕ) (fs : List (Poly Mono)) (limit cap size : ℕ) where
   -- how `left` levels from k on end, with the steps taken before
   abbrev pub from : ℕ → ℕ → ℕ → Ending
-  from left k taken = levels n fs limit (size / 36) left k taken
+  from left k taken = levels r n fs limit (size / 36) left k taken
 
   -- how all of them end
   abbrev pub climbed : Ending
-  climbed = plan n fs limit (size / 36) cap
+  climbed = plan r n fs limit (size / 36) cap
 
   -- no set is found below level k: the buffer is zeros, and the levels from k on are what is left of the plan
   pub record Climbing (k steps : ℕ) (out : List ℕ) : Type 0 where
+    pub begun : length (r .start) ≤ k
     pub low : k ≤ cap + 1
     pub long : length out ≡ size
     pub blank : out ≡ replicate (length out) 0
     pub rest : from (cap + 1 - k) k steps ≡ climbed
 
-  pub climb-start : (out : List ℕ) → length out ≡ size → out ≡ replicate (length out) 0 → Climbing 0 0 out
-  unfolding plan
-  climb-start out l z =
-      let e : cap + 1 - 0 ≡ suc cap = omega arith in
-      record { low = omega arith; long = l; blank = z; rest = ap (λ (i : ℕ). from i 0 0) e }
+  -- at first
+  pub climb-start : (out : List ℕ) → length out ≡ size → out ≡ replicate (length out) 0 → length (r .start) ≤ cap + 1 → Climbing (length (r .start)) 0 out
+  climb-start out l z h =
+      let e : cap + 1 - length (r .start) ≡ suc cap - length (r .start) = omega arith in
+      record {
+        begun = omega arith;
+        low = h;
+        long = l;
+        blank = z;
+        rest = ap (λ (i : ℕ). from i (length (r .start)) 0) e ∙ sym (plan-begins r n fs limit (size / 36) cap (omega arith));
+      }
 
-  -- what the opener tells of the empty set at level k
+  -- what the opener tells of the start at level k
   abbrev pub Opening : ℕ → ℕ → List ℕ → Turn → List ℕ → Type 0
-  Opening k steps out turn out' = (d : ℕ) (finds : Finds) → k - 0 < d → Shown finds 0 out
-      → Tells turn out' (run limit (length out / 36) (opened n fs k d []) steps finds)
+  Opening k steps out turn out' = (d : ℕ) (finds : Finds) → k - length (r .start) < d → Shown finds 0 out
+      → Tells turn out' (run limit (length out / 36) (opened r n fs k d (r .start)) steps finds)
 
-  turned : (left k taken : ℕ) (x : Run) → run limit (size / 36) (level n fs k) taken [] ≡ x
-      → from (suc left) k taken ≡ settled n fs limit (size / 36) k (from left (suc k)) x
+  turned : (left k taken : ℕ) (x : Run) → run limit (size / 36) (level r n fs k) taken [] ≡ x
+      → from (suc left) k taken ≡ settled limit k (from left (suc k)) x
   unfolding levels
-  turned left k taken x e = ap (settled n fs limit (size / 36) k (from left (suc k))) e
+  turned left k taken x e = ap (settled limit k (from left (suc k))) e
 
-  settled-none : (k : ℕ) (next : ℕ → Ending) (l : Finds) (taken : ℕ) → length l ≡ 0 → settled n fs limit (size / 36) k next (ended taken l) ≡ next taken
-  unfolding settled
-  settled-none k next [] taken h = refl
-  settled-none k next (x ∷ l) taken h = let z : ⊥ = omega arith in absurd z
-
-  settled-some : (k : ℕ) (next : ℕ → Ending) (l : Finds) (taken : ℕ) → 0 < length l → settled n fs limit (size / 36) k next (ended taken l) ≡ done k taken l
-  unfolding settled
-  settled-some k next [] taken h = let z : ⊥ = omega arith in absurd z
-  settled-some k next (x ∷ l) taken h = refl
-
-module _ {n : ℕ} {fs : List (Poly Mono)} {limit cap size k steps : ℕ} {out : List ℕ} (c : Climbing n fs limit cap size k steps out) where
+module _ {r : Rules} {n : ℕ} {fs : List (Poly Mono)} {limit cap size k steps : ℕ} {out : List ℕ} (c : Climbing r n fs limit cap size k steps out) where
   -- the whole plan, as it is said
   abbrev pub Says : Reply → List ℕ → Type 0
-  Says r bytes = outcome r bytes ≡ said (climbed n fs limit cap size) size
+  Says reply bytes = outcome reply bytes ≡ said (climbed r n fs limit cap size) size
 
   -- above the cap nothing is left
   pub climb-none : cap < k → Says (reply.Nothing k steps) out
@@ -104,46 +114,47 @@ module _ {n : ℕ} {fs : List (Poly Mono)} {limit cap size k steps : ℕ} {out :
   climb-none h =
       let e : 0 ≡ cap + 1 - k = omega arith in
       let zeros : out ≡ replicate size 0 = c .blank ∙ ap (λ (i : ℕ). replicate i 0) (c .long) in
-      let rest : none k steps ≡ climbed n fs limit cap size = ap (λ (i : ℕ). from n fs limit cap size i k steps) e ∙ c .rest in
+      let rest : none k steps ≡ climbed r n fs limit cap size = ap (λ (i : ℕ). from r n fs limit cap size i k steps) e ∙ c .rest in
       ap (outcome (reply.Nothing k steps)) zeros ∙ ap (λ (x : Ending). said x size) rest
 
   -- after level k
-  module _ (h : k ≤ cap) (turn : Turn) (out' : List ℕ) (o : Opening n fs limit cap size k steps out turn out') (kept : length out' ≡ length out) where
+  module _ (h : k ≤ cap) (turn : Turn) (out' : List ℕ) (o : Opening r n fs limit cap size k steps out turn out') (kept : length out' ≡ length out) where
     abbrev here : Run
-    here = run limit (size / 36) (level n fs k) steps []
+    here = run limit (size / 36) (level r n fs k) steps []
 
     abbrev next : ℕ → Ending
-    next = from n fs limit cap size (cap - k) (suc k)
+    next = from r n fs limit cap size (cap - k) (suc k)
 
     long' : length out' ≡ size
     long' = kept ∙ c .long
 
     told : Tells turn out' here
-    unfolding level
     told =
         let t = o (suc k) [] (omega arith) (shown-none out (c .blank)) in
-        subst (λ (i : ℕ). Tells turn out' (run limit (i / 36) (opened n fs k (suc k) []) steps [])) (c .long) t
+        rw (level-opens r n fs k (c .begun)) (subst (λ (i : ℕ). Tells turn out' (run limit (i / 36) (opened r n fs k (suc k) (r .start)) steps [])) (c .long) t)
 
     told-as : (t : Turn) → turn ≡ t → Tells t out' here
     told-as t e = subst (λ (u : Turn). Tells u out' here) e told
 
-    whole : (x : Run) → here ≡ x → settled n fs limit (size / 36) k next x ≡ climbed n fs limit cap size
+    whole : (x : Run) → here ≡ x → settled limit k next x ≡ climbed r n fs limit cap size
     whole x e =
         let left : suc (cap - k) ≡ cap + 1 - k = omega arith in
-        sym (turned n fs limit cap size (cap - k) k steps x e) ∙ ap (λ (i : ℕ). from n fs limit cap size i k steps) left ∙ c .rest
+        sym (turned r n fs limit cap size (cap - k) k steps x e) ∙ ap (λ (i : ℕ). from r n fs limit cap size i k steps) left ∙ c .rest
 
     -- no find: the next level
-    pub climb-on : (st : State) → turn ≡ Going st → st .count ≤ 0 → Climbing n fs limit cap size (k + 1) (st .steps) out'
+    pub climb-on : (st : State) → turn ≡ Going st → st .count ≤ 0 → Climbing r n fs limit cap size (k + 1) (st .steps) out'
     climb-on st g z =
         let e : Ended st out' here = told-as (Going st) g in
         let blank : length (e .finds) ≡ 0 = omega (arith, e .shown .counted) in
         let left : cap + 1 - (k + 1) ≡ cap - k = omega arith in
+        let begun : length (r .start) ≤ k = c .begun in
         record {
+          begun = omega arith;
           low = omega arith;
           long = long';
           blank = none-shown (e .finds) (st .count) out' (e .shown) (omega arith);
-          rest = ap₂ (λ (i j : ℕ). from n fs limit cap size i j (st .steps)) left (add-one k)
-              ∙ sym (settled-none n fs limit cap size k next (e .finds) (st .steps) blank)
+          rest = ap₂ (λ (i j : ℕ). from r n fs limit cap size i j (st .steps)) left (add-one k)
+              ∙ sym (settled-none limit k next (e .finds) (st .steps) blank)
               ∙ whole (ended (st .steps) (e .finds)) (e .is);
         }
 
@@ -153,7 +164,7 @@ module _ {n : ℕ} {fs : List (Poly Mono)} {limit cap size k steps : ℕ} {out :
     climb-done st g z =
         let e : Ended st out' here = told-as (Going st) g in
         let some : 0 < length (e .finds) = omega (arith, e .shown .counted) in
-        let end = sym (settled-some n fs limit cap size k next (e .finds) (st .steps) some) ∙ whole (ended (st .steps) (e .finds)) (e .is) in
+        let end = sym (settled-some limit k next (e .finds) (st .steps) some) ∙ whole (ended (st .steps) (e .finds)) (e .is) in
         let left : length out' - 36 * st .count ≡ size - 36 * length (e .finds) = omega (arith, e .shown .counted, long') in
         let bytes : out' ≡ setsBytes (e .finds) ++ replicate (size - 36 * length (e .finds)) 0 = e .shown .bytes ∙ ap (λ (i : ℕ). setsBytes (e .finds) ++ replicate i 0) left in
         ap₂ (λ (i : ℕ) (b : List ℕ). outcome (reply.Done k i (st .steps)) b) (e .shown .counted) bytes ∙ ap (λ (x : Ending). said x size) end
@@ -206,7 +217,7 @@ module _ (n cap limit : ℕ) (terms : List ℕ) (size : ℕ) where
       said-repeated h place q = rw (e, h, q, z)
 
   -- what is not refused is walked, in the buffer that was cleared
-  pub said-walked : (answer : Outcome) (size' : ℕ) → answer ≡ said (plan n (system (records terms)) limit (size' / 36) cap) size' → size' ≡ size
+  pub said-walked : (answer : Outcome) (size' : ℕ) → answer ≡ said (plan bare n (system (records terms)) limit (size' / 36) cap) size' → size' ≡ size
       → settingsRight n cap limit ≡ true → lengthRight terms ≡ true → fault n (records terms) ≡ Clean → answer ≡ planned n cap limit terms size
   unfolding planned
   said-walked answer size' a k e h q = rw (e, h, q, sym k) a

@@ -1,13 +1,13 @@
 -- The opener and the pair runner, held to the run of the whole list of steps: at each place the run of what is left from there is the run of
--- the whole. No law here knows what nonsquares or children are. Assumes nothing.
+-- the whole, by any rules; the loop of the runner takes the pairs by ascending m1. No law here knows what nonsquares or children are. Assumes
+-- nothing.
 use mathlib.Core.Path.{_≡_, refl, sym, ap, _∙_, subst}
 use mathlib.Core.Bool.{Bool, true, false, cond}
 use mathlib.Core.List.{List, [], _∷_, _++_}
 use Prim.Native.Nat.{ℕ, zero, suc, _+_, _-_, _/_, _<_, _≤_}
 use native.Mathlib.Omega.{arith}
 use native.Mathlib.Numerals.{add-one}
-use borrow.Author.Tests.{le-leb, lt-leb}
-use lib.Dec.{T, leb}
+use lib.Dec.{T}
 use lib.ListN.{length}
 use Rattle.monomial.specs.Lists.{some, gather}
 use Rattle.monomial.specs.Monomial.{Mono, one}
@@ -33,90 +33,83 @@ use Rattle.walk.specs.declared.walk.Opened.{Opened}
 use Rattle.walk.specs.declared.walk.State.{State}
 use Rattle.walk.specs.declared.walk.Turn.{Turn}
 use Rattle.walk.specs.declared.walk.Turn.the-variants.{Going, Spent, Full}
-use Rattle.walk.specs.Walk.{Finds, child, Step, other, tried, after, opened, Run, ended, spent, full, kept, onward, run}
+use Rattle.walk.specs.Walk.{Finds, Rules, child, Step, found, other, opens, ends, tried, triedAll, after, opened, Run, ended, spent, full, kept, onward, run}
 use Rattle.walk.specs.Listing.{Shown}
 use Rattle.walk.specs.Turns.{Walked, Ended, Tells, Sheet, Closed, Split, JudgedBy, Judged}
 use Rattle.walk.proofs.children.Laws.{walked-54}
-use Rattle.walk.proofs.Steps.{run-append}
+use Rattle.walk.proofs.Steps.{run-append, run-stops, run-other, run-last, opened-found, opened-ends, opened-split}
 
--- ---- a step without a find
-module _ (limit room : ℕ) (es : List Step) (taken : ℕ) (finds : Finds) where
-  pub other-spent : limit ≤ taken → run limit room (other ∷ es) taken finds ≡ spent
-  unfolding run
-  other-spent h = rw (le-leb limit taken h)
-
-  pub other-on : taken < limit → run limit room (other ∷ es) taken finds ≡ run limit room es (taken + 1) finds
-  unfolding run
-  other-on h = rw (lt-leb limit taken h, add-one taken)
-
--- a run and then nothing
-onward-end : (r : Run) → onward r ended ≡ r
-unfolding onward
-onward-end (ended taken finds) = refl
-onward-end spent = refl
-onward-end (full taken) = refl
+-- ---- a step without a find, by the code's count
+other-on : (limit room : ℕ) (es : List Step) (taken : ℕ) (finds : Finds) → taken < limit → run limit room (other ∷ es) taken finds ≡ run limit room es (taken + 1) finds
+other-on limit room es taken finds h = rw (add-one taken) (run-other limit room es taken finds h)
 
 -- ---- a set is opened, at any bound on the depth that is large enough
-module _ (n : ℕ) (fs : List (Poly Mono)) (k limit room taken : ℕ) (finds : Finds) (s : List Mono) where
+module _ (r : Rules) (n : ℕ) (fs : List (Poly Mono)) (k limit room taken : ℕ) (finds : Finds) (s : List Mono) where
   abbrev gaps : List Mono
   gaps = nonsquares plain (signals 6 n s) (derivative plain fs)
 
-  after-spent : (below : List Mono → List Step) (l : List Mono) → limit ≤ taken → run limit room (after n fs k below s l) taken finds ≡ spent
-  unfolding run after
-  after-spent below [] h = rw (le-leb limit taken h)
-  after-spent below (m ∷ l) h = rw (le-leb limit taken h)
+  abbrev ran : List Step → Run
+  ran es = run limit room es taken finds
 
-  pub open-spent : (d : ℕ) → 0 < d → limit ≤ taken → run limit room (opened n fs k d s) taken finds ≡ spent
+  after-spent : (below : List Mono → List Step) (l : List Mono) → limit ≤ taken → run limit room (after r n fs k below s l) taken finds ≡ spent
+  unfolding after
+  after-spent below [] h = run-stops limit room [] taken finds (found s) h
+  after-spent below (m ∷ l) h = run-stops limit room _ taken finds other h
+
+  pub open-spent : (d : ℕ) → 0 < d → limit ≤ taken → run limit room (opened r n fs k d s) taken finds ≡ spent
   unfolding opened
   open-spent zero p h = absurd (omega arith)
-  open-spent (suc d) p h = after-spent (opened n fs k d) gaps h
+  open-spent (suc d) p h = after-spent (opened r n fs k d) gaps h
 
-  pub open-found : (d : ℕ) → 0 < d → taken < limit → gaps ≡ [] → run limit room (opened n fs k d s) taken finds ≡ kept room s (taken + 1) finds
-  unfolding opened after run
+  open-found : (d : ℕ) → 0 < d → taken < limit → gaps ≡ [] → run limit room (opened r n fs k d s) taken finds ≡ kept room s (taken + 1) finds
   open-found zero p h e = absurd (omega arith)
-  open-found (suc d) p h e = rw (e, lt-leb limit taken h, add-one taken) (onward-end (kept room s (suc taken) finds))
+  open-found (suc d) p h e = rw (add-one taken) (ap ran (opened-found r n fs k d s e) ∙ run-last limit room s taken finds h)
 
-  pub open-leaf : (d : ℕ) (m : Mono) (l : List Mono) → 0 < d → taken < limit → gaps ≡ m ∷ l → k ≤ length s → run limit room (opened n fs k d s) taken finds ≡ ended (taken + 1) finds
-  unfolding opened after run
+  open-leaf : (d : ℕ) (m : Mono) (l : List Mono) → 0 < d → taken < limit → gaps ≡ m ∷ l → ends r n k s (m ∷ l) ≡ true
+      → run limit room (opened r n fs k d s) taken finds ≡ ended (taken + 1) finds
+  unfolding run
   open-leaf zero m l p h e g = absurd (omega arith)
-  open-leaf (suc d) m l p h e g = rw (e, le-leb k (length s) g, lt-leb limit taken h, add-one taken)
+  open-leaf (suc d) m l p h e g = ap ran (opened-ends r n fs k d s m l e g) ∙ other-on limit room [] taken finds h
 
   -- the same, by the word of the loop that asks for a nonsquare
-  pub open-none : (d : ℕ) → 0 < d → taken < limit → some gaps ≡ false → run limit room (opened n fs k d s) taken finds ≡ kept room s (taken + 1) finds
+  pub open-none : (d : ℕ) → 0 < d → taken < limit → some gaps ≡ false → run limit room (opened r n fs k d s) taken finds ≡ kept room s (taken + 1) finds
   open-none d p h e = open-found d p h (some-none gaps (is→nT (some gaps) e))
 
-  pub open-stops : (d : ℕ) → 0 < d → taken < limit → some gaps ≡ true → k ≤ length s → run limit room (opened n fs k d s) taken finds ≡ ended (taken + 1) finds
+  pub open-stops : (d : ℕ) → 0 < d → taken < limit → some gaps ≡ true → ends r n k s gaps ≡ true
+      → run limit room (opened r n fs k d s) taken finds ≡ ended (taken + 1) finds
   unfolding some
   open-stops d p h e g = go gaps refl (is→T (some gaps) e)
     where
-      go : (l : List Mono) → gaps ≡ l → T (some l) → run limit room (opened n fs k d s) taken finds ≡ ended (taken + 1) finds
+      go : (l : List Mono) → gaps ≡ l → T (some l) → run limit room (opened r n fs k d s) taken finds ≡ ended (taken + 1) finds
       go [] i t = absurd t
-      go (m ∷ l) i t = open-leaf d m l p h i g
+      go (m ∷ l) i t = open-leaf d m l p h i (subst (λ (x : List Mono). ends r n k s x ≡ true) i g)
 
-  pub open-split : (d : ℕ) (m : Mono) (l : List Mono) → taken < limit → gaps ≡ m ∷ l → length s < k
-      → run limit room (opened n fs k (suc d) s) taken finds ≡ run limit room (gather (tried n fs k (opened n fs k d) s) (pairs (chosen m l))) (taken + 1) finds
-  unfolding opened after
-  open-split d m l h e g = rw (e, lt-leb k (length s) g) (other-on limit room (gather (tried n fs k (opened n fs k d) s) (pairs (chosen m l))) taken finds h)
+  open-split : (d : ℕ) (m : Mono) (l : List Mono) → taken < limit → gaps ≡ m ∷ l → ends r n k s (m ∷ l) ≡ false
+      → run limit room (opened r n fs k (suc d) s) taken finds
+      ≡ run limit room (triedAll r n fs k (opened r n fs k d) s (chosen m l)) (taken + 1) finds
+  open-split d m l h e g =
+      ap ran (opened-split r n fs k d s m l e g) ∙ other-on limit room (triedAll r n fs k (opened r n fs k d) s (chosen m l)) taken finds h
 
 -- ---- the pairs of m from the first factor a on
-module _ (n : ℕ) (fs : List (Poly Mono)) (k limit room : ℕ) (s : List Mono) (m : Mono) where
+module _ (r : Rules) (n : ℕ) (fs : List (Poly Mono)) (k limit room : ℕ) (s : List Mono) (m : Mono) where
   -- the steps that are left, at a bound on the depth
   abbrev pub left : ℕ → Mono → List Step
-  left d a = gather (tried n fs k (opened n fs k d) s) (pairsFrom m a)
+  left d a = gather (tried r n fs k (opened r n fs k d) s) (pairsFrom m a)
 
   abbrev pub whole : ℕ → ℕ → Finds → Run
-  whole d taken finds = run limit room (gather (tried n fs k (opened n fs k d) s) (pairs m)) taken finds
+  whole d taken finds = run limit room (gather (tried r n fs k (opened r n fs k d) s) (pairs m)) taken finds
 
-  left-start : (d : ℕ) → left d (one (length m)) ≡ gather (tried n fs k (opened n fs k d) s) (pairs m)
-  left-start d = ap (gather (tried n fs k (opened n fs k d) s)) (pairs-start m)
+  left-start : (d : ℕ) → left d (one (length m)) ≡ gather (tried r n fs k (opened r n fs k d) s) (pairs m)
+  left-start d = ap (gather (tried r n fs k (opened r n fs k d) s)) (pairs-start m)
 
-  left-turn : (d : ℕ) (a : Mono) → T (divides a m) → (m ≡ one (length m) → ⊥) → T (leads m a) → left d a ≡ tried n fs k (opened n fs k d) s (a, quo m a) ++ left d (next m a)
+  left-turn : (d : ℕ) (a : Mono) → T (divides a m) → (m ≡ one (length m) → ⊥) → T (leads m a)
+      → left d a ≡ tried r n fs k (opened r n fs k d) s (a, quo m a) ++ left d (next m a)
   unfolding gather
-  left-turn d a t p l = ap (gather (tried n fs k (opened n fs k d) s)) (pairs-turn a m t p l)
+  left-turn d a t p l = ap (gather (tried r n fs k (opened r n fs k d) s)) (pairs-turn a m t p l)
 
   left-end : (d : ℕ) (a : Mono) → T (divides a m) → (T (leads m a) → ⊥) → left d a ≡ []
   unfolding gather
-  left-end d a t l = ap (gather (tried n fs k (opened n fs k d) s)) (pairs-end a m t l)
+  left-end d a t l = ap (gather (tried r n fs k (opened r n fs k d) s)) (pairs-end a m t l)
 
   -- the run of what is left from a, in this state and buffer, is w
   pub record Stands (d : ℕ) (w : Run) (a : Mono) (steps count : ℕ) (out : List ℕ) : Type 0 where
@@ -137,21 +130,24 @@ module _ (n : ℕ) (fs : List (Poly Mono)) (k limit room : ℕ) (s : List Mono) 
       abbrev c : List Mono
       c = child n s (a, quo m a)
 
+      abbrev go : Bool
+      go = opens r n k s (a, quo m a)
+
       abbrev rest : List Step
       rest = left d (next m a)
 
       -- the next step is that of the pair, whether its child is opened or not
-      pair-step : (more : List Step) → cond (leb (length c) k) (opened n fs k d c) [] ≡ more → run limit room (other ∷ (more ++ rest)) steps (st .finds) ≡ w
+      pair-step : (more : List Step) → cond go (opened r n fs k d c) [] ≡ more → run limit room (other ∷ (more ++ rest)) steps (st .finds) ≡ w
       unfolding tried
       pair-step more e =
           sym (ap (λ (es : List Step). run limit room es steps (st .finds)) (left-turn d a t p l ∙ ap (λ (es : List Step). (other ∷ es) ++ rest) e)) ∙ st .on
 
       pub stands-spent : limit ≤ steps → w ≡ spent
-      stands-spent h = sym (pair-step (cond (leb (length c) k) (opened n fs k d c) []) refl) ∙ other-spent limit room
-          (cond (leb (length c) k) (opened n fs k d c) [] ++ rest) steps (st .finds) h
+      stands-spent h = sym (pair-step (cond go (opened r n fs k d c) []) refl) ∙ run-stops limit room
+          (cond go (opened r n fs k d c) [] ++ rest) steps (st .finds) other h
 
-      -- the child is too large
-      pub stands-shut : steps < limit → leb (length c) k ≡ false → Stands d w (next m a) (steps + 1) count out
+      -- the child is not opened
+      pub stands-shut : steps < limit → go ≡ false → Stands d w (next m a) (steps + 1) count out
       stands-shut h e = record {
         finds = st .finds;
         shown = st .shown;
@@ -159,13 +155,13 @@ module _ (n : ℕ) (fs : List (Poly Mono)) (k limit room : ℕ) (s : List Mono) 
       }
 
       -- the child was opened
-      module _ (h : steps < limit) (e : leb (length c) k ≡ true) where
-        child-run : onward (run limit room (opened n fs k d c) (steps + 1) (st .finds)) (run limit room rest) ≡ w
+      module _ (h : steps < limit) (e : go ≡ true) where
+        child-run : onward (run limit room (opened r n fs k d c) (steps + 1) (st .finds)) (run limit room rest) ≡ w
         child-run =
-            sym (run-append limit room (opened n fs k d c) rest (steps + 1) (st .finds))
-            ∙ sym (other-on limit room (opened n fs k d c ++ rest) steps (st .finds) h) ∙ pair-step (opened n fs k d c) (rw e)
+            sym (run-append limit room (opened r n fs k d c) rest (steps + 1) (st .finds))
+            ∙ sym (other-on limit room (opened r n fs k d c ++ rest) steps (st .finds) h) ∙ pair-step (opened r n fs k d c) (rw e)
 
-        pub stands-going : (next' : State) (out' : List ℕ) → Ended next' out' (run limit room (opened n fs k d c) (steps + 1) (st .finds)) → Stands d
+        pub stands-going : (next' : State) (out' : List ℕ) → Ended next' out' (run limit room (opened r n fs k d c) (steps + 1) (st .finds)) → Stands d
             w (next m a) (next' .steps) (next' .count) out'
         unfolding onward
         stands-going next' out' en = record {
@@ -174,22 +170,22 @@ module _ (n : ℕ) (fs : List (Poly Mono)) (k limit room : ℕ) (s : List Mono) 
           on = sym (ap (λ (r : Run). onward r (run limit room rest)) (en .is)) ∙ child-run;
         }
 
-        pub stands-child-spent : run limit room (opened n fs k d c) (steps + 1) (st .finds) ≡ spent → w ≡ spent
+        pub stands-child-spent : run limit room (opened r n fs k d c) (steps + 1) (st .finds) ≡ spent → w ≡ spent
         unfolding onward
         stands-child-spent q = sym child-run ∙ ap (λ (r : Run). onward r (run limit room rest)) q
 
-        pub stands-child-full : (u : ℕ) → run limit room (opened n fs k d c) (steps + 1) (st .finds) ≡ full u → w ≡ full u
+        pub stands-child-full : (u : ℕ) → run limit room (opened r n fs k d c) (steps + 1) (st .finds) ≡ full u → w ≡ full u
         unfolding onward
         stands-child-full u q = sym child-run ∙ ap (λ (r : Run). onward r (run limit room rest)) q
 
 -- ---- what opening tells of the pairs that follow
-pub open-tells : (n : ℕ) (fs : List (Poly Mono)) (k limit room taken : ℕ) (finds : Finds) (s : List Mono) (d size : ℕ) (m : Mono) (l : List Mono) (turn : Turn) (out : List ℕ)
-    → k - size < d → taken < limit → nonsquares plain (signals 6 n s) (derivative plain fs) ≡ m ∷ l → length s < k
-    → ((g : ℕ) → k - size ≤ g → Tells turn out (run limit room (gather (tried n fs k (opened n fs k g) s) (pairs (chosen m l))) (taken + 1) finds))
-    → Tells turn out (run limit room (opened n fs k d s) taken finds)
-open-tells n fs k limit room taken finds s zero size m l turn out h t e g f = absurd (omega arith)
-open-tells n fs k limit room taken finds s (suc d) size m l turn out h t e g f = subst (Tells turn out)
-    (sym (open-split n fs k limit room taken finds s d m l t e g)) (f d (omega arith))
+pub open-tells : (r : Rules) (n : ℕ) (fs : List (Poly Mono)) (k limit room taken : ℕ) (finds : Finds) (s : List Mono) (d size : ℕ) (m : Mono) (l : List Mono) (turn : Turn) (out : List ℕ)
+    → k - size < d → taken < limit → nonsquares plain (signals 6 n s) (derivative plain fs) ≡ m ∷ l → ends r n k s (m ∷ l) ≡ false
+    → ((g : ℕ) → k - size ≤ g → Tells turn out (run limit room (triedAll r n fs k (opened r n fs k g) s (chosen m l)) (taken + 1) finds))
+    → Tells turn out (run limit room (opened r n fs k d s) taken finds)
+open-tells r n fs k limit room taken finds s zero size m l turn out h t e g f = absurd (omega arith)
+open-tells r n fs k limit room taken finds s (suc d) size m l turn out h t e g f = subst (Tells turn out)
+    (sym (open-split r n fs k limit room taken finds s d m l t e g)) (f d (omega arith))
 
 -- ---- the nonsquare that was picked
 pub record Choice (ns : List Mono) (p : Pick) : Type 0 where
@@ -208,22 +204,22 @@ choice-member ns m first others e i =
     subst (λ (l : List Mono). m ∈ l) (sym e) (subst (λ (x : Mono). x ∈ (first ∷ others)) (sym i) (chosen-best first others .0))
 
 -- ---- what was judged, by the word of the code
-module _ (n : ℕ) (terms : List ℕ) (level limit : ℕ) (set : Set) (st : State) (out₀ : List ℕ) (r : Opened) (out : List ℕ) where
-  pub judged-closed : r .split ≡ false → Judged n terms level limit set st out₀ r out → Closed n terms level limit set st out₀ (r .turn) out
-  judged-closed e j = subst (λ (b : Bool). JudgedBy n terms level limit set st out₀ b r out) e j
+module _ (r : Rules) (n : ℕ) (terms : List ℕ) (level limit : ℕ) (set : Set) (st : State) (out₀ : List ℕ) (o : Opened) (out : List ℕ) where
+  pub judged-closed : o .split ≡ false → Judged r n terms level limit set st out₀ o out → Closed r n terms level limit set st out₀ (o .turn) out
+  judged-closed e j = subst (λ (b : Bool). JudgedBy r n terms level limit set st out₀ b o out) e j
 
-  pub judged-split : r .split ≡ true → Judged n terms level limit set st out₀ r out → Split n terms level limit set st out₀ (r .m .e) out
-  judged-split e j = subst (λ (b : Bool). JudgedBy n terms level limit set st out₀ b r out) e j
+  pub judged-split : o .split ≡ true → Judged r n terms level limit set st out₀ o out → Split r n terms level limit set st out₀ (o .m .e) out
+  judged-split e j = subst (λ (b : Bool). JudgedBy r n terms level limit set st out₀ b o out) e j
 
 -- ---- the loop of the pair runner: the run of what is left is that of the whole, for every depth and every list of finds that the buffer showed
-module _ (n : ℕ) (terms : List ℕ) (level limit : ℕ) (set : Set) (m : Mono) (st₀ : State) (out₀ : List ℕ) where
+module _ (r : Rules) (n : ℕ) (terms : List ℕ) (level limit : ℕ) (set : Set) (m : Mono) (st₀ : State) (out₀ : List ℕ) where
   abbrev fs : List (Poly Mono)
   fs = system (records terms)
 
   abbrev standing : ℕ → Finds → Mono → State → List ℕ → Type 0
   standing d finds a cur out =
-      Stands n fs level limit (length out₀ / 36) (monomialsOf set) m d
-      (whole n fs level limit (length out₀ / 36) (monomialsOf set) m d (st₀ .steps) finds) a (cur .steps) (cur .count) out
+      Stands r n fs level limit (length out₀ / 36) (monomialsOf set) m d
+      (whole r n fs level limit (length out₀ / 36) (monomialsOf set) m d (st₀ .steps) finds) a (cur .steps) (cur .count) out
 
   pub record Running (a : Mono) (cur : State) (out : List ℕ) : Type 0 where
     pub divisor : T (divides a m)
@@ -234,63 +230,63 @@ module _ (n : ℕ) (terms : List ℕ) (level limit : ℕ) (set : Set) (m : Mono)
   running-start = record {
     divisor = one-divides m;
     long = refl;
-    stands = λ d finds h sh. stands-start n fs level limit (length out₀ / 36) (monomialsOf set) m d (st₀ .steps) (st₀ .count) finds out₀ sh;
+    stands = λ d finds h sh. stands-start r n fs level limit (length out₀ / 36) (monomialsOf set) m d (st₀ .steps) (st₀ .count) finds out₀ sh;
   }
 
   -- the buffer still shows some finds
   pub running-sheet : (a : Mono) (cur : State) (out : List ℕ) → Running a cur out → Sheet (st₀ .count) out₀ → Sheet (cur .count) out
-  running-sheet a cur out r s =
-      let x = r .stands (level - set .len) (s .finds) (omega arith) (s .shown) in
+  running-sheet a cur out u s =
+      let x = u .stands (level - set .len) (s .finds) (omega arith) (s .shown) in
       record { finds = x .finds; shown = x .shown }
 
-  module _ {a : Mono} {cur : State} {out : List ℕ} (r : Running a cur out) where
+  module _ {a : Mono} {cur : State} {out : List ℕ} (u : Running a cur out) where
     pub running-end : (T (leads m a) → ⊥) → (d : ℕ) (finds : Finds) → level - set .len ≤ d → Shown finds (st₀ .count) out₀
-        → Tells (Going cur) out (whole n fs level limit (length out₀ / 36) (monomialsOf set) m d (st₀ .steps) finds)
+        → Tells (Going cur) out (whole r n fs level limit (length out₀ / 36) (monomialsOf set) m d (st₀ .steps) finds)
     running-end l d finds h sh =
-        let x = r .stands d finds h sh in
-        record { finds = x .finds; shown = x .shown; is = stands-end n fs level limit (length out₀ / 36) (monomialsOf set) m x (r .divisor) l }
+        let x = u .stands d finds h sh in
+        record { finds = x .finds; shown = x .shown; is = stands-end r n fs level limit (length out₀ / 36) (monomialsOf set) m x (u .divisor) l }
 
     module _ (p : m ≡ one (length m) → ⊥) (l : T (leads m a)) where
       pub running-spent : limit ≤ cur .steps → (d : ℕ) (finds : Finds) → level - set .len ≤ d → Shown finds (st₀ .count) out₀
-          → whole n fs level limit (length out₀ / 36) (monomialsOf set) m d (st₀ .steps) finds ≡ spent
-      running-spent k d finds h sh = stands-spent n fs level limit (length out₀ / 36) (monomialsOf set) m (r .stands d finds h sh) (r .divisor) p l k
+          → whole r n fs level limit (length out₀ / 36) (monomialsOf set) m d (st₀ .steps) finds ≡ spent
+      running-spent k d finds h sh = stands-spent r n fs level limit (length out₀ / 36) (monomialsOf set) m (u .stands d finds h sh) (u .divisor) p l k
 
       pub running-shut : (cur' : State) → cur' .steps ≡ cur .steps + 1 → cur' .count ≡ cur .count → cur .steps < limit
-          → leb (length (child n (monomialsOf set) (a, quo m a))) level ≡ false → Running (next m a) cur' out
+          → opens r n level (monomialsOf set) (a, quo m a) ≡ false → Running (next m a) cur' out
       running-shut cur' e c k b = record {
-        divisor = next-divides a m (r .divisor);
-        long = r .long;
-        stands = λ d finds h sh. rw (e, c) (stands-shut n fs level limit (length out₀ / 36) (monomialsOf set) m (r .stands d finds h sh) (r .divisor) p l k b);
+        divisor = next-divides a m (u .divisor);
+        long = u .long;
+        stands = λ d finds h sh. rw (e, c) (stands-shut r n fs level limit (length out₀ / 36) (monomialsOf set) m (u .stands d finds h sh) (u .divisor) p l k b);
       }
 
       -- the child was opened, and its turn was told for every depth and finds
-      module _ (size : ℕ) (few : set .len < size) (low : set .len < level) (k : cur .steps < limit) (b : leb (length (child n (monomialsOf set) (a, quo m a))) level ≡ true) where
+      module _ (size : ℕ) (few : set .len < size) (low : set .len < level) (k : cur .steps < limit) (b : opens r n level (monomialsOf set) (a, quo m a) ≡ true) where
         abbrev opened-child : ℕ → Finds → Run
-        opened-child d finds = run limit (length out₀ / 36) (opened n fs level d (child n (monomialsOf set) (a, quo m a))) (cur .steps + 1) finds
+        opened-child d finds = run limit (length out₀ / 36) (opened r n fs level d (child n (monomialsOf set) (a, quo m a))) (cur .steps + 1) finds
 
         abbrev pub Told : Turn → List ℕ → Type 0
         Told turn out' = (d : ℕ) (finds : Finds) → level - size < d → Shown finds (cur .count) out → Tells turn out' (opened-child d finds)
 
         pub running-going : (cur' : State) (out' : List ℕ) → length out' ≡ length out → Told (Going cur') out' → Running (next m a) cur' out'
         running-going cur' out' e f = record {
-          divisor = next-divides a m (r .divisor);
-          long = e ∙ r .long;
+          divisor = next-divides a m (u .divisor);
+          long = e ∙ u .long;
           stands = λ d finds h sh.
-              let x = r .stands d finds h sh in
-              stands-going n fs level limit (length out₀ / 36) (monomialsOf set) m x (r .divisor) p l k b cur' out' (f d (x .finds) (omega arith) (x .shown));
+              let x = u .stands d finds h sh in
+              stands-going r n fs level limit (length out₀ / 36) (monomialsOf set) m x (u .divisor) p l k b cur' out' (f d (x .finds) (omega arith) (x .shown));
         }
 
         pub running-child-spent : (out' : List ℕ) → Told Spent out' → (d : ℕ) (finds : Finds) → level - set .len ≤ d → Shown finds (st₀ .count) out₀
-            → whole n fs level limit (length out₀ / 36) (monomialsOf set) m d (st₀ .steps) finds ≡ spent
+            → whole r n fs level limit (length out₀ / 36) (monomialsOf set) m d (st₀ .steps) finds ≡ spent
         running-child-spent out' f d finds h sh =
-            let x = r .stands d finds h sh in
-            stands-child-spent n fs level limit (length out₀ / 36) (monomialsOf set) m x (r .divisor) p l k b (f d (x .finds) (omega arith) (x .shown))
+            let x = u .stands d finds h sh in
+            stands-child-spent r n fs level limit (length out₀ / 36) (monomialsOf set) m x (u .divisor) p l k b (f d (x .finds) (omega arith) (x .shown))
 
-        pub running-child-full : (u : ℕ) (out' : List ℕ) → Told (Full u) out' → (d : ℕ) (finds : Finds) → level - set .len ≤ d → Shown finds (st₀ .count) out₀
-            → whole n fs level limit (length out₀ / 36) (monomialsOf set) m d (st₀ .steps) finds ≡ full u
-        running-child-full u out' f d finds h sh =
-            let x = r .stands d finds h sh in
-            stands-child-full n fs level limit (length out₀ / 36) (monomialsOf set) m x (r .divisor) p l k b u (f d (x .finds) (omega arith) (x .shown))
+        pub running-child-full : (t : ℕ) (out' : List ℕ) → Told (Full t) out' → (d : ℕ) (finds : Finds) → level - set .len ≤ d → Shown finds (st₀ .count) out₀
+            → whole r n fs level limit (length out₀ / 36) (monomialsOf set) m d (st₀ .steps) finds ≡ full t
+        running-child-full t out' f d finds h sh =
+            let x = u .stands d finds h sh in
+            stands-child-full r n fs level limit (length out₀ / 36) (monomialsOf set) m x (u .divisor) p l k b t (f d (x .finds) (omega arith) (x .shown))
 
 -- ---- a set of the walk fits the tables of its signals
 pub walked-fitting : (s : List Mono) → Walked s → Fitting 54 s

@@ -2,13 +2,12 @@
 -- of the runner fit together. Assumes nothing.
 use mathlib.Core.Path.{_≡_, sym, ap, _∙_, subst}
 use mathlib.Core.Bool.{true}
-use mathlib.Core.List.{List}
+use mathlib.Core.List.{List, _∷_}
 use Prim.Native.Nat.{ℕ, _+_, _-_, _/_, _<_, _≤_}
 use native.Mathlib.Omega.{arith}
 use borrow.Author.Tests.{leb-true}
 use lib.Dec.{T, T-not}
 use lib.ListN.{length}
-use Rattle.monomial.specs.Lists.{gather}
 use Rattle.monomial.specs.Monomial.{Mono, one}
 use Rattle.monomial.specs.Quotient.{quo, divides}
 use Rattle.monomial.specs.Divisors.{leads, next, pairs, divisors}
@@ -28,9 +27,10 @@ use Rattle.wiring.proofs.signals.Laws.{base-in}
 use Rattle.walk.specs.declared.children.Tried.{Tried}
 use Rattle.walk.specs.declared.walk.State.{State}
 use Rattle.walk.specs.declared.walk.Turn.{Turn}
-use Rattle.walk.specs.Walk.{Finds, child, tried, opened, run}
+use Rattle.walk.specs.Walk.{Finds, Rules, child, Step, triedAll, opened, run}
 use Rattle.walk.specs.Listing.{Shown}
 use Rattle.walk.specs.Turns.{Child, Tells, Sheet, Ready, Split, Splits}
+use Rattle.walk.proofs.Rules.{below-its-level}
 use Rattle.walk.proofs.children.Laws.{not-both, split-longer, nonsquare-fits, child-walked}
 use Rattle.walk.proofs.walk.Laws.{open-tells, choice-member}
 
@@ -92,44 +92,44 @@ module _ (n : ℕ) (terms : List ℕ) (level : ℕ) (set : Set) (m : Mono) (coun
         }
 
 -- what the opener says of the child, in the words of the runner
-pub told-as : (n : ℕ) (terms : List ℕ) (level limit steps count : ℕ) (r : Tried) (s : List Mono) (out₀ out out' : List ℕ) (turn turn' : Turn)
-    → monomialsOf (r .set) ≡ s → length out ≡ length out₀ → turn ≡ turn'
-    → ((d : ℕ) (finds : Finds) → level - r .set .len < d → Shown finds count out
-    → Tells turn out' (run limit (length out / 36) (opened n (system (records terms)) level d (monomialsOf (r .set))) steps finds))
-    → (d : ℕ) (finds : Finds) → level - r .set .len < d → Shown finds count out
-    → Tells turn' out' (run limit (length out₀ / 36) (opened n (system (records terms)) level d s) steps finds)
-told-as n terms level limit steps count r s out₀ out out' turn turn' e k same f d finds h sh =
+pub told-as : (r : Rules) (n : ℕ) (terms : List ℕ) (level limit steps count : ℕ) (t : Tried) (s : List Mono) (out₀ out out' : List ℕ) (turn turn' : Turn)
+    → monomialsOf (t .set) ≡ s → length out ≡ length out₀ → turn ≡ turn'
+    → ((d : ℕ) (finds : Finds) → level - t .set .len < d → Shown finds count out
+    → Tells turn out' (run limit (length out / 36) (opened r n (system (records terms)) level d (monomialsOf (t .set))) steps finds))
+    → (d : ℕ) (finds : Finds) → level - t .set .len < d → Shown finds count out
+    → Tells turn' out' (run limit (length out₀ / 36) (opened r n (system (records terms)) level d s) steps finds)
+told-as r n terms level limit steps count t s out₀ out out' turn turn' e k same f d finds h sh =
     subst (λ (u : Turn). said u (length out₀) s) same (subst (λ (b : ℕ). said turn b s) k (subst (said turn (length out)) e (f d finds h sh)))
   where
     said : Turn → ℕ → List Mono → Type 0
-    said u size x = Tells u out' (run limit (size / 36) (opened n (system (records terms)) level d x) steps finds)
+    said u size x = Tells u out' (run limit (size / 36) (opened r n (system (records terms)) level d x) steps finds)
 
 -- what the runner says of the pairs, in the words of the opener
-module _ (n : ℕ) (terms : List ℕ) (level limit : ℕ) (set : Set) (st : State) (out₀ : List ℕ) (m : Mono) (out : List ℕ)
-    (sp : Split n terms level limit set st out₀ m out) where
+module _ (r : Rules) (n : ℕ) (terms : List ℕ) (level limit : ℕ) (set : Set) (st : State) (out₀ : List ℕ) (ready : Ready n terms level set (st .count) out₀)
+    (m : Mono) (out : List ℕ) (sp : Split r n terms level limit set st out₀ m out) where
   pub split-member : Splits n terms level set m
   split-member = record {
-    below = sp .below;
+    below = omega (arith, ready .size, below-its-level r n level (monomialsOf set) (sp .first ∷ sp .others) (sp .on));
     member = choice-member _ m (sp .first) (sp .others) (sp .are) (sp .is);
   }
 
-  pub split-ready : Ready n terms level set (st .count) out₀ → Ready n terms level set (st .count) out
-  split-ready r = subst (Ready n terms level set (st .count)) (sym (sp .kept)) r
+  pub split-ready : Ready n terms level set (st .count) out
+  split-ready = subst (Ready n terms level set (st .count)) (sym (sp .kept)) ready
 
-  pub split-tells : (turn : Turn) (out' : List ℕ) → length (monomialsOf set) < level
-      → ((d : ℕ) (finds : Finds) → level - set .len ≤ d → Shown finds (st .count) out
-      → Tells turn out'
-      (run limit (length out / 36) (gather (tried n (system (records terms)) level (opened n (system (records terms)) level d) (monomialsOf set)) (pairs m)) (st .steps + 1) finds))
+  -- the steps of the pairs of y, at a bound on the depth
+  abbrev pub split-steps : ℕ → Mono → List Step
+  split-steps d y = triedAll r n (system (records terms)) level (opened r n (system (records terms)) level d) (monomialsOf set) y
+
+  pub split-tells : (turn : Turn) (out' : List ℕ)
+      → ((d : ℕ) (finds : Finds) → level - set .len ≤ d → Shown finds (st .count) out → Tells turn out' (run limit (length out / 36) (split-steps d m) (st .steps + 1) finds))
       → (d : ℕ) (finds : Finds) → level - set .len < d → Shown finds (st .count) out₀
-      → Tells turn out' (run limit (length out₀ / 36) (opened n (system (records terms)) level d (monomialsOf set)) (st .steps) finds)
-  split-tells turn out' low f d finds h sh =
-      open-tells n (system (records terms)) level limit (length out₀ / 36) (st .steps) finds (monomialsOf set) d (set .len) (sp .first) (sp .others) turn out'
-      h (sp .taken) (sp .are) low (λ g k. follows g (f g finds k))
+      → Tells turn out' (run limit (length out₀ / 36) (opened r n (system (records terms)) level d (monomialsOf set)) (st .steps) finds)
+  split-tells turn out' f d finds h sh =
+      open-tells r n (system (records terms)) level limit (length out₀ / 36) (st .steps) finds (monomialsOf set) d (set .len) (sp .first) (sp .others) turn out'
+      h (sp .taken) (sp .are) (sp .on) (λ g k. follows g (f g finds k))
     where
       said : List ℕ → Mono → ℕ → Type 0
-      said o y g =
-          Tells turn out'
-          (run limit (length o / 36) (gather (tried n (system (records terms)) level (opened n (system (records terms)) level g) (monomialsOf set)) (pairs y)) (st .steps + 1) finds)
+      said o y g = Tells turn out' (run limit (length o / 36) (split-steps g y) (st .steps + 1) finds)
 
       follows : (g : ℕ) → (Shown finds (st .count) out → said out m g) → said out₀ (chosen (sp .first) (sp .others)) g
       follows g q = subst (λ (y : Mono). said out₀ y g) (sp .is) (subst (λ (o : List ℕ). Shown finds (st .count) o → said o m g) (sp .kept) q sh)

@@ -12,7 +12,7 @@ use Rattle.wiring.specs.Terms.{Record, records, equation, system}
 use Rattle.wiring.proofs.terms.Laws.{Numbered, records-out, record-long}
 use Rattle.wiring.proofs.derivative.Records.{Stated, equation-out}
 use Rattle.wiring.proofs.kinds.Plain.{plain-lawful}
-use Rattle.wiring.proofs.derivative.Rules.{Rules, Sized, derivative-rules, rules-fix}
+use Rattle.wiring.proofs.derivative.Rules.{Derivation, Sized, derivative-rules, rules-fix}
 
 module _ (bytes : List ℕ) where
   abbrev fs : List (Poly Mono)
@@ -32,8 +32,9 @@ module _ (bytes : List ℕ) where
       sym (ap length (t .2)) ∙ stated-long (e .0) (t .0) (rw (e .2) (t .1))
 
   -- 1' is 0, the derivative of a variable is its equation, and products follow the product rule
-  pub panel-rules : Rules plain 6 (system (records bytes)) (derivative plain (system (records bytes)))
+  pub panel-rules : Derivation plain 6 (system (records bytes)) (derivative plain (system (records bytes)))
   panel-rules = derivative-rules plain plain-lawful 6 fs panel-sized
 
-  pub panel-fixed : (D : Mono → Poly Mono) → Rules plain 6 (system (records bytes)) D → (z : Mono) → length z ≡ 6 → Same plain (D z) (derivative plain (system (records bytes)) z)
+  pub panel-fixed : (D : Mono → Poly Mono) → Derivation plain 6 (system (records bytes)) D → (z : Mono) → length z ≡ 6
+      → Same plain (D z) (derivative plain (system (records bytes)) z)
   panel-fixed D r = rules-fix plain plain-lawful r panel-rules

@@ -52,7 +52,7 @@ sized-at k w (f ∷ fs) h zero m n = h f m here n
 sized-at k w (f ∷ fs) h (suc i) m n = sized-at k w fs (λ g x q. h g x (there q)) i m n
 
 -- what the rules say of a derivation D of monomials in w variables, where fs has the equations
-pub record Rules {M : Type 0} (k : Kind M) (w : ℕ) (fs : List (Poly M)) (D : M → Poly M) : Type 0 where
+pub record Derivation {M : Type 0} (k : Kind M) (w : ℕ) (fs : List (Poly M)) (D : M → Poly M) : Type 0 where
   pub constant : Same k (D (k .one w)) []
   pub variable : (i : ℕ) → i < w → Same k (D (variable k w i)) (getD fs i [])
   pub product : (z y : M) → k .width z ≡ w → k .width y ≡ w → Same k (D (k .mul z y)) (times k (pos 1) z (D y) ++ times k (pos 1) y (D z))
@@ -199,7 +199,7 @@ module _ {M : Type 0} (k : Kind M) (l : Lawful k) where
   product-rule fs z y e m =
       parts-rule 0 fs z y m e ∙ sym (coeff-append k (l .order) (times k (pos 1) z (partsFrom k 0 y fs)) (times k (pos 1) y (partsFrom k 0 z fs)) m)
 
-  pub derivative-rules : (w : ℕ) (fs : List (Poly M)) → Sized k w fs → Rules k w fs (derivative k fs)
+  pub derivative-rules : (w : ℕ) (fs : List (Poly M)) → Sized k w fs → Derivation k w fs (derivative k fs)
   derivative-rules w fs h = record {
     constant = λ m. ap (λ (p : Poly M). coeff k p m) (one-rule w fs);
     variable = λ i b m. ap (λ (p : Poly M). coeff k p m) (variable-rule w i fs b (sized-at k w fs h i));
@@ -227,7 +227,7 @@ module _ {M : Type 0} (k : Kind M) (l : Lawful k) where
   built-width (product {x} {y} p q e) = ap (k .width) (sym e) ∙ l .width-mul x y (built-width p ∙ sym (built-width q)) ∙ built-width p
   built-width (inverse p h e) = h
 
-  module _ {w : ℕ} {fs : List (Poly M)} {D : M → Poly M} (r : Rules k w fs D) where
+  module _ {w : ℕ} {fs : List (Poly M)} {D : M → Poly M} (r : Derivation k w fs D) where
     product-at : (z y m : M) → k .width z ≡ w → k .width y ≡ w → coeff k (D (k .mul z y)) m ≡ over z (D y) m +ℤ over y (D z) m
     product-at z y m e f = r .product z y e f m ∙ coeff-append k (l .order) (times k (pos 1) z (D y)) (times k (pos 1) y (D z)) m
 
@@ -245,7 +245,7 @@ module _ {M : Type 0} (k : Kind M) (l : Lawful k) where
         ap (λ (p : Poly M). coeff k p m) (times-times y (pos 1) x (D y))
         ∙ ap (λ (z : M). over z (D y) m) (l .mul-comm y x ∙ q) ∙ one-times y m e
 
-  module _ {w : ℕ} {fs : List (Poly M)} {D E : M → Poly M} (r : Rules k w fs D) (q : Rules k w fs E) where
+  module _ {w : ℕ} {fs : List (Poly M)} {D E : M → Poly M} (r : Derivation k w fs D) (q : Derivation k w fs E) where
     abbrev Alike : M → Type 0
     Alike z = Same k (D z) (E z)
 

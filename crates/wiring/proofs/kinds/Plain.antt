@@ -1,13 +1,14 @@
 -- The panel's kind of monomials obeys the laws of a kind: its exponents are the natural numbers. Assumes nothing.
 use mathlib.Core.Path.{_≡_, refl, ap, _∙_}
 use mathlib.Core.Logic.{inl}
-use mathlib.Core.List.{List, [], _∷_, map}
+use mathlib.Core.List.{[], _∷_}
 use Prim.Native.Nat.{ℕ, zero, suc, _+_, _-_, _<_}
 use native.Mathlib.Omega.{arith}
 use lib.Dec.{eqb, ltb}
 use lib.IntN.{pos}
 use lib.ListN.{length, getD, set}
 use Rattle.monomial.specs.Monomial.{Mono, one, vars}
+use Rattle.monomial.proofs.Members.{map-at}
 use Rattle.monomial.proofs.order.Laws.{ℕ-order}
 use Rattle.wiring.specs.Poly.{plain}
 use Rattle.wiring.proofs.sets.Laws.{vars-length}
@@ -17,11 +18,6 @@ use Rattle.wiring.proofs.kinds.Powers.{fill-at, Exponent, Near, is-none
 -- ---- 1 and the variables
 pub one-zero : (w i : ℕ) → getD (one w) i 0 ≡ 0
 one-zero = fill-at 0
-
-pub map-at : {A B : Type 0} (f : A → B) (l : List A) (i : ℕ) (a : A) (b : B) → i < length l → getD (map f l) i b ≡ f (getD l i a)
-map-at f [] i a b h = let z : ⊥ = omega arith in absurd z
-map-at f (x ∷ l) zero a b h = refl
-map-at f (x ∷ l) (suc i) a b h = map-at f l i a b (omega arith)
 
 -- a variable is 1 with one exponent raised
 pub var-is : (w i : ℕ) (d : Mono) → i < w → getD (vars w) i d ≡ set (one w) i 1

@@ -218,7 +218,8 @@ outside l m = not (any (same m) l)
 pub passing-unmet : (l v : List Mono) (rs : List Record) (z : Mono) → l ≡ products plain v → passing (outside l) rs z ≡ unmet plain v (derivative plain (system rs) z)
 unfolding unmet
 passing-unmet l v rs z e =
-    keep-alike (outside l) (λ m. not (inV2 plain v m)) (support plain (derivative plain (system rs) z)) (λ m. ap (λ (t : List Mono). not (any (same m) t)) e ∙ ap not (products-is plain plain-lawful v m))
+    keep-alike (outside l) (λ m. not (inV2 plain v m)) (support plain (derivative plain (system rs) z))
+    (λ m. ap (λ (t : List Mono). not (any (same m) t)) e ∙ ap not (products-is plain plain-lawful v m))
 
 pub found-unmet : (l v : List Mono) (rs : List Record) (z : Mono) → l ≡ products plain v
     → any (offers (outside l) (system rs) z) rs ≡ some (unmet plain v (derivative plain (system rs) z))

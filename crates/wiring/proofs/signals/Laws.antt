@@ -14,7 +14,7 @@ use Rattle.monomial.specs.Monomial.{Mono, one, vars, constants}
 use Rattle.monomial.specs.Product.{mul, AtMost, FitsBytes}
 use Rattle.monomial.specs.declared.Monomial.{Monomial}
 use Rattle.monomial.proofs.Loops.{Seeking, seeking-start, seeking-found, seeking-on, seeking-ends, pointwise-length}
-use Rattle.monomial.proofs.Members.{_∈_, here, there, take-in, gather-append}
+use Rattle.monomial.proofs.Members.{_∈_, here, there, take-in, gather-append, map-at}
 use Rattle.monomial.proofs.Counting.{at-in, below-length, below-at}
 use Rattle.monomial.proofs.Strips.{strip-length, strip-at}
 use Rattle.monomial.proofs.product.Laws.{atMost-weaken, atMost-mul}
@@ -28,11 +28,6 @@ pub array-length : (l : List Monomial) (n : ℕ) → length (map (Rattle.monomi
 array-length l n p = sym (length-map l (Rattle.monomial.proofs.Monomial.the-field .into)) ∙ p
 
 module _ {A B : Type 0} (f : A → B) where
-  map-at : (l : List A) (i : ℕ) (y : B) (x : A) → i < length l → getD (map f l) i y ≡ f (getD l i x)
-  map-at [] i y x h = let z : ⊥ = omega arith in absurd z
-  map-at (a ∷ l) zero y x h = refl
-  map-at (a ∷ l) (suc i) y x h = map-at l i y x (omega arith)
-
   map-set : (l : List A) (i : ℕ) (x : A) → map f (set l i x) ≡ set (map f l) i (f x)
   map-set [] i x = refl
   map-set (a ∷ l) zero x = refl
@@ -46,7 +41,7 @@ pub front-length : (k : ℕ) (m : List Monomial) → k ≤ length m → length (
 front-length k m h = length-take-le k (map (λ x. x .e) m) (omega (arith, length-map m (λ x. x .e)))
 
 pub front-at : (k : ℕ) (m : List Monomial) (i : ℕ) (d : Mono) → i < k → k ≤ length m → getD (front k m) i d ≡ (getD m i (record { e = [] })) .e
-front-at k m i d h l = getD-take k (map (λ x. x .e) m) i d h ∙ map-at (λ x. x .e) m i d (record { e = [] }) (omega arith)
+front-at k m i d h l = getD-take k (map (λ x. x .e) m) i d h ∙ map-at (λ x. x .e) m i (record { e = [] }) d (omega arith)
 
 pub front-drop : (k : ℕ) (m : List Monomial) (i : ℕ) → i < k → k ≤ length m → drop i (front k m) ≡ entry m i ∷ drop (i + 1) (front k m)
 front-drop k m i h l =

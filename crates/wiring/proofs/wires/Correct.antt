@@ -1,6 +1,6 @@
 -- What a wiring list says as a whole, and that the bytes of its records say the same: the rows of all left variables by their numbers, each of
 -- them its derivative. One list does so. Assumes nothing.
-use mathlib.Core.Path.{_≡_, refl, sym, ap, ap₂, _∙_}
+use mathlib.Core.Path.{_≡_, refl, sym, ap, _∙_}
 use mathlib.Core.List.{List, [], _∷_, _++_, append-assoc}
 use Prim.Native.Nat.{ℕ, zero, suc, _+_, _*_, _-_, _≤_, _<_}
 use native.Mathlib.Omega.{arith}
@@ -9,7 +9,7 @@ use lib.ListN.{length, getD, take, drop, replicate}
 use lib.Seq.{take-at, drop-append-add, getD-append-add}
 use Rattle.monomial.specs.Lists.{gather, below}
 use Rattle.monomial.specs.Product.{AtMost}
-use Rattle.monomial.proofs.Members.{_∈_, here, there}
+use Rattle.monomial.proofs.Members.{gather-same}
 use Rattle.monomial.proofs.Counting.{below-out}
 use Rattle.monomial.proofs.product.Laws.{atMost-at}
 use Rattle.wiring.specs.Coefficient.{word, signed}
@@ -27,18 +27,13 @@ pub record Correct {M : Type 0} (k : Kind M) (v : List M) (d : M → Poly M) (li
   pub rows : (i : ℕ) → i < length v → Row k v i (d (signal k v i)) (rowOf i list)
   pub ordered : list ≡ gather (λ i. rowOf i list) (below (length v))
 
-gather-alike : (f g : ℕ → List Wire) (l : List ℕ) → ((i : ℕ) → i ∈ l → f i ≡ g i) → gather f l ≡ gather g l
-unfolding gather
-gather-alike f g [] h = refl
-gather-alike f g (i ∷ l) h = ap₂ _++_ (h i here) (gather-alike f g l (λ j k. h j (there k)))
-
 module _ {M : Type 0} (k : Kind M) (v : List M) (d : M → Poly M) where
   abbrev own : ℕ → List Wire
   own i = row k v i (d (signal k v i))
 
   -- the rows of any list that are the rows of the wiring list make that list
   rows-alike : (l : List Wire) → ((i : ℕ) → i < length v → rowOf i l ≡ own i) → gather (λ i. rowOf i l) (below (length v)) ≡ wiring k v d
-  rows-alike l h = gather-alike (λ i. rowOf i l) own (below (length v)) (λ i k. h i (below-out (length v) i k)) ∙ sym (wiring-rows k v d)
+  rows-alike l h = gather-same (λ i. rowOf i l) own (below (length v)) (λ i k. h i (below-out (length v) i k)) ∙ sym (wiring-rows k v d)
 
   pub wiring-correct : Lawful k → Met k v d → Correct k v d (wiring k v d)
   wiring-correct law met = record { rows = wiring-is k v d law met; ordered = sym (rows-alike (wiring k v d) (wiring-row k v d)) }

@@ -1,5 +1,5 @@
--- The wiring list, for any kind of monomials, any list v of signals and any derivation d whose monomials are all in V2: what each record says, that the records of one
--- left variable are its derivative, and that the list is these rows one after the other. Assumes nothing.
+-- The wiring list, for any kind of monomials, any list v of signals and any derivation d whose monomials are all in V2: what each record says,
+-- that the records of one left variable are its derivative, and that the list is these rows one after the other. Assumes nothing.
 use mathlib.Core.Path.{_≡_, refl, sym, ap, ap₂, _∙_, subst}
 use mathlib.Core.Logic.{⊎-elim}
 use mathlib.Core.Bool.{Bool}
@@ -222,7 +222,13 @@ module _ {M : Type 0} (k : Kind M) (law : Lawful k) (v : List M) (i : ℕ) (p : 
       m = joined k v x
 
       met : T (inV2 k v m)
-      met = inV2-in k (law .order) v m (record { a = signal k v (x .a); b = signal k v (x .b); a-in = at-in v (x .a) (k .one 0) (w .a-below); b-in = at-in v (x .b) (k .one 0) (w .b-below); is = refl })
+      met = inV2-in k (law .order) v m (record {
+        a = signal k v (x .a);
+        b = signal k v (x .b);
+        a-in = at-in v (x .a) (k .one 0) (w .a-below);
+        b-in = at-in v (x .b) (k .one 0) (w .b-below);
+        is = refl;
+      })
 
       first : x .a ≡ firstOf k v m
       first =

@@ -20,12 +20,13 @@ use Rattle.monomial.proofs.order.Laws.{mono-order}
 use Rattle.monomial.proofs.order.Ascending.{from}
 use Rattle.wiring.specs.Sets.{monomialsOf}
 use Rattle.wiring.specs.Terms.{records, system}
-use Rattle.walk.specs.Walk.{Finds, child, opened, run}
+use Rattle.walk.specs.Walk.{Finds, bare, child, opens, opened, run}
 use Rattle.walk.specs.Listing.{Shown}
 use Rattle.walk.specs.Turns.{Child, Tells}
 use Rattle.walk.specs.declared.walk.State.{State}
 use Rattle.walk.specs.declared.walk.Turn.{Turn}
 use Rattle.walk.specs.declared.walk.Turn.the-variants.{Going, Spent, Full}
+use Rattle.walk.proofs.Rules.{bare-opens}
 use Rattle.walk.proofs.walk.Laws.{judged-closed, judged-split, Running, running-start, running-sheet, running-end, running-spent, running-shut, running-going, running-child-spent, running-child-full}
 use Rattle.walk.proofs.walk.Runner.{fewer-left, gap-wide, gap-proper, child-more, child-within, child-ready, told-as, split-member, split-ready, split-tells}
 use Rattle.walk.proofs.walk.open.Reads as opener
@@ -76,14 +77,14 @@ opener-returns t c =
     λ d finds h sh.
     let a = c .before .before .before .before .before .before .before .before .args in
     let j = c .before .before .before .before .judge in
-    judged-closed (a .f .n) (a .terms .now) (a .f .level) (a .f .limit) (a .set) (a .st) (a .out .now) (j .result) (j .last .1 .0)
+    judged-closed bare (a .f .n) (a .terms .now) (a .f .level) (a .f .limit) (a .set) (a .st) (a .out .now) (j .result) (j .last .1 .0)
     (not-true _ (c .if1 .taken)) (j .ensures) d finds (omega arith) sh
 
 opener-add-t12 : (t : ℕ) → opener-lts.Need-add-t12 (opener-claims t) (opener-at t) opener.Post
 opener-add-t12 t c =
     let a = c .before .before .before .before .before .before .before .before .before .before .args in
     let j = c .before .before .before .before .before .before .judge in
-    let sp = judged-split (a .f .n) (a .terms .now) (a .f .level) (a .f .limit) (a .set) (a .st) (a .out .now) (j .result) (j .last .1 .0)
+    let sp = judged-split bare (a .f .n) (a .terms .now) (a .f .level) (a .f .limit) (a .set) (a .st) (a .out .now) (j .result) (j .last .1 .0)
     (not-false _ (c .before .before .if1 .left)) (j .ensures) in
     search (needs, sp .taken, c .before .before .before .before .before .before .before .before .before .before .good)
 
@@ -92,10 +93,12 @@ opener-pairs-requires t c κs =
     let s = c .before .before .before .before .before .before .before .before .before .before .before in
     let a = s .args in
     let j = c .before .before .before .before .before .before .before .judge in
-    let sp = judged-split (a .f .n) (a .terms .now) (a .f .level) (a .f .limit) (a .set) (a .st) (a .out .now) (j .result) (j .last .1 .0)
+    let sp = judged-split bare (a .f .n) (a .terms .now) (a .f .level) (a .f .limit) (a .set) (a .st) (a .out .now) (j .result) (j .last .1 .0)
     (not-false _ (c .before .before .before .if1 .left)) (j .ensures) in
     let step : 2 * (a .f .level - a .set .len) < t = omega (arith, s .pre .0) in
-    (step, (split-ready (a .f .n) (a .terms .now) (a .f .level) (a .f .limit) (a .set) (a .st) (a .out .now) _ _ sp (s .pre .1), split-member (a .f .n) (a .terms .now) (a .f .level) (a .f .limit) (a .set) (a .st) (a .out .now) _ _ sp))
+    let ready = split-ready bare (a .f .n) (a .terms .now) (a .f .level) (a .f .limit) (a .set) (a .st) (a .out .now) (s .pre .1) _ _ sp in
+    let member = split-member bare (a .f .n) (a .terms .now) (a .f .level) (a .f .limit) (a .set) (a .st) (a .out .now) (s .pre .1) _ _ sp in
+    (step, (ready, member))
 
 opener-same-length-2 : (t : ℕ) → opener-lts.Need-same-length-2 (opener-claims t) (opener-at t) opener.Post
 opener-same-length-2 t c =
@@ -108,10 +111,9 @@ opener-returns-2 t c =
     let a = s .args in
     let j = c .before .before .before .before .before .before .before .before .before .before .judge in
     let r = c .before .before .pairs in
-    let sp = judged-split (a .f .n) (a .terms .now) (a .f .level) (a .f .limit) (a .set) (a .st) (a .out .now) (j .result) (j .last .1 .0)
+    let sp = judged-split bare (a .f .n) (a .terms .now) (a .f .level) (a .f .limit) (a .set) (a .st) (a .out .now) (j .result) (j .last .1 .0)
     (not-false _ (c .before .before .before .before .before .before .if1 .left)) (j .ensures) in
-    let low : length (monomialsOf (a .set)) < a .f .level = omega (arith, sp .below, s .pre .1 .size) in
-    split-tells (a .f .n) (a .terms .now) (a .f .level) (a .f .limit) (a .set) (a .st) (a .out .now) _ _ sp (r .result) (r .last .1 .0) low (r .ensures) d finds h sh
+    split-tells bare (a .f .n) (a .terms .now) (a .f .level) (a .f .limit) (a .set) (a .st) (a .out .now) (s .pre .1) _ _ sp (r .result) (r .last .1 .0) (r .ensures) d finds h sh
 
 -- ---- the pair runner
 abbrev runner-claims : ℕ → runner-lts.Claims
@@ -131,7 +133,7 @@ runner-claims t = (
 )
 
 abbrev Inv-loop : runner-lts.InvT-loop
-Inv-loop terms out₀ f set m v cur₀ a₀ out cur a = Running (f .n) terms (f .level) (f .limit) set (m .e) cur₀ out₀ (a .e) cur out
+Inv-loop terms out₀ f set m v cur₀ a₀ out cur a = Running bare (f .n) terms (f .level) (f .limit) set (m .e) cur₀ out₀ (a .e) cur out
 
 abbrev μ-loop : runner-lts.MeasureT-loop
 μ-loop terms out₀ f set m v cur₀ a₀ out cur a = length (from mono-order (a .e) (divisors (m .e)))
@@ -171,6 +173,11 @@ module _ (t : ℕ) (c : Offered t) where
       subst (λ (b : Mono). Child (a .f .level) (child (a .f .n) (monomialsOf (a .set)) (first, b)) (c .offer .result)) (c .before .over .ensures)
       (c .offer .ensures (a .f .n) (c .before .before .before .before .before .before .before .signals-of .ensures .0))
 
+  offered-opens : opens bare (begun .args .f .n) (begun .args .f .level) (monomialsOf (begun .args .set)) (first, quo (begun .args .m .e) first) ≡ c .offer .result .go
+  offered-opens =
+      let a = begun .args in
+      bare-opens (a .f .n) (a .f .level) (monomialsOf (a .set)) (first, quo (a .m .e) first) ∙ sym (offered-child .go)
+
   -- the child is opened
   module _ (go : c .offer .result .go ≡ true) where
     offered-more : begun .args .set .len < c .offer .result .set .len
@@ -190,13 +197,13 @@ module _ (t : ℕ) (c : Offered t) where
     told-of turn size s out' =
         (d : ℕ) (finds : Finds) → begun .args .f .level - c .offer .result .set .len < d → Shown finds (reached .count) sheet
         → Tells turn out'
-        (run (begun .args .f .limit) (size / 36) (opened (begun .args .f .n) (system (records (begun .args .terms .now))) (begun .args .f .level) d s) (reached .steps + 1) finds)
+        (run (begun .args .f .limit) (size / 36) (opened bare (begun .args .f .n) (system (records (begun .args .terms .now))) (begun .args .f .level) d s) (reached .steps + 1) finds)
 
     offered-told : (turn turn' : Turn) (out' : List ℕ) → turn ≡ turn' → told-of turn (length sheet) (monomialsOf (c .offer .result .set)) out'
         → told-of turn' (length (begun .args .out .now)) offspring out'
     offered-told turn turn' out' e f =
         let a = begun .args in
-        told-as (a .f .n) (a .terms .now) (a .f .level) (a .f .limit) (reached .steps + 1) (reached .count) (c .offer .result) offspring (a .out .now) sheet out' turn turn'
+        told-as bare (a .f .n) (a .terms .now) (a .f .level) (a .f .limit) (reached .steps + 1) (reached .count) (c .offer .result) offspring (a .out .now) sheet out' turn turn'
         (offered-child .is go) (c .before .before .before .before .before .before .loop .inv .long) e f
 
 runner-signals-of-requires : (t : ℕ) → runner-lts.Need-signals-of-requires (runner-claims t) (runner-at t) runner.Post Inv-loop μ-loop
@@ -209,8 +216,8 @@ runner-loop-holds t c =
     let s = c .before .before .before in
     let a = s .args in
     let wide = gap-wide (a .f .n) (a .terms .now) (a .f .level) (a .set) (a .m .e) (a .st .count) (a .out .now) (s .pre .1 .0) (s .pre .1 .1) in
-    subst (λ (w : ℕ). Running (a .f .n) (a .terms .now) (a .f .level) (a .f .limit) (a .set) (a .m .e) (a .st) (a .out .now) (one w) (a .st) (a .out .now)) wide
-    (running-start (a .f .n) (a .terms .now) (a .f .level) (a .f .limit) (a .set) (a .m .e) (a .st) (a .out .now))
+    subst (λ (w : ℕ). Running bare (a .f .n) (a .terms .now) (a .f .level) (a .f .limit) (a .set) (a .m .e) (a .st) (a .out .now) (one w) (a .st) (a .out .now)) wide
+    (running-start bare (a .f .n) (a .terms .now) (a .f .level) (a .f .limit) (a .set) (a .m .e) (a .st) (a .out .now))
 
 runner-leads-requires : (t : ℕ) → runner-lts.Need-leads-requires (runner-claims t) (runner-at t) runner.Post Inv-loop μ-loop
 runner-leads-requires t c κs = c .loop .inv .divisor
@@ -225,7 +232,7 @@ runner-returns t c =
     let a = s .args in
     let proper = gap-proper (a .f .n) (a .terms .now) (a .f .level) (a .set) (a .m .e) (a .st .count) (a .out .now) (s .pre .1 .0) (s .pre .1 .1) in
     let lead = is→T _ (sym (c .before .before .before .leads .ensures) ∙ c .before .before .if1 .taken) in
-    running-spent (a .f .n) (a .terms .now) (a .f .level) (a .f .limit) (a .set) (a .m .e) (a .st) (a .out .now)
+    running-spent bare (a .f .n) (a .terms .now) (a .f .level) (a .f .limit) (a .set) (a .m .e) (a .st) (a .out .now)
     (c .before .before .before .before .loop .inv) proper lead (omega arith) d finds h sh
 
 runner-add-t19 : (t : ℕ) → runner-lts.Need-add-t19 (runner-claims t) (runner-at t) runner.Post Inv-loop μ-loop
@@ -247,7 +254,7 @@ runner-open-requires t c κs =
     let k = c .before .before .before .before .before .before .before .before .before .loop in
     let o = c .before .before .before in
     let go = c .before .before .if3 .taken in
-    let sheet = running-sheet (a .f .n) (a .terms .now) (a .f .level) (a .f .limit) (a .set) (a .m .e) (a .st) (a .out .now) (k .a .e) (k .cur)
+    let sheet = running-sheet bare (a .f .n) (a .terms .now) (a .f .level) (a .f .limit) (a .set) (a .m .e) (a .st) (a .out .now) (k .a .e) (k .cur)
     (k .out) (k .inv) (s .pre .1 .0 .sheet) in
     let ready = child-ready (a .f .n) (a .terms .now) (a .f .level) (a .set) (a .m .e) (a .st .count) (a .out .now) (s .pre .1 .0) (s .pre .1 .1)
     (k .a .e) (k .inv .divisor) (offered-lead t o) (o .offer .result) (offered-child t o) go (k .cur .count) (k .out) sheet in
@@ -276,12 +283,11 @@ runner-returns-2 t c =
     let o = c .before .before .before .before .before .before .before .before in
     let r = o .offer .result in
     let go = c .before .before .before .before .before .before .before .if3 .taken in
-    let ch = offered-child t o in
     let told = offered-told t o go (c .before .before .before .before .«open» .result) Spent (c .before .before .before .before .«open» .last .1 .0)
     (c .enum-told .given .1) (c .before .before .before .before .«open» .ensures) in
-    running-child-spent (a .f .n) (a .terms .now) (a .f .level) (a .f .limit) (a .set) (a .m .e) (a .st) (a .out .now) (k .inv) (offered-proper t o) (offered-lead t o)
+    running-child-spent bare (a .f .n) (a .terms .now) (a .f .level) (a .f .limit) (a .set) (a .m .e) (a .st) (a .out .now) (k .inv) (offered-proper t o) (offered-lead t o)
     (r .set .len) (offered-more t o go) (s .pre .1 .1 .below)
-    (omega (arith, c .before .before .before .before .before .before .before .before .before .before .if2 .left)) (sym (ch .go) ∙ go)
+    (omega (arith, c .before .before .before .before .before .before .before .before .before .before .if2 .left)) (offered-opens t o ∙ go)
     (c .before .before .before .before .«open» .last .1 .0) told d finds h sh
 
 runner-enum-known-s-2 : (t : ℕ) → runner-lts.Need-enum-known-s-2 (runner-claims t) (runner-at t) runner.Post Inv-loop μ-loop
@@ -301,13 +307,12 @@ runner-returns-3 t c =
     let o = c .before .before .before .before .before .before .before .before .before in
     let r = o .offer .result in
     let go = c .before .before .before .before .before .before .before .before .if3 .taken in
-    let ch = offered-child t o in
     let told = offered-told t o go (c .before .before .before .before .before .«open» .result) (Full (c .before .s2 .given .0 .0))
     (c .before .before .before .before .before .«open» .last .1 .0) (c .before .s2 .given .1)
     (c .before .before .before .before .before .«open» .ensures) in
-    running-child-full (a .f .n) (a .terms .now) (a .f .level) (a .f .limit) (a .set) (a .m .e) (a .st) (a .out .now) (k .inv) (offered-proper t o) (offered-lead t o)
+    running-child-full bare (a .f .n) (a .terms .now) (a .f .level) (a .f .limit) (a .set) (a .m .e) (a .st) (a .out .now) (k .inv) (offered-proper t o) (offered-lead t o)
     (r .set .len) (offered-more t o go) (s .pre .1 .1 .below)
-    (omega (arith, c .before .before .before .before .before .before .before .before .before .before .before .if2 .left)) (sym (ch .go) ∙ go)
+    (omega (arith, c .before .before .before .before .before .before .before .before .before .before .before .if2 .left)) (offered-opens t o ∙ go)
     (c .before .s2 .given .0 .0) (c .before .before .before .before .before .«open» .last .1 .0) told d finds h sh
 
 runner-next-divisor-requires : (t : ℕ) → runner-lts.Need-next-divisor-requires (runner-claims t) (runner-at t) runner.Post Inv-loop μ-loop
@@ -329,19 +334,18 @@ runner-loop-again t c =
     let k = c .before .before .before .before .before .before .before .before .loop in
     let o = c .before .before in
     let r = o .offer .result in
-    let ch = offered-child t o in
     let room = c .before .before .before .before .if2 .left in
     ⊎-elim
     (λ w.
     let go = w .0 .taken in
     let told = offered-told t o go (w .3 .result) (Going (w .7 .given .0 .0)) (w .3 .last .1 .0) (w .7 .given .1) (w .3 .ensures) in
     rw (c .next-divisor .ensures, w .9, w .10)
-    (running-going (a .f .n) (a .terms .now) (a .f .level) (a .f .limit) (a .set) (a .m .e) (a .st) (a .out .now) (k .inv) (offered-proper t o) (offered-lead t o)
-    (r .set .len) (offered-more t o go) (s .pre .1 .1 .below) (omega (arith, room)) (sym (ch .go) ∙ go) (w .7 .given .0 .0) (w .3 .last .1 .0) (w .3 .kept .1 .0) told))
+    (running-going bare (a .f .n) (a .terms .now) (a .f .level) (a .f .limit) (a .set) (a .m .e) (a .st) (a .out .now) (k .inv) (offered-proper t o) (offered-lead t o)
+    (r .set .len) (offered-more t o go) (s .pre .1 .1 .below) (omega (arith, room)) (offered-opens t o ∙ go) (w .7 .given .0 .0) (w .3 .last .1 .0) (w .3 .kept .1 .0) told))
     (λ w.
     rw (c .next-divisor .ensures, w .1, w .2)
-    (running-shut (a .f .n) (a .terms .now) (a .f .level) (a .f .limit) (a .set) (a .m .e) (a .st) (a .out .now) (k .inv) (offered-proper t o) (offered-lead t o)
-    _ refl refl (omega (arith, room)) (sym (ch .go) ∙ w .0 .left)))
+    (running-shut bare (a .f .n) (a .terms .now) (a .f .level) (a .f .limit) (a .set) (a .m .e) (a .st) (a .out .now) (k .inv) (offered-proper t o) (offered-lead t o)
+    _ refl refl (omega (arith, room)) (offered-opens t o ∙ w .0 .left)))
     (c .before .if3 .came)
 
 runner-same-length-4 : (t : ℕ) → runner-lts.Need-same-length-4 (runner-claims t) (runner-at t) runner.Post Inv-loop μ-loop
@@ -351,7 +355,7 @@ runner-returns-4 : (t : ℕ) → runner-lts.Need-returns-4 (runner-claims t) (ru
 runner-returns-4 t c =
     λ d finds h sh.
     let a = c .before .before .before .before .before .before .args in
-    running-end (a .f .n) (a .terms .now) (a .f .level) (a .f .limit) (a .set) (a .m .e) (a .st) (a .out .now) (c .before .before .loop .inv)
+    running-end bare (a .f .n) (a .terms .now) (a .f .level) (a .f .limit) (a .set) (a .m .e) (a .st) (a .out .now) (c .before .before .loop .inv)
     (is→nT _ (sym (c .before .leads .ensures) ∙ c .if1 .left)) d finds h sh
 
 pub +open+pairs-spec : {M : Type 1} → statement M

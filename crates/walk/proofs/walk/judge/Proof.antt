@@ -1,6 +1,6 @@
 -- `judge` meets its contract: spent, found, at the level's end, or to be split. Assumes nothing.
 use mathlib.Core.Path.{refl, sym, subst}
-use mathlib.Core.List.{List}
+use mathlib.Core.List.{List, _∷_}
 use Prim.Native.Nat.{_/_}
 use native.Mathlib.Omega.{arith}
 use lib.ListN.{length}
@@ -17,7 +17,9 @@ use Rattle.monomial.proofs.Tests.{is→T}
 use Rattle.monomial.specs.Lists.{some}
 use Rattle.wiring.proofs.signals.Laws.{signals-length}
 use Rattle.wiring.proofs.answers.Laws.{first-as, first-some, first-none}
+use Rattle.walk.specs.Walk.{bare}
 use Rattle.walk.specs.Turns.{Tells}
+use Rattle.walk.proofs.Rules.{at-its-level, bare-goes-on}
 use Rattle.walk.proofs.walk.Laws.{open-spent, open-none, open-stops, picked-choice, signals-fit}
 use borrow.Author.Needs.{needs}
 use Rattle.walk.proofs.walk.judge.Statement.{statement}
@@ -27,7 +29,7 @@ returns : tie.Need-returns
 returns c =
     λ d finds p sh.
     let a = c .before .before .before .before .args in
-    open-spent (a .f .n) (system (records (a .terms .now))) (a .f .level) (a .f .limit) (length (a .out .now) / 36) (a .st .steps) finds (monomialsOf (a .set)) d p (omega arith)
+    open-spent bare (a .f .n) (system (records (a .terms .now))) (a .f .level) (a .f .limit) (length (a .out .now) / 36) (a .st .steps) finds (monomialsOf (a .set)) d p (omega arith)
 
 add-t17 : tie.Need-add-t17
 add-t17 c = search needs
@@ -87,7 +89,7 @@ returns-2 c =
     let at = c .before .before .before .before .before .before .first-unmet .result in
     let first = first-as (a .f .n) fs m _ at (v .0) (c .before .before .before .before .before .before .first-unmet .ensures) in
     let none = first-none (a .f .n) fs m at first (omega arith) in
-    let told = open-none (a .f .n) fs (a .f .level) (a .f .limit) (length (a .out .now) / 36) (a .st .steps) finds m d p (omega arith) none in
+    let told = open-none bare (a .f .n) fs (a .f .level) (a .f .limit) (length (a .out .now) / 36) (a .st .steps) finds m d p (omega arith) none in
     subst (Tells (c .before .before .found .result) (c .before .before .found .last .0)) (sym told) (c .before .before .found .ensures finds sh)
 
 returns-3 : tie.Need-returns-3
@@ -103,10 +105,11 @@ returns-3 c =
     let at = c .before .before .before .before .before .first-unmet .result in
     let first = first-as (a .f .n) fs m _ at (v .0) (c .before .before .before .before .before .first-unmet .ensures) in
     let some = first-some (a .f .n) fs m at first (omega arith) in
+    let last = at-its-level bare (a .f .n) (a .f .level) m (missing (a .f .n) fs m) (omega arith) in
     record {
       finds = finds;
       shown = sh;
-      is = open-stops (a .f .n) fs (a .f .level) (a .f .limit) (length (a .out .now) / 36) (a .st .steps) finds m d p (omega arith) some (omega arith);
+      is = open-stops bare (a .f .n) fs (a .f .level) (a .f .limit) (length (a .out .now) / 36) (a .st .steps) finds m d p (omega arith) some last;
     }
 
 array-share-prefix-table-2 : tie.Need-array-share-prefix-table-2
@@ -148,10 +151,10 @@ returns-4 c =
     let choice = picked-choice (missing (a .f .n) fs m) p there picked in
     record {
       taken = omega (arith, c .before .before .before .before .before .before .before .before .before .before .before .before .before .before .if1 .left);
-      below = omega (arith, c .before .before .before .if3 .left);
       first = choice .first;
       others = choice .others;
       are = choice .are;
+      on = bare-goes-on (a .f .n) (a .f .level) m (choice .first ∷ choice .others) (omega (arith, c .before .before .before .if3 .left));
       is = choice .is;
       kept = refl;
     }

@@ -1,7 +1,7 @@
 -- `pair_of` meets its contract: both loops look for the first that passes (`Rowing` outside, `Placing` inside). Assumes nothing.
 use mathlib.Core.Path.{_≡_, refl, sym, ap, ap₂, _∙_}
 use mathlib.Core.List.{[]}
-use Prim.Native.Nat.{_-_, _<_}
+use Prim.Native.Nat.{ℕ, _-_, _<_, _≤_}
 use native.Mathlib.Omega.{arith}
 use borrow.Author.Needs.{needs}
 use lib.ListN.{length, getD}
@@ -9,6 +9,7 @@ use Rattle.monomial.specs.Monomial.{Mono}
 use Rattle.monomial.specs.Order.{same}
 use Rattle.monomial.specs.Product.{mul}
 use Rattle.monomial.proofs.Loops.{Placing, placing-start, placing-on}
+use Rattle.wiring.specs.declared.signals.Signals.{Signals}
 use Rattle.wiring.specs.Signals.{signalsOf}
 use Rattle.wiring.proofs.signals.Laws.{array-length, front-length, front-at, product-of-two}
 use Rattle.wiring.proofs.wires.Pairs.{beside, Rowing, row-start, row-ends, pair-first, pair-second, pair-there}
@@ -28,6 +29,23 @@ Inv-found m v len r₀ a₀ r a = (len ≡ v .len) × Rowing (signalsOf v) (m .e
 abbrev μ-found : tie.MeasureT-found
 μ-found m v len r₀ a₀ r a = len - a
 
+-- The places in a scope of their own: `omega` reads all that is in sight, and at a need that is much.
+module _ (v : Signals) (room : length (v .m) ≡ 13) (fits : v .len ≤ 13) where
+  long : length (signalsOf v) ≡ v .len
+  long = front-length (v .len) (v .m) (omega arith)
+
+  at : (i : ℕ) → i < v .len → getD (signalsOf v) i [] ≡ (getD (v .m) i (record { e = [] })) .e
+  at i h = front-at (v .len) (v .m) i [] h (omega arith)
+
+  within : (i : ℕ) → i < v .len → i < length (signalsOf v)
+  within i h = omega (arith, long)
+
+  beyond : (i : ℕ) → v .len ≤ i → length (signalsOf v) ≤ i
+  beyond i h = omega (arith, long)
+
+  small : (i : ℕ) → i < v .len → i < 13
+  small i h = omega arith
+
 found-holds : tie.Need-found-holds Inv-loop μ-loop Inv-found μ-found
 found-holds c = (refl, placing-start _ _)
 
@@ -43,9 +61,8 @@ loop-holds c =
     let v = s .args .t1 in
     let k = c .before .before .found in
     let room : length (v .m) ≡ 13 = search (needs, array-length) in
-    let long = front-length (v .len) (v .m) (omega arith) in
-    let at-a = front-at (v .len) (v .m) (k .a) [] (omega arith) (omega arith) in
-    (k .inv .0, (omega arith, (sym at-a, (k .inv .1, row-start (signalsOf v) (s .args .m .e) (k .a) (omega arith) (k .inv .1)))))
+    let ha : k .a < v .len = omega arith in
+    (k .inv .0, (omega arith, (sym (at v room (s .pre .0) (k .a) ha), (k .inv .1, row-start (signalsOf v) (s .args .m .e) (k .a) (within v room (s .pre .0) (k .a) ha) (k .inv .1)))))
 
 mul-y : tie.Need-mul-y Inv-loop μ-loop Inv-found μ-found
 mul-y c = search needs
@@ -59,9 +76,10 @@ times-requires c κs =
     let v = s .args .t1 in
     let k = c .before .before .loop in
     let room : length (v .m) ≡ 13 = search (needs, array-length) in
-    let long = front-length (v .len) (v .m) (omega arith) in
-    let at-b = front-at (v .len) (v .m) (k .b) [] (omega arith) (omega arith) in
-    rw (k .inv .1 .1 .0, ← at-b) (product-of-two (signalsOf v) (c .before .before .before .before .before .found .a) (k .b) [] (s .pre .1 .0) (omega arith) (omega arith))
+    let a = c .before .before .before .before .before .found .a in
+    let ha : a < v .len = rw (k .inv .0) at (k .inv .1 .0) in
+    let hb : k .b < v .len = omega arith in
+    rw (k .inv .1 .1 .0, ← at v room (s .pre .0) (k .b) hb) (product-of-two (signalsOf v) a (k .b) [] (s .pre .1 .0) (within v room (s .pre .0) a ha) (within v room (s .pre .0) (k .b) hb))
 
 same-requires : tie.Need-same-requires Inv-loop μ-loop Inv-found μ-found
 same-requires c κs = search needs
@@ -79,11 +97,11 @@ loop-again c =
     let o = c .before .before .before .before .before .before .before .before .found in
     let k = c .before .before .before .before .before .loop in
     let room : length (v .m) ≡ 13 = search (needs, array-length) in
-    let long = front-length (v .len) (v .m) (omega arith) in
-    let at-b = front-at (v .len) (v .m) (k .b) [] (omega arith) (omega arith) in
+    let hb : k .b < v .len = omega arith in
+    let at-b = at v room (s .pre .0) (k .b) hb in
     let product = c .before .before .times .ensures ∙ ap₂ mul (k .inv .1 .1 .0) (sym at-b) in
     let told = ap (λ (p : Mono). same p (s .args .m .e)) (sym product) ∙ sym (c .before .same .ensures) in
-    let inner = placing-on (beside (signalsOf v) (s .args .m .e) (getD (signalsOf v) (o .a) [])) [] (k .inv .1 .1 .1 .1) (omega arith) (told ∙ c .if1 .left) in
+    let inner = placing-on (beside (signalsOf v) (s .args .m .e) (getD (signalsOf v) (o .a) [])) [] (k .inv .1 .1 .1 .1) (within v room (s .pre .0) (k .b) hb) (told ∙ c .if1 .left) in
     (k .inv .0, (k .inv .1 .0, (k .inv .1 .1 .0, (k .inv .1 .1 .1 .0, inner))))
 
 add-a : tie.Need-add-a Inv-loop μ-loop Inv-found μ-found
@@ -99,8 +117,9 @@ found-again c =
     let o = c .before .before .before .before .found in
     let k = c .before .loop in
     let room : length (v .m) ≡ 13 = search (needs, array-length) in
-    let long = front-length (v .len) (v .m) (omega arith) in
-    (k .inv .0, row-ends (signalsOf v) (s .args .m .e) (o .a) (omega arith) (k .inv .1 .1 .1 .0) (k .b) (k .inv .1 .1 .1 .1) (omega arith))
+    let ha : o .a < v .len = rw (k .inv .0) at (k .inv .1 .0) in
+    let hb : v .len ≤ k .b = omega arith in
+    (k .inv .0, row-ends (signalsOf v) (s .args .m .e) (o .a) (within v room (s .pre .0) (o .a) ha) (k .inv .1 .1 .1 .0) (k .b) (k .inv .1 .1 .1 .1) (beyond v room (s .pre .0) (k .b) hb))
 
 returns : tie.Need-returns Inv-loop μ-loop Inv-found μ-found
 returns c =
@@ -108,8 +127,8 @@ returns c =
     let v = s .args .t1 in
     let k = c .before .found in
     let room : length (v .m) ≡ 13 = search (needs, array-length) in
-    let long = front-length (v .len) (v .m) (omega arith) in
-    absurd (pair-there (signalsOf v) (s .args .m .e) (k .a) (k .inv .1) (omega arith) (s .pre .1 .1))
+    let ha : v .len ≤ k .a = omega arith in
+    absurd (pair-there (signalsOf v) (s .args .m .e) (k .a) (k .inv .1) (beyond v room (s .pre .0) (k .a) ha) (s .pre .1 .1))
 
 returns-2 : tie.Need-returns-2 Inv-loop μ-loop Inv-found μ-found
 returns-2 c =
@@ -118,14 +137,17 @@ returns-2 c =
     let o = c .before .before .before .before .before .before .before .before .found in
     let k = c .before .before .before .before .before .loop in
     let room : length (v .m) ≡ 13 = search (needs, array-length) in
-    let long = front-length (v .len) (v .m) (omega arith) in
-    let at-b = front-at (v .len) (v .m) (k .b) [] (omega arith) (omega arith) in
+    let hb : k .b < v .len = omega arith in
+    let at-b = at v room (s .pre .0) (k .b) hb in
     let product = c .before .before .times .ensures ∙ ap₂ mul (k .inv .1 .1 .0) (sym at-b) in
     let told = ap (λ (p : Mono). same p (s .args .m .e)) (sym product) ∙ sym (c .before .same .ensures) in
     let hit = told ∙ c .if1 .taken in
-    let first = pair-first (signalsOf v) (s .args .m .e) (o .a) (omega arith) (k .inv .1 .1 .1 .0) (k .b) (omega arith) (k .inv .1 .1 .1 .1) hit in
-    let second = pair-second (signalsOf v) (s .args .m .e) (o .a) (omega arith) (k .inv .1 .1 .1 .0) (k .b) (omega arith) (k .inv .1 .1 .1 .1) hit in
-    (first, (second, (omega arith, omega arith)))
+    let ha : o .a < v .len = rw (k .inv .0) at (k .inv .1 .0) in
+    let in-a = within v room (s .pre .0) (o .a) ha in
+    let in-b = within v room (s .pre .0) (k .b) hb in
+    let first = pair-first (signalsOf v) (s .args .m .e) (o .a) in-a (k .inv .1 .1 .1 .0) (k .b) in-b (k .inv .1 .1 .1 .1) hit in
+    let second = pair-second (signalsOf v) (s .args .m .e) (o .a) in-a (k .inv .1 .1 .1 .0) (k .b) in-b (k .inv .1 .1 .1 .1) hit in
+    (first, (second, (small v room (s .pre .0) (o .a) ha, small v room (s .pre .0) (k .b) hb)))
 
 pub pair-of-spec : {M : Type 1} → statement M
 pair-of-spec =
