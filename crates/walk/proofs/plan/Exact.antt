@@ -10,8 +10,9 @@ use borrow.Author.Tests.{le-leb, ne-eqb, eqb-true, eqb-false}
 use lib.Dec.{T, eqb, leb→le}
 use lib.ListN.{length, getD, take, drop, replicate, length-append, length-replicate}
 use lib.Seq.{take-at, drop-append-add, getD-append-add}
-use Rattle.monomial.specs.Lists.{gather}
+use Rattle.monomial.specs.Lists.{gather, arrangeBy}
 use Rattle.monomial.specs.Monomial.{Mono}
+use Rattle.monomial.specs.Order.{same, before}
 use Rattle.monomial.proofs.Tests.{Tested, passed, failed, test, T→is, nT→is, is→T, is→nT, and-l, and-r}
 use Rattle.monomial.proofs.Members.{_∈_, here, there}
 use Rattle.monomial.proofs.order.Ascending.{empty}
@@ -35,10 +36,10 @@ use Rattle.walk.specs.Walk.{Finds, bare, level}
 use Rattle.walk.specs.Plan.{Ending, done, none, fullAt, spentAt, plan, setsBytes, said, settingsRight, planned}
 use Rattle.walk.proofs.Runs.{distinct}
 use Rattle.walk.proofs.Stops.{Barren, Ends, Lacks, Fills, Spends, Fate, fate, fate-exact, done-exact}
-use Rattle.walk.proofs.Rules.{bare-orderly, bare-sparing}
+use Rattle.walk.proofs.Rules.{Wide, bare-orderly, bare-sparing, bare-extends}
 use Rattle.walk.proofs.children.Laws.{empty-walked}
 use Rattle.walk.proofs.Sound.{empty-proper}
-use Rattle.walk.proofs.Smallest.{Listed, NoneSmaller, none-smaller, Done as Finished, plan-done}
+use Rattle.walk.proofs.Smallest.{QuadraticList, Listed, none-smaller, Done as Finished, plan-done}
 
 -- ---- the settings
 pub record InRange (n cap limit : ℕ) : Type 0 where
@@ -219,17 +220,20 @@ module _ (n cap limit : ℕ) (terms : List ℕ) (size : ℕ) where
       ↔ ((Accepted × Spends bare n (system (records terms)) limit (size / 36) cap o k) × (bytes ≡ replicate size 0))
   says-spent o k bytes = plan-exact (Spent o k) bytes
 
-  -- ---- none, full and spent: no quadratic list has fewer members than the order. By these rules every list counts (`bare-extends`)
-  none-below : (j : ℕ) → Barren bare n (system (records terms)) j → NoneSmaller bare n (system (records terms)) j
-  none-below = none-smaller bare bare-orderly empty n fs (bare-sparing n fs)
+  -- ---- none, full and spent: no quadratic list has fewer members than the order, since by these rules every list counts
+  abbrev pub NoneBelow : ℕ → Type 0
+  NoneBelow j = (s : List Mono) → Wide s → QuadraticList n (system (records terms)) s → j ≤ length s
 
-  pub plan-lacks : (o k : ℕ) (bytes : List ℕ) → outcome (Nothing o k) bytes ≡ planned n cap limit terms size → (o ≡ suc cap) × NoneSmaller bare n (system (records terms)) o
+  none-below : (j : ℕ) → Barren bare n (system (records terms)) j → NoneBelow j
+  none-below j b s w q = none-smaller bare bare-orderly empty n fs (bare-sparing n fs) j b s w (bare-extends s) q
+
+  pub plan-lacks : (o k : ℕ) (bytes : List ℕ) → outcome (Nothing o k) bytes ≡ planned n cap limit terms size → (o ≡ suc cap) × NoneBelow o
   plan-lacks o k bytes e = let f = says-none o k bytes .0 e .0 .1 in (f .last, none-below o (f .barren))
 
-  pub plan-fills : (o k : ℕ) (bytes : List ℕ) → outcome (Full o k) bytes ≡ planned n cap limit terms size → NoneSmaller bare n (system (records terms)) o
+  pub plan-fills : (o k : ℕ) (bytes : List ℕ) → outcome (Full o k) bytes ≡ planned n cap limit terms size → NoneBelow o
   plan-fills o k bytes e = none-below o (says-full o k bytes .0 e .0 .1 .barren)
 
-  pub plan-spends : (o k : ℕ) (bytes : List ℕ) → outcome (Spent o k) bytes ≡ planned n cap limit terms size → NoneSmaller bare n (system (records terms)) o
+  pub plan-spends : (o k : ℕ) (bytes : List ℕ) → outcome (Spent o k) bytes ≡ planned n cap limit terms size → NoneBelow o
   plan-spends o k bytes e = none-below o (says-spent o k bytes .0 e .0 .1 .barren)
 
 -- ---- done: what the bytes say
@@ -257,6 +261,9 @@ pub record Planned (n cap limit : ℕ) (terms : List ℕ) (size order count step
   pub sets : Finds
   -- the smallest quadratic sets, all of them, found in the walk's steps, within the limit and the room
   pub finished : Finished bare n terms cap limit (size / 36) order steps sets
+  -- of all lists of monomials: no quadratic one is smaller, and each of that many members, put in order, is listed
+  pub none-below : NoneBelow n cap limit terms size order
+  pub all : (s : List Mono) → Wide s → QuadraticList n (system (records terms)) s → length s ≡ order → arrangeBy same before s ∈ sets
   pub counted : count ≡ length sets
   -- record number i holds set number i; behind them are zeros
   pub written : (i : ℕ) → i < count → take 36 (drop (36 * i) bytes) ≡ setRecord (getD sets i [])
@@ -272,6 +279,8 @@ module _ (n cap limit : ℕ) (terms : List ℕ) (size : ℕ) where
     accepted = a;
     sets = l;
     finished = f;
+    none-below = λ s w q. f .sets .none-smaller s w (bare-extends s) q;
+    all = λ s w q h. f .sets .all s w (bare-extends s) q h;
     counted = counted;
     written = λ i h. ap (λ (b : List ℕ). take 36 (drop (36 * i) b)) left ∙ sets-at l tail long-of i (rw (← counted) h);
     rest = behind;
