@@ -1,12 +1,12 @@
 -- Levels begin at the start's size: below it no step is taken, so the plan is that of the levels from there on. Assumes nothing.
 use mathlib.Core.Path.{_≡_, ap, _∙_}
-use mathlib.Core.List.{List, []}
+use mathlib.Core.List.{List}
 use Prim.Native.Nat.{ℕ, zero, suc, _+_, _-_, _<_, _≤_}
 use native.Mathlib.Omega.{arith}
 use lib.ListN.{length}
 use Rattle.monomial.specs.Monomial.{Mono}
 use Rattle.wiring.specs.Poly.{Poly}
-use Rattle.walk.specs.Walk.{Rules, Step, run}
+use Rattle.walk.specs.Walk.{Rules, run}
 use Rattle.walk.specs.Plan.{settled, levels, plan}
 use Rattle.walk.proofs.Steps.{level-shut}
 
@@ -14,8 +14,7 @@ module _ (r : Rules) (n : ℕ) (fs : List (Poly Mono)) (limit room : ℕ) where
   -- a level below the size is passed
   level-passed : (left k taken : ℕ) → k < length (r .start) → levels r n fs limit room (suc left) k taken ≡ levels r n fs limit room left (suc k) taken
   unfolding levels settled run
-  level-passed left k taken h =
-      ap (λ (es : List Step). settled limit k (levels r n fs limit room left (suc k)) (run limit room es taken [])) (level-shut r n fs k h)
+  level-passed left k taken h = rw (level-shut r n fs k h)
 
   levels-passed : (d left k taken : ℕ) → k + d ≤ length (r .start) → levels r n fs limit room (d + left) k taken ≡ levels r n fs limit room left (k + d) taken
   levels-passed zero left k taken h =
