@@ -3,7 +3,7 @@ use mathlib.Core.Path.{_≡_, refl, sym, ap, ap₂, subst, _∙_}
 use mathlib.Core.Logic.{⊎-elim}
 use mathlib.Core.Bool.{Bool}
 use mathlib.Core.List.{List, [], _∷_, List·Memᴰ, List·Memᴰ·head, List·Memᴰ·tail, List·Memᴰ·cases-cons, List·Memᴰ·not-nil, List·Memᴰ·append-cases, Memᴰ·append-left, Memᴰ·append-right, _++_, map, append-assoc}
-use lib.ListN.{length, getD, take}
+use lib.ListN.{length, getD, take, replicate}
 use Prim.Native.Nat.{ℕ, zero, suc, _<_, _≤_}
 use native.Mathlib.Omega.{arith}
 use lib.Dec.{T}
@@ -172,6 +172,12 @@ pub map-at : {A B : Type 0} (f : A → B) (l : List A) (i : ℕ) (a : A) (b : B)
 map-at f [] i a b h = let z : ⊥ = omega arith in absurd z
 map-at f (x ∷ l) zero a b h = refl
 map-at f (x ∷ l) (suc i) a b h = map-at f l i a b (omega arith)
+
+-- ---- one entry again and again: it stands at every place, and beyond the last by default
+pub fill-at : {A : Type 0} (x : A) (w i : ℕ) → getD (replicate w x) i x ≡ x
+fill-at x zero i = refl
+fill-at x (suc w) zero = refl
+fill-at x (suc w) (suc i) = fill-at x w i
 
 -- ---- take
 pub take-in : {A : Type 0} (n : ℕ) (l : List A) {x : A} → x ∈ take n l → x ∈ l

@@ -168,6 +168,7 @@ module _ (n b : ℕ) (terms : List ℕ) (more : n ≤ b) (few : b ≤ 6) (clean 
           go (left e f) = ap length e ∙ two .left ∙ six-of
           go (right e f) = ap length e ∙ two .right ∙ six-of
 
+-- what follows a level asks the levels above it only for what they come to
 settled-same : (limit k : ℕ) (f g : ℕ → Ending) (x : Run) → ((t : ℕ) → f t ≡ g t) → settled limit k f x ≡ settled limit k g x
 unfolding settled
 settled-same limit k f g (ended t []) e = e t

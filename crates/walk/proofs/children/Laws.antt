@@ -15,7 +15,7 @@ use Rattle.monomial.specs.Product.{mul, AtMost}
 use Rattle.monomial.specs.Divisors.{pairs}
 use Rattle.monomial.specs.Quotient.{divides}
 use Rattle.monomial.proofs.Tests.{cond-cases}
-use Rattle.monomial.proofs.Members.{_∈_, take-in}
+use Rattle.monomial.proofs.Members.{_∈_, take-in, fill-at}
 use Rattle.monomial.proofs.Loops.{pointwise-length}
 use Rattle.monomial.proofs.order.Laws.{mono-order}
 use Rattle.monomial.proofs.order.Ascending.{_⊆_, Ascending, empty, insert-out, insert-new, insert-old, insert-asc, insert-length, sub-length, among-in, among-out}
@@ -153,9 +153,7 @@ module _ (n : ℕ) (fs : List (Poly Mono)) (s : List Mono) (m : Mono) where
 -- ---- how large exponents grow
 -- 1 and the variables, divided by a variable that they hold, are 1
 one-quo : (w i : ℕ) → 0 < getD (one w) i 0 → ⊥
-one-quo zero i h = omega arith
-one-quo (suc w) zero h = omega arith
-one-quo (suc w) (suc i) h = one-quo w i h
+one-quo w i h = let e : getD (one w) i 0 ≡ 0 = fill-at 0 w i in omega arith
 
 one-flat : (w : ℕ) → AtMost 0 (one w)
 one-flat zero = tt

@@ -14,7 +14,7 @@ use Rattle.monomial.specs.Lists.{gather, arrangeBy}
 use Rattle.monomial.specs.Monomial.{Mono}
 use Rattle.monomial.specs.Order.{same, before}
 use Rattle.monomial.proofs.Tests.{Tested, passed, failed, test, T→is, nT→is, is→T, is→nT, and-l, and-r}
-use Rattle.monomial.proofs.Members.{_∈_, here, there}
+use Rattle.monomial.proofs.Members.{_∈_, here, there, fill-at}
 use Rattle.monomial.proofs.order.Ascending.{empty}
 use Rattle.wiring.specs.Poly.{Poly, plain}
 use Rattle.wiring.specs.Quadratic.{Quadratic}
@@ -29,7 +29,7 @@ use Rattle.wiring.specs.declared.terms.Fault.{Fault}
 use Rattle.wiring.specs.declared.terms.Fault.the-variants.{Clean, Wrong, Repeated}
 use Rattle.wiring.proofs.reply.Laws.{same-reply, code-done}
 use Rattle.wiring.proofs.terms.Exact.{Measured, length-exact, Breaks, Repeats, Flawless, wrong-exact, repeated-exact, clean-exact}
-use Rattle.wiring.proofs.sets.Exact.{Recordable, record-length, record-set, record-right, right-iff, zeros-at}
+use Rattle.wiring.proofs.sets.Exact.{Recordable, record-length, record-set, record-right, right-iff}
 use Rattle.wiring.proofs.answers.Exact.{Ranged, count-in, count-out, beyond, WellFormed, signalsIn, derivativeIn, check-exact}
 use Rattle.wiring.proofs.answers.Wired.{listIn, wire-enough}
 use Rattle.walk.specs.Walk.{Finds, bare, level}
@@ -327,7 +327,7 @@ module _ (n cap limit : ℕ) (terms : List ℕ) (size : ℕ) where
       behind j h =
           let b = setsBytes l in
           let at : length b + (j - length b) ≡ j = omega (arith, front, counted) in
-          let from = getD-append-add b tail (j - length b) 0 ∙ zeros-at (size - 36 * c) (j - length b) in
+          let from = getD-append-add b tail (j - length b) 0 ∙ fill-at 0 (size - 36 * c) (j - length b) in
           ap (λ (x : List ℕ). getD x j 0) left ∙ subst (λ (x : ℕ). getD (b ++ tail) x 0 ≡ 0) at from
 
   -- the buffer keeps its length

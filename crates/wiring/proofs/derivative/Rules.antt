@@ -112,14 +112,14 @@ module _ {M : Type 0} (k : Kind M) (l : Lawful k) where
 
   -- ---- the derivative of a product
   -- the coefficient of m in z times p
-  abbrev over : M → Poly M → M → ℤ
-  over z p m = coeff k (times k (pos 1) z p) m
+  abbrev timesAt : M → Poly M → M → ℤ
+  timesAt z p m = coeff k (times k (pos 1) z p) m
 
   -- a number comes out of the coefficients of a product, and one product of another is one
-  times-scale : (c : ℤ) (z : M) (p : Poly M) (m : M) → coeff k (times k c z p) m ≡ c *ℤ over z p m
+  times-scale : (c : ℤ) (z : M) (p : Poly M) (m : M) → coeff k (times k c z p) m ≡ c *ℤ timesAt z p m
   unfolding coeff times
   times-scale c z [] m = sym (*ℤ-zero c)
-  times-scale c z (t ∷ p) m = both (k .same (k .mul z (t .1)) m) (coeff k (times k c z p) m) (over z p m) (times-scale c z p m)
+  times-scale c z (t ∷ p) m = both (k .same (k .mul z (t .1)) m) (coeff k (times k c z p) m) (timesAt z p m) (times-scale c z p m)
     where
       both : (b : Bool) (x r : ℤ) → x ≡ c *ℤ r → cond b (c *ℤ t .0 +ℤ x) x ≡ c *ℤ cond b (pos 1 *ℤ t .0 +ℤ r) r
       both true x r e = ap₂ (λ (u v : ℤ). c *ℤ u +ℤ v) (sym (one-*ℤ (t .0))) e ∙ sym (distrib-l c (pos 1 *ℤ t .0) r)
@@ -132,55 +132,55 @@ module _ {M : Type 0} (k : Kind M) (l : Lawful k) where
 
   -- the summand of one variable, times a monomial: the exponent comes out
   module _ (i : ℕ) (f : Poly M) (m : M) where
-    part-at : (u : M) → coeff k (part k i u f) m ≡ k .power u i *ℤ over (k .over u i) f m
+    part-at : (u : M) → coeff k (part k i u f) m ≡ k .power u i *ℤ timesAt (k .over u i) f m
     unfolding coeff
     part-at u = go (parted k i u f)
       where
-        go : Parted k i u f → coeff k (part k i u f) m ≡ k .power u i *ℤ over (k .over u i) f m
-        go (absent e p) = ap (λ (q : Poly M). coeff k q m) p ∙ sym (ap (λ (c : ℤ). c *ℤ over (k .over u i) f m) e ∙ zero-*ℤ (over (k .over u i) f m))
+        go : Parted k i u f → coeff k (part k i u f) m ≡ k .power u i *ℤ timesAt (k .over u i) f m
+        go (absent e p) = ap (λ (q : Poly M). coeff k q m) p ∙ sym (ap (λ (c : ℤ). c *ℤ timesAt (k .over u i) f m) e ∙ zero-*ℤ (timesAt (k .over u i) f m))
         go (present n p) = ap (λ (q : Poly M). coeff k q m) p ∙ times-scale (k .power u i) (k .over u i) f m
 
-    times-part : (z u : M) → over z (part k i u f) m ≡ k .power u i *ℤ over (k .mul z (k .over u i)) f m
+    times-part : (z u : M) → timesAt z (part k i u f) m ≡ k .power u i *ℤ timesAt (k .mul z (k .over u i)) f m
     unfolding coeff times
     times-part z u = go (parted k i u f)
       where
         x : M
         x = k .mul z (k .over u i)
 
-        go : Parted k i u f → over z (part k i u f) m ≡ k .power u i *ℤ over x f m
-        go (absent e p) = ap (λ (q : Poly M). over z q m) p ∙ sym (ap (λ (c : ℤ). c *ℤ over x f m) e ∙ zero-*ℤ (over x f m))
-        go (present n p) = ap (λ (q : Poly M). over z q m) p ∙ ap (λ (q : Poly M). coeff k q m) (times-times z (k .power u i) (k .over u i) f) ∙ times-scale (k .power u i) x f m
+        go : Parted k i u f → timesAt z (part k i u f) m ≡ k .power u i *ℤ timesAt x f m
+        go (absent e p) = ap (λ (q : Poly M). timesAt z q m) p ∙ sym (ap (λ (c : ℤ). c *ℤ timesAt x f m) e ∙ zero-*ℤ (timesAt x f m))
+        go (present n p) = ap (λ (q : Poly M). timesAt z q m) p ∙ ap (λ (q : Poly M). coeff k q m) (times-times z (k .power u i) (k .over u i) f) ∙ times-scale (k .power u i) x f m
 
     -- both summands of the product rule are of one monomial, where they are anything
-    summand : (z y : M) → k .power y i *ℤ over (k .mul z (k .over y i)) f m ≡ k .power y i *ℤ over (k .over (k .mul z y) i) f m
+    summand : (z y : M) → k .power y i *ℤ timesAt (k .mul z (k .over y i)) f m ≡ k .power y i *ℤ timesAt (k .over (k .mul z y) i) f m
     summand z y = go (parted k i y f)
       where
         x : M
         x = k .mul z (k .over y i)
 
-        go : Parted k i y f → k .power y i *ℤ over x f m ≡ k .power y i *ℤ over (k .over (k .mul z y) i) f m
-        go (absent e p) = rw e (zero-*ℤ (over x f m) ∙ sym (zero-*ℤ (over (k .over (k .mul z y) i) f m)))
-        go (present n p) = ap (λ (u : M). k .power y i *ℤ over u f m) (l .over-mul z y i n)
+        go : Parted k i y f → k .power y i *ℤ timesAt x f m ≡ k .power y i *ℤ timesAt (k .over (k .mul z y) i) f m
+        go (absent e p) = rw e (zero-*ℤ (timesAt x f m) ∙ sym (zero-*ℤ (timesAt (k .over (k .mul z y) i) f m)))
+        go (present n p) = ap (λ (u : M). k .power y i *ℤ timesAt u f m) (l .over-mul z y i n)
 
-    part-rule : (z y : M) → k .width z ≡ k .width y → coeff k (part k i (k .mul z y) f) m ≡ over z (part k i y f) m +ℤ over y (part k i z f) m
+    part-rule : (z y : M) → k .width z ≡ k .width y → coeff k (part k i (k .mul z y) f) m ≡ timesAt z (part k i y f) m +ℤ timesAt y (part k i z f) m
     part-rule z y e =
         let a : ℤ = k .power z i in
         let b : ℤ = k .power y i in
-        let x : ℤ = over (k .over (k .mul z y) i) f m in
+        let x : ℤ = timesAt (k .over (k .mul z y) i) f m in
         let whole : coeff k (part k i (k .mul z y) f) m ≡ (a +ℤ b) *ℤ x = part-at (k .mul z y) ∙ ap (λ (c : ℤ). c *ℤ x) (l .power-mul z y i e) in
-        let left : over z (part k i y f) m ≡ b *ℤ x = times-part z y ∙ summand z y in
-        let right : over y (part k i z f) m ≡ a *ℤ x = times-part y z ∙ summand y z ∙ ap (λ (u : M). a *ℤ over (k .over u i) f m) (l .mul-comm y z) in
+        let left : timesAt z (part k i y f) m ≡ b *ℤ x = times-part z y ∙ summand z y in
+        let right : timesAt y (part k i z f) m ≡ a *ℤ x = times-part y z ∙ summand y z ∙ ap (λ (u : M). a *ℤ timesAt (k .over u i) f m) (l .mul-comm y z) in
         whole ∙ distrib-r a b x ∙ +ℤ-comm (a *ℤ x) (b *ℤ x) ∙ sym (ap₂ _+ℤ_ left right)
 
   -- products of a sum
-  times-sum : (z : M) (p q : Poly M) (m : M) → over z (p ++ q) m ≡ over z p m +ℤ over z q m
+  times-sum : (z : M) (p q : Poly M) (m : M) → timesAt z (p ++ q) m ≡ timesAt z p m +ℤ timesAt z q m
   unfolding times
   times-sum z p q m =
       ap (λ (r : Poly M). coeff k r m) (map-append (λ t. (pos 1 *ℤ t .0, k .mul z (t .1))) p q)
       ∙ coeff-append k (l .order) (times k (pos 1) z p) (times k (pos 1) z q) m
 
   parts-rule : (i : ℕ) (fs : List (Poly M)) (z y m : M) → k .width z ≡ k .width y
-      → coeff k (partsFrom k i (k .mul z y) fs) m ≡ over z (partsFrom k i y fs) m +ℤ over y (partsFrom k i z fs) m
+      → coeff k (partsFrom k i (k .mul z y) fs) m ≡ timesAt z (partsFrom k i y fs) m +ℤ timesAt y (partsFrom k i z fs) m
   unfolding partsFrom times coeff
   parts-rule i [] z y m e = refl
   parts-rule i (f ∷ fs) z y m e =
@@ -190,7 +190,7 @@ module _ {M : Type 0} (k : Kind M) (l : Lawful k) where
       let q : Poly M = partsFrom k (suc i) z fs in
       coeff-append k (l .order) (part k i (k .mul z y) f) (partsFrom k (suc i) (k .mul z y) fs) m
       ∙ ap₂ _+ℤ_ (part-rule i f m z y e) (parts-rule (suc i) fs z y m e)
-      ∙ mid4 (over z u m) (over y v m) (over z p m) (over y q m)
+      ∙ mid4 (timesAt z u m) (timesAt y v m) (timesAt z p m) (timesAt y q m)
       ∙ sym (ap₂ _+ℤ_ (times-sum z u p m) (times-sum y v q m))
 
   pub product-rule : (fs : List (Poly M)) (z y : M) → k .width z ≡ k .width y
@@ -208,16 +208,16 @@ module _ {M : Type 0} (k : Kind M) (l : Lawful k) where
 
   -- ---- the three rules fix a derivation
   -- equal polynomials have equal products, since a coefficient of the product is a sum over the terms
-  times-weighed : (z m : M) (p : Poly M) → over z p m ≡ weighed k (l .order) (λ x. cond (k .same (k .mul z x) m) (pos 1) (pos 0)) p
+  times-weighed : (z m : M) (p : Poly M) → timesAt z p m ≡ weighed k (l .order) (λ x. cond (k .same (k .mul z x) m) (pos 1) (pos 0)) p
   unfolding coeff times weighed
   times-weighed z m [] = refl
-  times-weighed z m (t ∷ p) = both (k .same (k .mul z (t .1)) m) (over z p m) (times-weighed z m p)
+  times-weighed z m (t ∷ p) = both (k .same (k .mul z (t .1)) m) (timesAt z p m) (times-weighed z m p)
     where
       both : (b : Bool) (x : ℤ) {r : ℤ} → x ≡ r → cond b (pos 1 *ℤ t .0 +ℤ x) x ≡ t .0 *ℤ cond b (pos 1) (pos 0) +ℤ r
       both true x {r} e = ap₂ _+ℤ_ (*ℤ-comm (pos 1) (t .0)) e
       both false x {r} e = e ∙ sym (ap (λ (u : ℤ). u +ℤ r) (*ℤ-zero (t .0)) ∙ +ℤ-idl r)
 
-  times-same : (z : M) (p q : Poly M) → Same k p q → (m : M) → over z p m ≡ over z q m
+  times-same : (z : M) (p q : Poly M) → Same k p q → (m : M) → timesAt z p m ≡ timesAt z q m
   times-same z p q e m =
       times-weighed z m p ∙ weighed-same k (l .order) (λ x. cond (k .same (k .mul z x) m) (pos 1) (pos 0)) p q e ∙ sym (times-weighed z m q)
 
@@ -228,22 +228,22 @@ module _ {M : Type 0} (k : Kind M) (l : Lawful k) where
   built-width (inverse p h e) = h
 
   module _ {w : ℕ} {fs : List (Poly M)} {D : M → Poly M} (r : Derivation k w fs D) where
-    product-at : (z y m : M) → k .width z ≡ w → k .width y ≡ w → coeff k (D (k .mul z y)) m ≡ over z (D y) m +ℤ over y (D z) m
+    product-at : (z y m : M) → k .width z ≡ w → k .width y ≡ w → coeff k (D (k .mul z y)) m ≡ timesAt z (D y) m +ℤ timesAt y (D z) m
     product-at z y m e f = r .product z y e f m ∙ coeff-append k (l .order) (times k (pos 1) z (D y)) (times k (pos 1) y (D z)) m
 
     -- 1 times a derivative is the derivative
-    one-times : (y m : M) → k .width y ≡ w → over (k .one w) (D y) m ≡ coeff k (D y) m
+    one-times : (y m : M) → k .width y ≡ w → timesAt (k .one w) (D y) m ≡ coeff k (D y) m
     unfolding coeff times
     one-times y m e =
-        let whole : coeff k (D y) m ≡ over (k .one w) (D y) m +ℤ over y (D (k .one w)) m =
+        let whole : coeff k (D y) m ≡ timesAt (k .one w) (D y) m +ℤ timesAt y (D (k .one w)) m =
         ap (λ (z : M). coeff k (D z) m) (sym (one-mul w y e)) ∙ product-at (k .one w) y m (l .width-one w) e in
-        sym (whole ∙ ap (λ (c : ℤ). over (k .one w) (D y) m +ℤ c) (times-same y (D (k .one w)) [] (r .constant) m) ∙ +ℤ-idr (over (k .one w) (D y) m))
+        sym (whole ∙ ap (λ (c : ℤ). timesAt (k .one w) (D y) m +ℤ c) (times-same y (D (k .one w)) [] (r .constant) m) ∙ +ℤ-idr (timesAt (k .one w) (D y) m))
 
     -- and so is a product with the inverse, once with the monomial
-    undone : (x y m : M) → k .width y ≡ w → k .mul x y ≡ k .one w → over y (times k (pos 1) x (D y)) m ≡ coeff k (D y) m
+    undone : (x y m : M) → k .width y ≡ w → k .mul x y ≡ k .one w → timesAt y (times k (pos 1) x (D y)) m ≡ coeff k (D y) m
     undone x y m e q =
         ap (λ (p : Poly M). coeff k p m) (times-times y (pos 1) x (D y))
-        ∙ ap (λ (z : M). over z (D y) m) (l .mul-comm y x ∙ q) ∙ one-times y m e
+        ∙ ap (λ (z : M). timesAt z (D y) m) (l .mul-comm y x ∙ q) ∙ one-times y m e
 
   module _ {w : ℕ} {fs : List (Poly M)} {D E : M → Poly M} (r : Derivation k w fs D) (q : Derivation k w fs E) where
     abbrev Alike : M → Type 0
@@ -259,12 +259,12 @@ module _ {M : Type 0} (k : Kind M) (l : Lawful k) where
         nothing : (n : M) → coeff k (D (k .mul x y)) n ≡ coeff k (E (k .mul x y)) n
         nothing = subst Alike (sym o) (λ n. r .constant n ∙ sym (q .constant n))
 
-        alike : (n : M) → over x (D y) n ≡ over x (E y) n
+        alike : (n : M) → timesAt x (D y) n ≡ timesAt x (E y) n
         alike n =
-            let c : ℤ = over y (D x) n in
-            let sums : over x (D y) n +ℤ c ≡ over x (E y) n +ℤ c =
-            sym (product-at r x y n e f) ∙ nothing n ∙ product-at q x y n e f ∙ ap (λ (d : ℤ). over x (E y) n +ℤ d) (sym (times-same y (D x) (E x) s n)) in
-            sym (+ℤ-negℤ-cancel (over x (D y) n) c) ∙ ap (λ (d : ℤ). d -ℤ c) sums ∙ +ℤ-negℤ-cancel (over x (E y) n) c
+            let c : ℤ = timesAt y (D x) n in
+            let sums : timesAt x (D y) n +ℤ c ≡ timesAt x (E y) n +ℤ c =
+            sym (product-at r x y n e f) ∙ nothing n ∙ product-at q x y n e f ∙ ap (λ (d : ℤ). timesAt x (E y) n +ℤ d) (sym (times-same y (D x) (E x) s n)) in
+            sym (+ℤ-negℤ-cancel (timesAt x (D y) n) c) ∙ ap (λ (d : ℤ). d -ℤ c) sums ∙ +ℤ-negℤ-cancel (timesAt x (E y) n) c
 
     alike-built : {z : M} → Built k w z → Alike z
     alike-built (unit e) = subst Alike e (λ m. r .constant m ∙ sym (q .constant m))

@@ -13,12 +13,9 @@ use Rattle.monomial.proofs.order.Laws.{ℕ-order}
 use Rattle.wiring.specs.Poly.{plain}
 use Rattle.wiring.proofs.sets.Laws.{vars-length}
 use Rattle.wiring.proofs.kinds.Laws.{Lawful}
-use Rattle.wiring.proofs.kinds.Powers.{fill-at, Exponent, Near, is-none, stepped, Summing, lawful}
+use Rattle.wiring.proofs.kinds.Powers.{Exponent, Near, is-none, stepped, Summing, lawful}
 
 -- ---- 1 and the variables
-pub one-zero : (w i : ℕ) → getD (one w) i 0 ≡ 0
-one-zero = fill-at 0
-
 -- a variable is 1 with one exponent raised
 pub var-is : (w i : ℕ) (d : Mono) → i < w → getD (vars w) i d ≡ set (one w) i 1
 unfolding vars

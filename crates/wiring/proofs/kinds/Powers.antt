@@ -10,17 +10,13 @@ use lib.IntN.{ℤ, pos, natAbs, _+ℤ_}
 use lib.ListN.{length, getD, set, replicate, length-set, length-replicate}
 use lib.Seq.{getD-set-same, getD-set-other, set-set, set-getD}
 use Rattle.monomial.specs.Lists.{pairwise, dictionary, pointwise}
+use Rattle.monomial.proofs.Members.{fill-at}
 use Rattle.monomial.proofs.Loops.{pointwise-length, pointwise-comm, pointwise-assoc, pointwise-unit, pointwise-cancel}
 use Rattle.monomial.proofs.order.Laws.{Order, list-order}
 use Rattle.wiring.specs.Poly.{Kind}
 use Rattle.wiring.proofs.kinds.Laws.{variable, Built, unit, single, product, inverse, Lawful}
 
--- ---- a list of one entry, again and again
-pub fill-at : {A : Type 0} (x : A) (w i : ℕ) → getD (replicate w x) i x ≡ x
-fill-at x zero i = refl
-fill-at x (suc w) zero = refl
-fill-at x (suc w) (suc i) = fill-at x w i
-
+-- a list of one entry again and again, with that entry set once more
 fill-set : {A : Type 0} (x : A) (w i : ℕ) → set (replicate w x) i x ≡ replicate w x
 fill-set x w i = ap (set (replicate w x) i) (sym (fill-at x w i)) ∙ set-getD (replicate w x) i x
 

@@ -13,7 +13,7 @@ use Rattle.monomial.specs.Lists.{any, all, gather, place}
 use Rattle.monomial.specs.Monomial.{Mono, one, constants}
 use Rattle.monomial.specs.Order.{same, before}
 use Rattle.monomial.proofs.Tests.{Tested, passed, failed, test, T→is, nT→is, and-l, and-r, and-i}
-use Rattle.monomial.proofs.Members.{_∈_, here, all-in, all-out, take-in, gather-append}
+use Rattle.monomial.proofs.Members.{_∈_, here, all-in, all-out, take-in, gather-append, fill-at}
 use Rattle.monomial.proofs.Counting.{at-in}
 use Rattle.monomial.proofs.Strips.{strip-length, strip-at}
 use Rattle.monomial.proofs.order.Laws.{mono-order}
@@ -61,11 +61,6 @@ zero-list [] zero e h = refl
 zero-list [] (suc w) e h = let z : ⊥ = omega arith in absurd z
 zero-list (x ∷ l) zero e h = let z : ⊥ = omega arith in absurd z
 zero-list (x ∷ l) (suc w) e h = ap₂ _∷_ (h 0 (omega arith)) (zero-list l w (omega arith) (λ k j. h (suc k) (omega arith)))
-
-pub zeros-at : (n k : ℕ) → getD {A = ℕ} (replicate n 0) k 0 ≡ 0
-zeros-at zero k = refl
-zeros-at (suc n) zero = refl
-zeros-at (suc n) (suc k) = zeros-at n k
 
 -- ---- a right record, fact by fact
 module _ (n : ℕ) where
@@ -151,7 +146,7 @@ module _ (s : List Mono) (few : length s ≤ 6) (wide : Wide s) where
       let g = flat s in
       let long : length g ≡ 6 * length s = strip-length (λ m. m) 6 s wide in
       let e : length g + (k - length g) ≡ k = omega arith in
-      rw (sym e) (getD-append-add g (replicate (36 - 6 * length s) 0) (k - length g) 0 ∙ zeros-at (36 - 6 * length s) (k - length g))
+      rw (sym e) (getD-append-add g (replicate (36 - 6 * length s) 0) (k - length g) 0 ∙ fill-at 0 (36 - 6 * length s) (k - length g))
 
   -- a place of the set, and an unused one
   record-at : (i : ℕ) → i < length s → placeAt (setRecord s) i ≡ getD s i []

@@ -9,7 +9,7 @@ use lib.ListN.{length, getD, take, drop, replicate}
 use lib.Seq.{take-at, drop-append-add, getD-append-add}
 use Rattle.monomial.specs.Lists.{gather, below}
 use Rattle.monomial.specs.Product.{AtMost}
-use Rattle.monomial.proofs.Members.{gather-same}
+use Rattle.monomial.proofs.Members.{gather-same, fill-at}
 use Rattle.monomial.proofs.Counting.{below-out}
 use Rattle.monomial.proofs.product.Laws.{atMost-at}
 use Rattle.wiring.specs.Coefficient.{word, signed}
@@ -17,7 +17,6 @@ use Rattle.wiring.specs.Poly.{Kind, Poly}
 use Rattle.wiring.specs.Wires.{Wire, signal, row, wiring, wireRecord, wireList, Met}
 use Rattle.wiring.proofs.coefficient.Laws.{decode-bytes}
 use Rattle.wiring.proofs.kinds.Laws.{Lawful}
-use Rattle.wiring.proofs.kinds.Plain.{one-zero}
 use Rattle.wiring.proofs.wires.Laws.{Row, rowOf, wiring-rows, wiring-row, wiring-is, row-one}
 use Rattle.wiring.proofs.wires.Sheets.{record-length, list-length}
 
@@ -79,4 +78,4 @@ pub list-rest : (list : List Wire) (m k : ℕ) → 8 * length list ≤ k → get
 list-rest list m k h =
     let front : length (wireList list) ≡ 8 * length list = list-length list in
     let e : length (wireList list) + (k - length (wireList list)) ≡ k = omega arith in
-    rw (sym e) (getD-append-add (wireList list) (replicate m 0) (k - length (wireList list)) 0 ∙ one-zero m (k - length (wireList list)))
+    rw (sym e) (getD-append-add (wireList list) (replicate m 0) (k - length (wireList list)) 0 ∙ fill-at 0 m (k - length (wireList list)))

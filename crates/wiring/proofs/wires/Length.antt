@@ -14,7 +14,7 @@ use Rattle.monomial.specs.Monomial.{Mono, one, vars, constants}
 use Rattle.monomial.specs.Order.{same, before}
 use Rattle.monomial.specs.Product.{mul}
 use Rattle.monomial.proofs.Tests.{cond-cases, Tested, passed, failed, test}
-use Rattle.monomial.proofs.Members.{_∈_, keep-none, keep-no, keep-append, keep-map, keep-length}
+use Rattle.monomial.proofs.Members.{_∈_, keep-none, keep-no, keep-append, keep-map, keep-length, fill-at}
 use Rattle.monomial.proofs.Counting.{below-asc}
 use Rattle.monomial.proofs.order.Ascending.{Ascending, head-first, tail-asc, arrange-length}
 use Rattle.wiring.specs.Panel.{width, cards, mostTerms}
@@ -25,7 +25,6 @@ use Rattle.wiring.specs.Quadratic.{members}
 use Rattle.wiring.specs.Signals.{signals}
 use Rattle.wiring.specs.Terms.{Record, equation, system}
 use Rattle.wiring.specs.Wires.{Wire, row, rowsFrom, wiring}
-use Rattle.wiring.proofs.kinds.Plain.{one-zero}
 use Rattle.wiring.proofs.derivative.Rules.{Parted, absent, present, parted}
 use Rattle.wiring.proofs.Poly.{zero-is, is-zero}
 use Rattle.wiring.proofs.wires.Laws.{wire}
@@ -139,7 +138,7 @@ module _ {M : Type 0} (k : Kind M) where
 
 -- ---- the panel's kind
 one-missed : (w j : ℕ) → T (raised plain j (one w)) → ⊥
-one-missed w j t = T-not (isZero (pos (getD (one w) j 0))) t (is-zero (pos (getD (one w) j 0)) (ap pos (one-zero w j)))
+one-missed w j t = T-not (isZero (pos (getD (one w) j 0))) t (is-zero (pos (getD (one w) j 0)) (ap pos (fill-at 0 w j)))
 
 hits-vars : (w j : ℕ) → length (hits plain j (vars w)) ≤ 1
 unfolding vars keep isZero
