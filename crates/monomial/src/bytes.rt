@@ -1,5 +1,6 @@
 // Monomials in lent bytes: six exponents side by side.
 use super::Monomial;
+use super::width::WIDTH;
 ghost use mathlib.Core.Path.{_≡_};
 ghost use Prim.Native.Nat.{_+_, _≤_};
 ghost use lib.ListN.{length, take, drop};
@@ -11,9 +12,9 @@ impl Monomial {
         requires { ⌜ at + 6 ≤ length (now s) ⌝ }
         ensures { λ r. ⌜ r .e ≡ take 6 (drop at (now (s .entry))) ⌝ }
     {
-        let mut r = [0u8; 6];
+        let mut r = [0u8; WIDTH];
         let mut i: usize = 0;
-        while i < 6 {
+        while i < WIDTH {
             r[i] = s[at + i];
             i += 1;
         }
@@ -27,7 +28,7 @@ impl Monomial {
     {
         let e = self.e;
         let mut i: usize = 0;
-        while i < 6 {
+        while i < WIDTH {
             s[at + i] = e[i];
             i += 1;
         }

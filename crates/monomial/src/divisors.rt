@@ -1,5 +1,6 @@
 // The score of a monomial, and its divisors one after the other.
 use super::Monomial;
+use super::width::WIDTH;
 ghost use mathlib.Core.Path.{_≡_};
 ghost use Prim.Native.Nat.{_<_};
 ghost use lib.Dec.{T};
@@ -20,7 +21,7 @@ impl Monomial {
         let e = self.e;
         let mut r: u64 = 1;
         let mut i: usize = 0;
-        while i < 6 {
+        while i < WIDTH {
             r = (wide(e[i]) + 1) * r;
             i += 1;
         }
@@ -41,7 +42,7 @@ impl Monomial {
     {
         let top = m.e;
         let mut r = self.e;
-        let mut i: usize = 6;
+        let mut i: usize = WIDTH;
         while 0 < i {
             i -= 1;
             if r[i] < top[i] {

@@ -7,13 +7,15 @@ pub mod divisors;
 pub mod order;
 pub mod product;
 pub mod quotient;
+pub mod width;
 
+use width::WIDTH;
 ghost use mathlib.Core.Path.{_≡_};
 ghost use lib.ListN.{getD};
 ghost use Rattle.monomial.specs.Monomial.{one, constants};
 
 pub struct Monomial {
-    pub e: [u8; 6],
+    pub e: [u8; WIDTH],
 }
 
 impl Monomial {
@@ -46,7 +48,7 @@ impl Monomial {
     };
 
     // The monomial with these exponents.
-    pub fn of(e: [u8; 6]) -> Monomial
+    pub fn of(e: [u8; WIDTH]) -> Monomial
         ensures { λ r. ⌜ r .e ≡ e ⌝ }
     {
         Monomial { e }

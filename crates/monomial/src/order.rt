@@ -1,5 +1,6 @@
 // Equality and the order of monomials.
 use super::Monomial;
+use super::width::WIDTH;
 ghost use mathlib.Core.Path.{_≡_};
 ghost use Rattle.monomial.specs.Order.{same, before};
 
@@ -10,7 +11,7 @@ impl Monomial {
         let a = self.e;
         let b = other.e;
         let mut i: usize = 0;
-        while i < 6 {
+        while i < WIDTH {
             if a[i] != b[i] {
                 return false;
             }
@@ -26,7 +27,7 @@ impl Monomial {
         let a = self.e;
         let b = other.e;
         let mut i: usize = 0;
-        while i < 6 {
+        while i < WIDTH {
             if a[i] < b[i] {
                 return true;
             }

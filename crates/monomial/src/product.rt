@@ -1,5 +1,6 @@
 // Products of monomials.
 use super::Monomial;
+use super::width::WIDTH;
 ghost use mathlib.Core.Path.{_≡_};
 ghost use Rattle.monomial.specs.Product.{mul, FitsBytes};
 
@@ -10,9 +11,9 @@ impl Monomial {
     {
         let a = self.e;
         let b = other.e;
-        let mut r = [0u8; 6];
+        let mut r = [0u8; WIDTH];
         let mut i: usize = 0;
-        while i < 6 {
+        while i < WIDTH {
             r[i] = a[i] + b[i];
             i += 1;
         }

@@ -1,4 +1,7 @@
 // The finds in the lent buffer, as set records: in sorted place, without repeats.
+use monomial::width::WIDTH;
+use wiring::panel::CARDS;
+use wiring::panel::SET_BYTES;
 use wiring::sets::Set;
 ghost use mathlib.Core.Path.{_≡_};
 ghost use mathlib.Core.Bool.{not};
@@ -15,7 +18,7 @@ ghost use Rattle.walk.specs.Listing.{Recorded, Shown, KeptAs};
 
 // The bytes of a set record.
 struct Record {
-    b: [u8; 36],
+    b: [u8; SET_BYTES],
 }
 
 // What keeping a find comes to: the new count, or no room.
@@ -30,14 +33,14 @@ fn record_of(set: Set) -> Record
     ensures { λ r. ⌜ r .b ≡ setRecord (monomialsOf set) ⌝ }
 {
     let len = set.len;
-    let mut b = [0u8; 36];
+    let mut b = [0u8; SET_BYTES];
     let mut i: usize = 0;
-    while i < 6 {
+    while i < CARDS {
         if len <= i {
             return Record { b };
         }
         let m = set.m[i];
-        m.write(&mut b, 6 * i);
+        m.write(&mut b, WIDTH * i);
         i += 1;
     }
     Record { b }
@@ -50,7 +53,7 @@ fn is_same(s: &[u8], r: Record) -> bool
 {
     let b = r.b;
     let mut i: usize = 0;
-    while i < 36 {
+    while i < SET_BYTES {
         if s[i] != b[i] {
             return false;
         }
@@ -66,7 +69,7 @@ fn stands_before(s: &[u8], r: Record) -> bool
 {
     let b = r.b;
     let mut i: usize = 0;
-    while i < 36 {
+    while i < SET_BYTES {
         if s[i] < b[i] {
             return true;
         }
@@ -86,8 +89,8 @@ fn is_listed(s: &[u8], count: usize, r: Record) -> bool
 {
     let mut i: usize = 0;
     while i < count {
-        let at = 36 * i;
-        if is_same(&s[at..at + 36], r) {
+        let at = SET_BYTES * i;
+        if is_same(&s[at..at + SET_BYTES], r) {
             return true;
         }
         i += 1;
@@ -103,8 +106,8 @@ fn place_of(s: &[u8], count: usize, r: Record) -> usize
 {
     let mut i: usize = 0;
     while i < count {
-        let at = 36 * i;
-        if !stands_before(&s[at..at + 36], r) {
+        let at = SET_BYTES * i;
+        if !stands_before(&s[at..at + SET_BYTES], r) {
             return i;
         }
         i += 1;
@@ -120,7 +123,7 @@ fn move_up(out: &mut [u8], from: usize, to: usize)
     let mut i = to;
     while from < i {
         i -= 1;
-        out[i + 36] = out[i];
+        out[i + SET_BYTES] = out[i];
     }
 }
 
@@ -131,7 +134,7 @@ fn put(out: &mut [u8], at: usize, r: Record)
 {
     let b = r.b;
     let mut i: usize = 0;
-    while i < 36 {
+    while i < SET_BYTES {
         out[at + i] = b[i];
         i += 1;
     }
@@ -147,11 +150,11 @@ pub fn keep(out: &mut [u8], count: usize, set: Set) -> Kept
     if is_listed(out, count, r) {
         return Kept::Held(count);
     }
-    if out.len() / 36 <= count {
+    if out.len() / SET_BYTES <= count {
         return Kept::NoRoom;
     }
-    let at = 36 * place_of(out, count, r);
-    move_up(out, at, 36 * count);
+    let at = SET_BYTES * place_of(out, count, r);
+    move_up(out, at, SET_BYTES * count);
     put(out, at, r);
     Kept::Held(count + 1)
 }

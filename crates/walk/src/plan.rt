@@ -4,6 +4,8 @@ use super::walk::Frame;
 use super::walk::State;
 use super::walk::Turn;
 use wiring::answers;
+use wiring::panel::CARDS;
+use wiring::panel::MOST_STEPS;
 use wiring::reply::Reply;
 use wiring::sets::Set;
 use wiring::terms;
@@ -24,13 +26,13 @@ fn settings_right(n: u64, cap: u64, limit: u64) -> bool
     if !answers::count_right(n) {
         return false;
     }
-    if 6 < cap {
+    if (CARDS as u64) < cap {
         return false;
     }
     if limit < 1 {
         return false;
     }
-    limit <= 1000000000
+    limit <= MOST_STEPS
 }
 
 // The levels from 0 to the cap; the buffer is all zeros at the start.

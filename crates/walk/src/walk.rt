@@ -3,6 +3,7 @@ use super::children;
 use super::listing;
 use super::listing::Kept;
 use monomial::Monomial;
+use wiring::panel::TABLE_BYTES;
 use wiring::quadratic;
 use wiring::sets::Set;
 use wiring::signals;
@@ -73,7 +74,7 @@ fn judge(terms: &[u8], out: &mut [u8], f: Frame, set: Set, st: State) -> Opened
         count: st.count,
     };
     let v = signals::signals_of(f.n, set);
-    let mut table = [0u8; 546];
+    let mut table = [0u8; TABLE_BYTES];
     let used = signals::products_of(v, &mut table);
     if v.len <= quadratic::first_unmet(terms, v, &table[..used]) {
         return Opened {

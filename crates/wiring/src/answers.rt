@@ -1,4 +1,8 @@
 // Checking and wiring: the operations on n, term records and a set record. Neither assumes anything of its input.
+use super::panel::SET_BYTES;
+use super::panel::TABLE_BYTES;
+use super::panel::TERM_BYTES;
+use super::panel::TERMS_BYTES;
 use super::quadratic;
 use super::reply;
 use super::reply::Reply;
@@ -8,6 +12,7 @@ use super::signals;
 use super::terms;
 use super::terms::Fault;
 use super::wires;
+use monomial::width::WIDTH;
 ghost use mathlib.Core.Path.{_≡_};
 ghost use Prim.Native.Nat.{_≤_};
 ghost use lib.ListN.{length};
@@ -24,17 +29,17 @@ pub fn count_right(n: u64) -> bool
     if n < 1 {
         return false;
     }
-    n <= 6
+    n <= WIDTH as u64
 }
 
 // Whether term records have a length that records can have.
 pub fn length_right(terms: &[u8]) -> bool
     ensures { λ r. ⌜ r ≡ lengthRight (now (terms .entry)) ⌝ }
 {
-    if terms.len() % 12 != 0 {
+    if terms.len() % TERM_BYTES != 0 {
         return false;
     }
-    terms.len() <= 384
+    terms.len() <= TERMS_BYTES
 }
 
 // What is said of a set that keeps its rule.
@@ -43,7 +48,7 @@ fn judge(n: usize, terms: &[u8], set: Set) -> Reply
     ensures { λ r. ⌜ r ≡ judged n (system (records (now (terms .entry)))) (monomialsOf set) ⌝ }
 {
     let v = signals::signals_of(n, set);
-    let mut table = [0u8; 546];
+    let mut table = [0u8; TABLE_BYTES];
     let used = signals::products_of(v, &mut table);
     let order = set.len as u64;
     let at = quadratic::first_unmet(terms, v, &table[..used]);
@@ -82,7 +87,7 @@ pub fn check(n: u64, terms: &[u8], set: &[u8]) -> Reply
     if !length_right(terms) {
         return Reply::Length;
     }
-    if set.len() != 36 {
+    if set.len() != SET_BYTES {
         return Reply::Length;
     }
     match terms::fault_of(n as usize, terms) {

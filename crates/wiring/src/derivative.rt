@@ -1,5 +1,6 @@
 // Derivatives of monomials, record by record: no list of terms is kept.
 use super::coefficient;
+use super::panel::TERM_BYTES;
 use super::terms;
 use monomial::Monomial;
 ghost use mathlib.Core.Path.{_≡_};
@@ -15,7 +16,7 @@ pub fn power(terms: &[u8], t: usize, z: Monomial) -> u8
     requires { ⌜ CleanTerms (now terms) × (12 * t + 12 ≤ length (now terms)) ⌝ }
     ensures { λ r. ⌜ r ≡ power (recordAt (now (terms .entry)) t) (z .e) ⌝ }
 {
-    let i = terms::wide(terms[12 * t]) - 1;
+    let i = terms::wide(terms[TERM_BYTES * t]) - 1;
     let e = z.e;
     e[i]
 }
@@ -25,10 +26,10 @@ pub fn image(terms: &[u8], t: usize, z: Monomial) -> Monomial
     requires { ⌜ CleanTerms (now terms) × ((12 * t + 12 ≤ length (now terms)) × ((0 < power (recordAt (now terms) t) (z .e)) × AtMost 200 (z .e))) ⌝ }
     ensures { λ r. ⌜ r .e ≡ image (recordAt (now (terms .entry)) t) (z .e) ⌝ }
 {
-    let i = terms::wide(terms[12 * t]) - 1;
+    let i = terms::wide(terms[TERM_BYTES * t]) - 1;
     let mut e = z.e;
     e[i] = e[i] - 1;
-    Monomial::of(e).times(Monomial::read(terms, 12 * t + 2))
+    Monomial::of(e).times(Monomial::read(terms, TERM_BYTES * t + 2))
 }
 
 // The total coefficient of m in the derivative of z.
@@ -36,14 +37,14 @@ pub fn total(terms: &[u8], z: Monomial, m: Monomial) -> i32
     requires { ⌜ CleanTerms (now terms) × AtMost 72 (z .e) ⌝ }
     ensures { λ r. ⌜ r ≡ coeff plain (derivative plain (system (records (now (terms .entry)))) (z .e)) (m .e) ⌝ }
 {
-    let count = terms.len() / 12;
+    let count = terms.len() / TERM_BYTES;
     let mut sum: i32 = 0;
     let mut t: usize = 0;
     while t < count {
         let k = power(terms, t, z);
         if 0 < k {
             if image(terms, t, z).same(m) {
-                sum = sum + k as i32 * coefficient::decode(terms, 12 * t + 8);
+                sum = sum + k as i32 * coefficient::decode(terms, TERM_BYTES * t + 8);
             }
         }
         t += 1;

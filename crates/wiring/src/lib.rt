@@ -5,6 +5,7 @@ pub mod answers;
 pub mod choice;
 pub mod coefficient;
 pub mod derivative;
+pub mod panel;
 pub mod quadratic;
 pub mod reply;
 pub mod sets;

@@ -3,6 +3,7 @@ use super::choice;
 use super::choice::Pick;
 use super::coefficient;
 use super::derivative;
+use super::panel::TERM_BYTES;
 use super::signals;
 use super::signals::Signals;
 use monomial::Monomial;
@@ -45,7 +46,7 @@ pub fn has_nonsquare(terms: &[u8], z: Monomial, sq: &[u8]) -> bool
     requires { ⌜ CleanTerms (now terms) × AtMost 72 (z .e) ⌝ }
     ensures { λ r. ⌜ ((v : List Mono) → tabled (now (sq .entry)) ≡ products plain v → r ≡ some (unmet plain v (derivative plain (system (records (now (terms .entry)))) (z .e)))) ⌝ }
 {
-    let count = terms.len() / 12;
+    let count = terms.len() / TERM_BYTES;
     let mut t: usize = 0;
     while t < count {
         let p = missing(terms, t, z, sq);
@@ -80,7 +81,7 @@ fn choose_in(p: Pick, terms: &[u8], z: Monomial, sq: &[u8]) -> Pick
     ensures { λ r. ⌜ ((v l : List Mono) → tabled (now (sq .entry)) ≡ products plain v → Best cheaper l p →
         Best cheaper (unmet plain v (derivative plain (system (records (now (terms .entry)))) (z .e)) ++ l) r) ⌝ }
 {
-    let count = terms.len() / 12;
+    let count = terms.len() / TERM_BYTES;
     let mut best = p;
     let mut t: usize = 0;
     while t < count {

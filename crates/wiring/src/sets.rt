@@ -1,6 +1,10 @@
 // Sets of new monomials, held by value, and set records.
+use super::panel::CARDS;
+use super::panel::SET_EXPONENT;
 use super::terms;
 use monomial::Monomial;
+use monomial::width::CONSTANTS;
+use monomial::width::WIDTH;
 ghost use mathlib.Core.Path.{_≡_};
 ghost use mathlib.Core.Bool.{true};
 ghost use Prim.Native.Nat.{_*_, _≤_, _<_};
@@ -12,7 +16,7 @@ ghost use Rattle.monomial.specs.Order.{same};
 ghost use Rattle.wiring.specs.Sets.{places, sizeOf, ascending, monomialRight, monomialsOf, SetReads};
 
 pub struct Set {
-    pub m: [Monomial; 6],
+    pub m: [Monomial; CARDS],
     pub len: usize,
 }
 
@@ -24,7 +28,7 @@ pub struct SetRead {
 
 impl Set {
     pub const EMPTY: Set = Set {
-        m: [Monomial::ONE; 6],
+        m: [Monomial::ONE; CARDS],
         len: 0,
     };
 }
@@ -34,7 +38,7 @@ fn is_constant(m: Monomial) -> bool
     ensures { λ r. ⌜ r ≡ any (same (m .e)) (constants 6) ⌝ }
 {
     let mut i: usize = 0;
-    while i < 7 {
+    while i < CONSTANTS {
         if m.same(Monomial::constant(i)) {
             return true;
         }
@@ -49,7 +53,7 @@ fn monomial_right(n: usize, m: Monomial) -> bool
     if is_constant(m) {
         return false;
     }
-    terms::exponents_right(54, n, m)
+    terms::exponents_right(SET_EXPONENT, n, m)
 }
 
 // How many places of a record are used: up to the first that is all zero.
@@ -58,8 +62,8 @@ fn size_of(s: &[u8]) -> usize
     ensures { λ r. ⌜ (r ≡ sizeOf (now (s .entry))) × (r ≤ 6) ⌝ }
 {
     let mut i: usize = 0;
-    while i < 6 {
-        if Monomial::ONE.same(Monomial::read(s, 6 * i)) {
+    while i < CARDS {
+        if Monomial::ONE.same(Monomial::read(s, WIDTH * i)) {
             return i;
         }
         i += 1;
@@ -89,7 +93,7 @@ fn ascends(s: &[u8], len: usize) -> bool
 {
     let mut i: usize = 1;
     while i < len {
-        if !Monomial::read(s, 6 * i - 6).before(Monomial::read(s, 6 * i)) {
+        if !Monomial::read(s, WIDTH * i - WIDTH).before(Monomial::read(s, WIDTH * i)) {
             return false;
         }
         i += 1;
@@ -104,7 +108,7 @@ fn monomials_right(n: usize, s: &[u8], len: usize) -> bool
 {
     let mut i: usize = 0;
     while i < len {
-        if !monomial_right(n, Monomial::read(s, 6 * i)) {
+        if !monomial_right(n, Monomial::read(s, WIDTH * i)) {
             return false;
         }
         i += 1;
@@ -117,10 +121,10 @@ fn set_of(s: &[u8], len: usize) -> Set
     requires { ⌜ (length (now s) ≡ 36) × (len ≤ 6) ⌝ }
     ensures { λ r. ⌜ (monomialsOf r ≡ take len (places (now (s .entry)))) × (r .len ≡ len) ⌝ }
 {
-    let mut m = [Monomial::ONE; 6];
+    let mut m = [Monomial::ONE; CARDS];
     let mut i: usize = 0;
     while i < len {
-        m[i] = Monomial::read(s, 6 * i);
+        m[i] = Monomial::read(s, WIDTH * i);
         i += 1;
     }
     Set { m, len }
@@ -132,7 +136,7 @@ pub fn read_set(n: usize, s: &[u8]) -> SetRead
     ensures { λ r. ⌜ SetReads n (now (s .entry)) r ⌝ }
 {
     let len = size_of(s);
-    if !zero_from(s, 6 * len) {
+    if !zero_from(s, WIDTH * len) {
         return SetRead {
             good: false,
             set: Set::EMPTY,

@@ -1,6 +1,8 @@
 // V, the signals of a set, and V2, the table of their products.
+use super::panel::MOST_SIGNALS;
 use super::sets::Set;
 use monomial::Monomial;
+use monomial::width::WIDTH;
 ghost use mathlib.Core.Path.{_≡_};
 ghost use Prim.Native.Nat.{_+_, _≤_};
 ghost use lib.ListN.{length, take};
@@ -13,7 +15,7 @@ ghost use Rattle.wiring.specs.Sets.{monomialsOf};
 
 // 1, up to six variables, up to six new monomials.
 pub struct Signals {
-    pub m: [Monomial; 13],
+    pub m: [Monomial; MOST_SIGNALS],
     pub len: usize,
 }
 
@@ -22,7 +24,7 @@ pub fn signals_of(n: usize, set: Set) -> Signals
     requires { ⌜ (n ≤ 6) × (set .len ≤ 6) ⌝ }
     ensures { λ r. ⌜ (signalsOf r ≡ signals 6 n (monomialsOf set)) × (r .len ≡ n + 1 + set .len) ⌝ }
 {
-    let mut m = [Monomial::ONE; 13];
+    let mut m = [Monomial::ONE; MOST_SIGNALS];
     let mut i: usize = 0;
     while i < n {
         m[i + 1] = Monomial::constant(i + 1);
@@ -71,7 +73,7 @@ pub fn products_of(v: Signals, table: &mut [u8]) -> usize
         while b < len {
             let y = v.m[b];
             x.times(y).write(table, at);
-            at += 6;
+            at += WIDTH;
             b += 1;
         }
         a += 1;
@@ -83,10 +85,10 @@ pub fn products_of(v: Signals, table: &mut [u8]) -> usize
 pub fn is_product(table: &[u8], m: Monomial) -> bool
     ensures { λ r. ⌜ r ≡ any (same (m .e)) (tabled (now (table .entry))) ⌝ }
 {
-    let count = table.len() / 6;
+    let count = table.len() / WIDTH;
     let mut i: usize = 0;
     while i < count {
-        if m.same(Monomial::read(table, 6 * i)) {
+        if m.same(Monomial::read(table, WIDTH * i)) {
             return true;
         }
         i += 1;

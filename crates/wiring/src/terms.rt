@@ -1,6 +1,11 @@
 // Term records: 12 bytes each, and what may be wrong with them.
 use super::coefficient;
+use super::panel::LEAST_COEFFICIENT;
+use super::panel::MOST_COEFFICIENT;
+use super::panel::TERM_BYTES;
+use super::panel::TERM_EXPONENT;
 use monomial::Monomial;
+use monomial::width::WIDTH;
 ghost use mathlib.Core.Path.{_≡_};
 ghost use Prim.Native.Nat.{_+_, _*_, _/_, _≤_, _<_};
 ghost use lib.ListN.{length, take};
@@ -20,7 +25,7 @@ pub fn exponents_right(most: u8, n: usize, m: Monomial) -> bool
 {
     let e = m.e;
     let mut i: usize = 0;
-    while i < 6 {
+    while i < WIDTH {
         if most < e[i] {
             return false;
         }
@@ -41,10 +46,10 @@ fn coefficient_right(c: i32) -> bool
     if c == 0 {
         return false;
     }
-    if c < -1000000 {
+    if c < LEAST_COEFFICIENT {
         return false;
     }
-    if 1000000 < c {
+    if MOST_COEFFICIENT < c {
         return false;
     }
     true
@@ -55,7 +60,7 @@ fn term_right(n: usize, terms: &[u8], t: usize) -> bool
     requires { ⌜ 12 * t + 12 ≤ length (now terms) ⌝ }
     ensures { λ r. ⌜ r ≡ termRight n (recordAt (now (terms .entry)) t) ⌝ }
 {
-    let at = 12 * t;
+    let at = TERM_BYTES * t;
     let equation = wide(terms[at]);
     if equation < 1 {
         return false;
@@ -66,7 +71,7 @@ fn term_right(n: usize, terms: &[u8], t: usize) -> bool
     if terms[at + 1] != 0 {
         return false;
     }
-    if !exponents_right(9, n, Monomial::read(terms, at + 2)) {
+    if !exponents_right(TERM_EXPONENT, n, Monomial::read(terms, at + 2)) {
         return false;
     }
     coefficient_right(coefficient::decode(terms, at + 8))
@@ -83,10 +88,10 @@ fn records_alike(terms: &[u8], t: usize, u: usize) -> bool
     requires { ⌜ (12 * t + 12 ≤ length (now terms)) × (12 * u + 12 ≤ length (now terms)) ⌝ }
     ensures { λ r. ⌜ r ≡ alike (recordAt (now (terms .entry)) t) (recordAt (now (terms .entry)) u) ⌝ }
 {
-    if terms[12 * t] != terms[12 * u] {
+    if terms[TERM_BYTES * t] != terms[TERM_BYTES * u] {
         return false;
     }
-    Monomial::read(terms, 12 * t + 2).same(Monomial::read(terms, 12 * u + 2))
+    Monomial::read(terms, TERM_BYTES * t + 2).same(Monomial::read(terms, TERM_BYTES * u + 2))
 }
 
 // An earlier record has the equation and exponents of record t.
@@ -107,7 +112,7 @@ fn repeats(terms: &[u8], t: usize) -> bool
 pub fn fault_of(n: usize, terms: &[u8]) -> Fault
     ensures { λ r. ⌜ r ≡ fault n (records (now (terms .entry))) ⌝ }
 {
-    let count = terms.len() / 12;
+    let count = terms.len() / TERM_BYTES;
     let mut t: usize = 0;
     while t < count {
         if !term_right(n, terms, t) {

@@ -3,6 +3,8 @@ use super::choice;
 use super::choice::Pick;
 use super::coefficient;
 use super::derivative;
+use super::panel::TERM_BYTES;
+use super::panel::WIRE_BYTES;
 use super::signals::Signals;
 use monomial::Monomial;
 ghost use mathlib.Core.Path.{_≡_};
@@ -98,7 +100,7 @@ fn next_monomial(terms: &[u8], z: Monomial, last: Pick) -> Pick
     requires { ⌜ CleanTerms (now terms) × AtMost 72 (z .e) ⌝ }
     ensures { λ r. ⌜ Heads (keep (beyond last) (support plain (derivative plain (system (records (now (terms .entry)))) (z .e)))) r ⌝ }
 {
-    let count = terms.len() / 12;
+    let count = terms.len() / TERM_BYTES;
     let mut best = Pick::NONE;
     let mut t: usize = 0;
     while t < count {
@@ -129,9 +131,9 @@ fn put_record(out: &mut [u8], at: usize, left: usize, p: Pair, c: i32)
         (u / 65536 % 256) as u8,
         (u / 16777216 % 256) as u8,
     ];
-    let from = 8 * at;
+    let from = WIRE_BYTES * at;
     let mut i: usize = 0;
-    while i < 8 {
+    while i < WIRE_BYTES {
         out[from + i] = bytes[i];
         i += 1;
     }
@@ -147,7 +149,7 @@ fn write_row(terms: &[u8], v: Signals, left: usize, out: &mut [u8], from: usize)
     let mut at = from;
     let mut next = next_monomial(terms, z, Pick::NONE);
     while next.some {
-        if out.len() / 8 <= at {
+        if out.len() / WIRE_BYTES <= at {
             return Written { ok: false, at };
         }
         let m = next.m;

@@ -1,0 +1,41 @@
+// The numbers of the panel, each once: what follows from another is computed from it.
+use monomial::width::CONSTANTS;
+use monomial::width::WIDTH;
+
+// Integrator cards: so many new monomials has a set.
+pub const CARDS: usize = 6;
+
+// A term record: its bytes, how many there may be and their bytes, its largest exponent and coefficient.
+pub const TERM_BYTES: usize = 12;
+
+pub const MOST_TERMS: usize = 32;
+
+pub const TERMS_BYTES: usize = TERM_BYTES * MOST_TERMS;
+
+pub const TERM_EXPONENT: u8 = 9;
+
+pub const MOST_COEFFICIENT: i32 = 1000000;
+
+pub const LEAST_COEFFICIENT: i32 = -MOST_COEFFICIENT;
+
+// A set record: its bytes and its largest exponent.
+pub const SET_BYTES: usize = WIDTH * CARDS;
+
+pub const SET_EXPONENT: u8 = TERM_EXPONENT * CARDS as u8;
+
+// The signals of a set: 1, the variables, the new monomials; their products, and the bytes of the table of these.
+pub const MOST_SIGNALS: usize = CONSTANTS + CARDS;
+
+pub const MOST_PRODUCTS: usize = MOST_SIGNALS * (MOST_SIGNALS + 1) / 2;
+
+pub const TABLE_BYTES: usize = WIDTH * MOST_PRODUCTS;
+
+// A wiring record: its bytes, how many a list may have and their bytes.
+pub const WIRE_BYTES: usize = 8;
+
+pub const MOST_WIRES: usize = (1 + CARDS) * MOST_TERMS;
+
+pub const WIRES_BYTES: usize = WIRE_BYTES * MOST_WIRES;
+
+// The highest limit of steps.
+pub const MOST_STEPS: u64 = 1000000000;
