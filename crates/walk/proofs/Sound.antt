@@ -10,7 +10,7 @@ use lib.Dec.{T, leb}
 use lib.IntN.{natAbs}
 use lib.ListN.{length, getD, set, take}
 use Rattle.monomial.specs.Lists.{pairwise, pointwise}
-use Rattle.monomial.specs.Monomial.{Mono, one, vars, constants}
+use Rattle.monomial.specs.Monomial.{Mono, one, vars, constants, width}
 use Rattle.monomial.specs.Product.{mul, AtMost}
 use Rattle.monomial.specs.Quotient.{divides}
 use Rattle.monomial.specs.Divisors.{pairs}
@@ -19,6 +19,7 @@ use Rattle.monomial.proofs.Members.{_∈_, here, there, gather-in, gather-out, 
 use Rattle.monomial.proofs.product.Laws.{mul-comm, atMost-weaken, atMost-mul, atMost-at, atMost-all}
 use Rattle.monomial.proofs.quotient.Laws.{factor-divides, atMost-divides}
 use Rattle.monomial.proofs.divisors.Pairs.{Splits, pairs-out}
+use Rattle.wiring.specs.Panel.{cards, setExponent, derivedExponent, termExponent}
 use Rattle.wiring.specs.Poly.{Poly, plain, coeff}
 use Rattle.wiring.specs.Choice.{chosen}
 use Rattle.wiring.specs.Derivative.{derivative, power}
@@ -84,13 +85,13 @@ module _ (r : Rules) (o : Orderly r) (n : ℕ) (fs : List (Poly Mono)) (k : ℕ)
     below = opened r n fs k d
 
     abbrev two : List (Mono × Mono)
-    two = r .tries (signals 6 n s) (chosen m l)
+    two = r .tries (signals width n s) (chosen m l)
 
     pub find-on : (p : Mono × Mono) → ends r n k s (m ∷ l) ≡ false → p ∈ pairs (chosen m l) → opens r n k s p ≡ true
         → found t ∈ opened r n fs k d (child n s p) → found t ∈ opened r n fs k (suc d) s
     find-on p h i j x =
         let own : found t ∈ tried r n fs k below s p = subst (λ es. found t ∈ es) (sym (tried-open r n fs k below s p j)) (there x) in
-        let tried-in = gather-in (tried r n fs k below s) two (tries-in r o (signals 6 n s) (chosen m l) p i) own in
+        let tried-in = gather-in (tried r n fs k below s) two (tries-in r o (signals width n s) (chosen m l) p i) own in
         subst (λ es. found t ∈ es) (sym (opened-split r n fs k d s m l e h)) (there tried-in)
 
     pub find-below : found t ∈ opened r n fs k (suc d) s → Below (opened r n fs k d) s (chosen m l) t
@@ -99,7 +100,7 @@ module _ (r : Rules) (o : Orderly r) (n : ℕ) (fs : List (Poly Mono)) (k : ℕ)
         split : found t ∈ triedAll r n fs k (opened r n fs k d) s (chosen m l) → Below (opened r n fs k d) s (chosen m l) t
         split j =
             let g : Gathered (tried r n fs k below s) (found t) two = gather-out (tried r n fs k below s) two j in
-            tried-out below s (chosen m l) (g .entry) t (tries-out r o (signals 6 n s) (chosen m l) (g .entry) (g .member)) (g .inside)
+            tried-out below s (chosen m l) (g .entry) t (tries-out r o (signals width n s) (chosen m l) (g .entry) (g .member)) (g .inside)
 
         go : Tested (ends r n k s (m ∷ l)) → Below (opened r n fs k d) s (chosen m l) t
         go (passed b) =
@@ -196,10 +197,10 @@ within-vars n (suc w) x h k = ⊎-elim (λ e. first n e k) (λ i. later n (λ j 
         there (subst (λ (z : Mono). z ∈ take j (map (_∷_ 0) (vars w))) (q .2) (rw (take-map (_∷_ 0) j (vars w)) (Memᴰ·map (_∷_ 0) (ih j (q .0) (q .1) b))))
 
 pub base-within : (n : ℕ) (x : Mono) → x ∈ base n → Within n x
-base-within n x h = ⊎-elim (λ e. rw e (one-within n 6)) (vars-within n 6 x) (List·Memᴰ·cases-cons h)
+base-within n x h = ⊎-elim (λ e. rw e (one-within n width)) (vars-within n width x) (List·Memᴰ·cases-cons h)
 
-pub within-base : (n : ℕ) (x : Mono) → x ∈ constants 6 → Within n x → x ∈ base n
-within-base n x h k = ⊎-elim (λ e. List·Memᴰ·head e) (λ i. there (within-vars n 6 x i k)) (List·Memᴰ·cases-cons h)
+pub within-base : (n : ℕ) (x : Mono) → x ∈ constants width → Within n x → x ∈ base n
+within-base n x h k = ⊎-elim (λ e. List·Memᴰ·head e) (λ i. there (within-vars n width x i k)) (List·Memᴰ·cases-cons h)
 
 -- ---- what is found
 -- none of the set is in V of the empty set, and none has an exponent beyond xn
@@ -223,7 +224,7 @@ module _ (n : ℕ) (terms : List ℕ) (clean : fault n (records terms) ≡ Clean
         let e : ℕ = power r (i .of) - 1 in
         let f : Fields n r = fields-out n r (clean-right n [] (records terms) clean r (i .from .listed)) in
         let own : Within n (i .of) = ⊎-elim (base-within n (i .of)) (q .within (i .of)) (signals-cases n s (i .of-in)) in
-        let term : Within n (r .monomial) = at-within n (r .monomial) (λ j l. exponents-everywhere 9 n (r .monomial) (f .exponents) j .zero l) in
+        let term : Within n (r .monomial) = at-within n (r .monomial) (λ j l. exponents-everywhere termExponent n (r .monomial) (f .exponents) j .zero l) in
         let low : 1 ≤ r .equation = f .low in
         let high : r .equation ≤ n = f .high in
         subst (Within n) (i .from .is) (within-mul n (set (i .of) at e) (r .monomial) (within-set n (i .of) at e (omega arith) own) term)
@@ -257,7 +258,7 @@ pub record Sound (r : Rules) (n : ℕ) (terms : List ℕ) (k : ℕ) (s t : List 
   pub short : length t ≤ k
   pub walked : Walked t
 
-module _ (r : Rules) (o : Orderly r) (n : ℕ) (terms : List ℕ) (six : CleanTerms terms) (k : ℕ) (low : k ≤ 6) where
+module _ (r : Rules) (o : Orderly r) (n : ℕ) (terms : List ℕ) (six : CleanTerms terms) (k : ℕ) (low : k ≤ cards) where
   pub record Climbed (s₀ s : List Mono) : Type 0 where
     pub extends : Extends r s₀ s
     pub short : length s ≤ k
@@ -280,7 +281,7 @@ module _ (r : Rules) (o : Orderly r) (n : ℕ) (terms : List ℕ) (six : CleanTe
       record { quadratic = x .1; extends = x .0 .extends; short = x .0 .short; walked = x .0 .walked }
 
 -- ---- every set that level k opens, found or not
-module _ (r : Rules) (begins : Walked (r .start)) (n : ℕ) (terms : List ℕ) (six : CleanTerms terms) (k : ℕ) (low : k ≤ 6) where
+module _ (r : Rules) (begins : Walked (r .start)) (n : ℕ) (terms : List ℕ) (six : CleanTerms terms) (k : ℕ) (low : k ≤ cards) where
   -- the start, and the children of opened sets that are opened
   pub data Opened : List Mono → Type 0 where
     first : Opened (r .start)
@@ -293,24 +294,24 @@ module _ (r : Rules) (begins : Walked (r .start)) (n : ℕ) (terms : List ℕ) (
 
   module _ (s : List Mono) (o : Opened s) where
     -- exponents of sets to 54, of nonsquares to 63
-    pub set-54 : (m : Mono) → m ∈ s → AtMost 54 m
+    pub set-54 : (m : Mono) → m ∈ s → AtMost setExponent m
     set-54 m h = walked-54 s (opened-walked s o) m h
 
-    pub nonsquare-63 : (m : Mono) → m ∈ missing n (system (records terms)) s → AtMost 63 m
+    pub nonsquare-63 : (m : Mono) → m ∈ missing n (system (records terms)) s → AtMost derivedExponent m
     nonsquare-63 m h = nonsquare-fits terms six n s (opened-walked s o) m h .1
 
     -- totals of coefficients, and the sums of the first records on the way to them, in 32 bits
-    signal-72 : (z : Mono) → z ∈ signals 6 n s → (length z ≡ 6) × AtMost 72 z
+    signal-72 : (z : Mono) → z ∈ signals width n s → (length z ≡ width) × AtMost setExponent z
     signal-72 z h =
         ⊎-elim
-        (λ b. constants-fit 72 6 (omega arith) z (take-in (suc n) (constants 6) b))
+        (λ b. constants-fit setExponent width (omega arith) z (take-in (suc n) (constants width) b))
         (λ i. (opened-walked s o .recorded .wide z i, atMost-weaken z (omega arith) (set-54 z i)))
         (signals-cases n s h)
 
-    pub total-32 : (z m : Mono) → z ∈ signals 6 n s → natAbs (coeff plain (derivative plain (system (records terms)) z) m) < 2147483648
+    pub total-32 : (z m : Mono) → z ∈ signals width n s → natAbs (coeff plain (derivative plain (system (records terms)) z) m) < 2147483648
     total-32 z m h = let f = signal-72 z h in total-fits terms six z m (f .0) (f .1)
 
-    pub sum-32 : (z m : Mono) → z ∈ signals 6 n s → (t : ℕ) → natAbs (summed (take t (records terms)) z m) < 2147483648
+    pub sum-32 : (z m : Mono) → z ∈ signals width n s → (t : ℕ) → natAbs (summed (take t (records terms)) z m) < 2147483648
     sum-32 z m h t = let f = signal-72 z h in sum-fits terms six z m (f .0) (f .1) t
 
   -- what is found was opened
@@ -318,7 +319,7 @@ module _ (r : Rules) (begins : Walked (r .start)) (n : ℕ) (terms : List ℕ) (
   found-opened u d s t o h = sound r u n (system (records terms)) k Opened (λ u m p q i j f. next u m p q i j f) d s t o h .0
 
 -- and what may stand in a record of n variables stands in one
-module _ (r : Rules) (o : Orderly r) (n : ℕ) (terms : List ℕ) (few : n ≤ 6) (clean : fault n (records terms) ≡ Clean) where
+module _ (r : Rules) (o : Orderly r) (n : ℕ) (terms : List ℕ) (few : n ≤ width) (clean : fault n (records terms) ≡ Clean) where
   six : CleanTerms terms
   six = clean-widens n (records terms) few clean
 
@@ -329,12 +330,12 @@ module _ (r : Rules) (o : Orderly r) (n : ℕ) (terms : List ℕ) (few : n ≤ 6
     permitted = record {
       ascends = w .recorded .ascending;
       new = λ m h c. q .new m h (within-base n m c (q .within m h));
-      small = λ m h i. atMost-at 54 m i (walked-54 s w m h);
+      small = λ m h i. atMost-at setExponent m i (walked-54 s w m h);
       within = λ m h i l. within-at n m (q .within m h) i l;
     };
   }
 
-  pub opened-recordable : (k d : ℕ) → k ≤ 6 → (s t : List Mono) → Walked s → Proper n s → length s ≤ k
+  pub opened-recordable : (k d : ℕ) → k ≤ cards → (s t : List Mono) → Walked s → Proper n s → length s ≤ k
       → found t ∈ opened r n (system (records terms)) k d s → Recordable n t
   opened-recordable k d low s t w q l h =
       let x : Sound r n terms k s t = opened-sound r o n terms six k low d s t w l h in
