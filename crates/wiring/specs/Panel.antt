@@ -38,12 +38,15 @@ setExponent = termExponent * cards
 abbrev pub derivedExponent : ℕ
 derivedExponent = setExponent + termExponent
 
--- the signals of a set: 1, the variables, the new monomials; and the bytes of the table of their products
+-- the signals of a set: 1, the variables, the new monomials; their products by twos, and the bytes of the table of these
 abbrev pub mostSignals : ℕ
 mostSignals = suc width + cards
 
+abbrev pub mostProducts : ℕ
+mostProducts = mostSignals * suc mostSignals / 2
+
 abbrev pub tableBytes : ℕ
-tableBytes = width * (mostSignals * suc mostSignals / 2)
+tableBytes = width * mostProducts
 
 -- a wiring record: its bytes, how many a list may have and their bytes
 abbrev pub wireBytes : ℕ

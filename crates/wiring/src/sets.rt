@@ -60,7 +60,7 @@ fn monomial_right(n: usize, m: Monomial) -> bool
 // How many places of a record are used: up to the first that is all zero.
 fn size_of(s: &[u8]) -> usize
     requires { ⌜ length (now s) ≡ setBytes ⌝ }
-    ensures { λ r. ⌜ (r ≡ sizeOf (now (s .entry))) × (r ≤ width) ⌝ }
+    ensures { λ r. ⌜ (r ≡ sizeOf (now (s .entry))) × (r ≤ cards) ⌝ }
 {
     let mut i: usize = 0;
     while i < CARDS {

@@ -6,7 +6,7 @@ use mathlib.Core.List.{List, [], _∷_, _++_, map, append-nil, List·Memᴰ·cas
 use Prim.Native.Nat.{ℕ, zero, suc, _+_, _*_, _/_, _<_, _≤_}
 use native.Mathlib.Omega.{arith}
 use native.Mathlib.Numerals.{add-one}
-use native.Mathlib.Nat.{mul-le-mul-left}
+use native.Mathlib.Nat.{mul-le-mul-left, mul-le-mul-right}
 use lib.ListN.{length, getD, take, drop, set, length-append, length-map, length-set, length-replicate, drop-of-length-le, List·getD-append}
 use lib.Seq.{paste, length-take-le, getD-take, take-set-lt, take-suc-set, take-all, take-paste, length-paste, drop-cons, append-snoc, getD-append-add, ext-getD}
 use Rattle.monomial.specs.Lists.{any, gather, below}
@@ -18,7 +18,7 @@ use Rattle.monomial.proofs.Members.{_∈_, here, there, take-in, gather-append,
 use Rattle.monomial.proofs.Counting.{at-in, below-length, below-at}
 use Rattle.monomial.proofs.Strips.{strip-length, strip-at}
 use Rattle.monomial.proofs.product.Laws.{atMost-weaken, atMost-mul}
-use Rattle.wiring.specs.Panel.{cards, mostSignals, tableBytes}
+use Rattle.wiring.specs.Panel.{cards, mostSignals, tableBytes, mostProducts}
 use Rattle.wiring.specs.Poly.{Kind, plain}
 use Rattle.wiring.specs.Quadratic.{products}
 use Rattle.wiring.specs.Signals.{signals, front, flat, tabled, Fitting}
@@ -248,9 +248,10 @@ module _ {M : Type 0} (k : Kind M) where
       let both = length-append (map (k .mul x) (x ∷ v)) (products k v) in
       omega arith
 
-  pub products-room : (v : List M) → length v ≤ mostSignals → length (products k v) ≤ 91
-  products-room v h =
-      let low : length v * suc (length v) ≤ length v * 14 = mul-le-mul-left (length v) (omega arith) in
+  pub products-room : (b : ℕ) (v : List M) → length v ≤ b → length (products k v) ≤ b * suc b / 2
+  products-room b v h =
+      let low : length v * suc (length v) ≤ length v * suc b = mul-le-mul-left (length v) (omega arith) in
+      let high : length v * suc b ≤ b * suc b = mul-le-mul-right (suc b) h in
       omega (arith, products-length v)
 
   pub products-wide : (v : List M) (P : M → Type 0) → ((x y : M) → P x → P y → P (k .mul x y)) → ((x : M) → x ∈ v → P x) → (m : M) → m ∈ products k v → P m
@@ -358,8 +359,8 @@ pub record Row (len : ℕ) (u : List Monomial) (bytes : List ℕ) (at a b : ℕ)
   pub laying : Laying (products plain (front len u)) bytes at (map (mul (entry u a)) (drop b (front len u)) ++ products plain (drop (a + 1) (front len u)))
 
 -- V2 of so few has room
-rows-few : (len : ℕ) (u : List Monomial) → len ≤ mostSignals → len ≤ length u → length (products plain (front len u)) ≤ 91
-rows-few len u h k = products-room plain (front len u) (omega (arith, front-length len u k))
+rows-few : (len : ℕ) (u : List Monomial) → len ≤ mostSignals → len ≤ length u → length (products plain (front len u)) ≤ mostProducts
+rows-few len u h k = products-room plain mostSignals (front len u) (omega (arith, front-length len u k))
 
 pub rows-start : (len : ℕ) (u : List Monomial) (bytes : List ℕ) → len ≤ mostSignals → length u ≡ mostSignals → tableBytes ≤ length bytes → Fitting 127 (front len u) → Rows len u bytes 0 0
 rows-start len u bytes h k l f =
