@@ -12,10 +12,10 @@ use Rattle.monomial.specs.Monomial.{Mono, width}
 use Rattle.monomial.specs.Order.{before}
 use Rattle.monomial.specs.Product.{mul}
 use Rattle.monomial.specs.Divisors.{pairs}
+use Rattle.monomial.specs.Claims.{_∈_, _⊆_, Ascending}
 use Rattle.monomial.proofs.Tests.{Tested, passed, failed, test, T→is, is→T, nT→is, is→nT}
-use Rattle.monomial.proofs.Members.{_∈_}
 use Rattle.monomial.proofs.order.Laws.{mono-order}
-use Rattle.monomial.proofs.order.Ascending.{_⊆_, Ascending, sub-length, sub-equal}
+use Rattle.monomial.proofs.order.Ascending.{sub-length, sub-equal}
 use Rattle.monomial.proofs.divisors.Pairs.{pairs-either}
 use Rattle.wiring.specs.Poly.{Poly, plain, support}
 use Rattle.wiring.specs.Derivative.{derivative}

@@ -11,11 +11,11 @@ use Rattle.monomial.specs.Lists.{any}
 use Rattle.monomial.specs.Monomial.{Mono, width}
 use Rattle.monomial.specs.Order.{same, before}
 use Rattle.monomial.specs.Divisors.{pairs}
+use Rattle.monomial.specs.Claims.{_∈_, _⊆_, Ascending, Rearranged}
 use Rattle.monomial.proofs.Tests.{Tested, passed, failed, test, T→is, is→T, is→nT, and-l, and-r, and-i, or-l, or-r, or-e}
-use Rattle.monomial.proofs.Members.{_∈_}
-use Rattle.monomial.proofs.Rearranged.{Rearranged, rearranged-self, rearranged-in, rearranged-out}
+use Rattle.monomial.proofs.Rearranged.{rearranged-self, rearranged-in, rearranged-out}
 use Rattle.monomial.proofs.order.Laws.{mono-order}
-use Rattle.monomial.proofs.order.Ascending.{_⊆_, Ascending, among-in, among-out}
+use Rattle.monomial.proofs.order.Ascending.{among-in, among-out}
 use Rattle.wiring.specs.Poly.{Poly}
 use Rattle.wiring.specs.Signals.{signals}
 use Rattle.wiring.specs.Answers.{missing}

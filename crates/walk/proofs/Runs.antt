@@ -13,10 +13,11 @@ use lib.Seq.{take-all}
 use Rattle.monomial.specs.Lists.{any, insertBy}
 use Rattle.monomial.specs.Monomial.{Mono}
 use Rattle.monomial.specs.Order.{sameSet, beforeSet}
+use Rattle.monomial.specs.Claims.{_∈_, _⊆_, Ascending, empty}
 use Rattle.monomial.proofs.Tests.{Tested, passed, failed, test, is→nT, cond-cases}
-use Rattle.monomial.proofs.Members.{_∈_, there}
+use Rattle.monomial.proofs.Members.{there}
 use Rattle.monomial.proofs.order.Laws.{set-order}
-use Rattle.monomial.proofs.order.Ascending.{_⊆_, Ascending, empty, insert-out, insert-new, insert-old, insert-asc, insert-length, among-in, among-out}
+use Rattle.monomial.proofs.order.Ascending.{insert-out, insert-new, insert-old, insert-asc, insert-length, among-in, among-out}
 use Rattle.walk.specs.Walk.{Finds, Step, found, other, Run, ended, spent, full, kept, onward, run}
 use Rattle.walk.proofs.Steps.{run-stops, run-other, run-found}
 

@@ -11,10 +11,11 @@ use lib.ListN.{length}
 use Rattle.monomial.specs.Lists.{arrangeBy}
 use Rattle.monomial.specs.Monomial.{Mono, width}
 use Rattle.monomial.specs.Order.{same, before, beforeSet}
+use Rattle.monomial.specs.Claims.{_∈_, _⊆_, Ascending}
 use Rattle.monomial.proofs.Tests.{Tested, passed, failed, test}
-use Rattle.monomial.proofs.Members.{_∈_, here}
+use Rattle.monomial.proofs.Members.{here}
 use Rattle.monomial.proofs.order.Laws.{mono-order, set-order}
-use Rattle.monomial.proofs.order.Ascending.{_⊆_, Ascending, arrange-asc, arrange-in, arrange-out, arrange-length, sub-length, sub-equal}
+use Rattle.monomial.proofs.order.Ascending.{arrange-asc, arrange-in, arrange-out, arrange-length, sub-length, sub-equal}
 use Rattle.wiring.specs.Panel.{cards}
 use Rattle.wiring.specs.Poly.{Poly, plain}
 use Rattle.wiring.specs.Derivative.{derivative}
@@ -23,9 +24,9 @@ use Rattle.wiring.specs.Signals.{signals}
 use Rattle.wiring.specs.Terms.{records, fault, system}
 use Rattle.wiring.specs.Answers.{missing}
 use Rattle.wiring.specs.declared.terms.Fault.the-variants.{Clean}
+use Rattle.wiring.specs.Claims.{Recordable}
 use Rattle.wiring.proofs.quadratic.Definition1.{definition1}
 use Rattle.wiring.proofs.terms.Laws.{clean-widens}
-use Rattle.wiring.proofs.sets.Exact.{Recordable}
 use Rattle.walk.specs.Walk.{Finds, Rules, found, level, walked}
 use Rattle.walk.specs.Turns.{Walked}
 use Rattle.walk.specs.Plan.{done, plan}

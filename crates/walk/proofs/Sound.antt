@@ -14,11 +14,12 @@ use Rattle.monomial.specs.Monomial.{Mono, one, vars, constants, width}
 use Rattle.monomial.specs.Product.{mul, AtMost}
 use Rattle.monomial.specs.Quotient.{divides}
 use Rattle.monomial.specs.Divisors.{pairs}
+use Rattle.monomial.specs.Claims.{_∈_, IsPair}
 use Rattle.monomial.proofs.Tests.{Tested, passed, failed, test, is→T, and-r}
-use Rattle.monomial.proofs.Members.{_∈_, here, there, gather-in, gather-out, Gathered, take-in}
+use Rattle.monomial.proofs.Members.{here, there, gather-in, gather-out, Gathered, take-in}
 use Rattle.monomial.proofs.product.Laws.{mul-comm, atMost-weaken, atMost-mul, atMost-at, atMost-all}
 use Rattle.monomial.proofs.quotient.Laws.{factor-divides, atMost-divides}
-use Rattle.monomial.proofs.divisors.Pairs.{Splits, pairs-out}
+use Rattle.monomial.proofs.divisors.Pairs.{pairs-out}
 use Rattle.wiring.specs.Panel.{cards, setExponent, derivedExponent, termExponent}
 use Rattle.wiring.specs.Poly.{Poly, plain, coeff}
 use Rattle.wiring.specs.Choice.{chosen}
@@ -27,11 +28,10 @@ use Rattle.wiring.specs.Signals.{signals}
 use Rattle.wiring.specs.Terms.{Record, records, fault, system, CleanTerms}
 use Rattle.wiring.specs.Answers.{missing}
 use Rattle.wiring.specs.declared.terms.Fault.the-variants.{Clean}
+use Rattle.wiring.specs.Claims.{summed, Recordable}
 use Rattle.wiring.proofs.terms.Laws.{Fields, fields-out, clean-right, clean-widens, exponents-everywhere}
 use Rattle.wiring.proofs.signals.Laws.{base, base-in, signals-cases, constants-fit}
-use Rattle.wiring.proofs.derivative.Records.{summed}
 use Rattle.wiring.proofs.derivative.Bounds.{sum-fits, total-fits}
-use Rattle.wiring.proofs.sets.Exact.{Recordable}
 use Rattle.walk.specs.Walk.{Rules, child, Step, found, other, opens, ends, tried, triedAll, opened}
 use Rattle.walk.specs.Turns.{Walked}
 use Rattle.walk.proofs.Rules.{Orderly, tries-in, tries-out, Extends, extends-self, extends-on, opens-fits, opens-extends}
@@ -232,7 +232,7 @@ module _ (n : ℕ) (terms : List ℕ) (clean : fault n (records terms) ≡ Clean
     pub keeps-proper : (r : Rules) (k : ℕ) → Kept r n fs k (Proper n)
     keeps-proper r k s m p q h j f = record { new = λ x i. new-of x (child-out n s p i); within = λ x i. within-of x (child-out n s p i) }
       where
-        two : Splits p m
+        two : IsPair p m
         two = pairs-out p m j
 
         gap : Within n m

@@ -11,9 +11,9 @@ use lib.ListN.{length}
 use Rattle.monomial.specs.Monomial.{Mono, width}
 use Rattle.monomial.specs.Order.{before}
 use Rattle.monomial.specs.Divisors.{pairs}
+use Rattle.monomial.specs.Claims.{_∈_, Ascending}
 use Rattle.monomial.proofs.Tests.{Tested, passed, failed, test, is→T}
-use Rattle.monomial.proofs.Members.{_∈_, gather-same}
-use Rattle.monomial.proofs.order.Ascending.{Ascending}
+use Rattle.monomial.proofs.Members.{gather-same}
 use Rattle.wiring.specs.Poly.{Poly}
 use Rattle.wiring.specs.Signals.{signals}
 use Rattle.wiring.specs.Choice.{chosen}

@@ -14,13 +14,14 @@ use Rattle.monomial.specs.Order.{same}
 use Rattle.monomial.specs.Product.{mul}
 use Rattle.monomial.specs.Quotient.{divides}
 use Rattle.monomial.specs.Divisors.{pairs}
+use Rattle.monomial.specs.Claims.{_∈_, _⊆_, IsPair}
 use Rattle.monomial.proofs.Tests.{is→T, same-test}
-use Rattle.monomial.proofs.Members.{_∈_, there, take-in}
+use Rattle.monomial.proofs.Members.{there, take-in}
 use Rattle.monomial.proofs.order.Laws.{mono-order}
-use Rattle.monomial.proofs.order.Ascending.{_⊆_, sub-length, sub-equal, among-in, among-out}
+use Rattle.monomial.proofs.order.Ascending.{sub-length, sub-equal, among-in, among-out}
 use Rattle.monomial.proofs.product.Laws.{mul-comm}
 use Rattle.monomial.proofs.quotient.Laws.{factor-divides}
-use Rattle.monomial.proofs.divisors.Pairs.{Splits, pairs-out}
+use Rattle.monomial.proofs.divisors.Pairs.{pairs-out}
 use Rattle.wiring.specs.Panel.{setBytes}
 use Rattle.wiring.specs.Poly.{Poly, plain, support}
 use Rattle.wiring.specs.Quadratic.{inV2}
@@ -30,11 +31,12 @@ use Rattle.wiring.specs.Choice.{chosen}
 use Rattle.wiring.specs.Terms.{Record, records, fault, system, CleanTerms}
 use Rattle.wiring.specs.Answers.{missing}
 use Rattle.wiring.specs.declared.terms.Fault.the-variants.{Clean}
+use Rattle.wiring.specs.Claims.{Keeps, Alike, Flawless, beyond}
 use Rattle.wiring.proofs.quadratic.Laws.{Factors, inV2-in, inV2-out, unmet-in, unmet-out, Nonsquare, nonsquares-in, nonsquares-out, nonsquares-asc}
 use Rattle.wiring.proofs.Poly.{support-out}
 use Rattle.wiring.proofs.derivative.Records.{Derived, derived}
-use Rattle.wiring.proofs.terms.Exact.{Keeps, Alike, Flawless, clean-exact}
-use Rattle.wiring.proofs.answers.Exact.{count-in, beyond}
+use Rattle.wiring.proofs.terms.Exact.{clean-exact}
+use Rattle.wiring.proofs.answers.Exact.{count-in}
 use Rattle.wiring.proofs.terms.Laws.{Fields, fields-out, clean-right, clean-widens}
 use Rattle.wiring.proofs.signals.Laws.{base, base-in, set-in, signals-cases}
 use Rattle.walk.specs.Walk.{Rules, bare, added, child, Step, opens, ends, tried, after, opened, level, Run, ended, spent, full, run}
@@ -149,7 +151,7 @@ module _ (n b : ℕ) (terms : List ℕ) (more : n ≤ b) (few : b ≤ width) (cl
 
     -- ---- the children by a pair of a nonsquare
     module _ (m : Mono) (h : m ∈ missing n fs s) (p : Mono × Mono) (k : p ∈ pairs m) where
-      two : Splits p m
+      two : IsPair p m
       two = pairs-out p m k
 
       pair-same : child n s p ≡ child b s p
@@ -222,7 +224,7 @@ module _ (r : Rules) (o : Orderly r) (n b : ℕ) (heed : Heedless r n b) (terms 
       opens-same : opens r n k s p ≡ opens r b k s p
       unfolding opens
       opens-same =
-          let two : Splits p m = pairs-out p m i in
+          let two : IsPair p m = pairs-out p m i in
           let long : length (p .0) ≡ length (p .1) = two .left ∙ sym (two .right) in
           rw (part (p .0) (p .1) long (two .product), part (p .1) (p .0) (sym long) (mul-comm (p .1) (p .0) ∙ two .product), child-is)
 

@@ -1,12 +1,13 @@
 -- What the functions of the walk ask and tell of a run. Assumes nothing.
 use mathlib.Core.Path.{_≡_}
 use mathlib.Core.Bool.{Bool, true, false}
-use mathlib.Core.List.{List, _∷_, List·Memᴰ}
+use mathlib.Core.List.{List, _∷_}
 use Prim.Native.Nat.{ℕ, _*_, _/_, _≤_, _<_}
 use lib.Dec.{leb}
 use lib.ListN.{length}
 use Rattle.monomial.specs.Monomial.{Mono, width}
 use Rattle.monomial.specs.Product.{AtMost}
+use Rattle.monomial.specs.Claims.{_∈_}
 use Rattle.wiring.specs.Panel.{cards, termExponent, setBytes}
 use Rattle.wiring.specs.Poly.{plain}
 use Rattle.wiring.specs.Derivative.{derivative}
@@ -27,7 +28,7 @@ use Rattle.walk.specs.Listing.{Recorded, Shown}
 -- what each set of the walk keeps: it has a record, and its exponents are at most 9 for each of its monomials
 pub record Walked (s : List Mono) : Type 0 where
   pub recorded : Recorded s
-  pub small : (m : Mono) → List·Memᴰ m s → AtMost (termExponent * length s) m
+  pub small : (m : Mono) → m ∈ s → AtMost (termExponent * length s) m
 
 -- the child c, where it has at most `level` monomials
 pub record Child (level : ℕ) (c : List Mono) (t : Tried) : Type 0 where
@@ -70,7 +71,7 @@ pub record Found (set : Set) (count : ℕ) (out : List ℕ) : Type 0 where
 -- what the pair runner asks besides
 pub record Splits (n : ℕ) (terms : List ℕ) (level : ℕ) (set : Set) (m : Mono) : Type 0 where
   pub below : set .len < level
-  pub member : List·Memᴰ m (nonsquares plain (signals width n (monomialsOf set)) (derivative plain (system (records terms))))
+  pub member : m ∈ nonsquares plain (signals width n (monomialsOf set)) (derivative plain (system (records terms)))
 
 -- ---- what taking the step of an opening tells, by given rules
 module _ (r : Rules) (n : ℕ) (terms : List ℕ) (level limit : ℕ) (set : Set) (st : State) (out₀ : List ℕ) where

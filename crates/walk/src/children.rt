@@ -9,7 +9,7 @@ ghost use Prim.Native.Nat.{ℕ, _+_, _≤_, _<_};
 ghost use Rattle.monomial.specs.Monomial.{width};
 ghost use Rattle.monomial.specs.Lists.{any, insertBy};
 ghost use Rattle.monomial.specs.Order.{same, before};
-ghost use Rattle.monomial.proofs.order.Ascending.{Ascending};
+ghost use Rattle.monomial.specs.Claims.{Ascending};
 ghost use Rattle.wiring.specs.Panel.{cards, mostSignals};
 ghost use Rattle.wiring.specs.Signals.{signals, signalsOf};
 ghost use Rattle.wiring.specs.Sets.{monomialsOf};

@@ -12,21 +12,9 @@ use lib.ListN.{length, drop, getD, drop-of-length-le}
 use lib.Seq.{drop-cons}
 use Rattle.monomial.specs.Lists.{pairwise, dictionary}
 use Rattle.monomial.specs.Order.{same, before, sameSet, beforeSet}
+use Rattle.monomial.specs.Claims.{Compared, Order, less, equal, more}
 use Rattle.monomial.proofs.Loops.{Comparing, comparing-next, comparing-says}
 use Rattle.monomial.proofs.Tests.{and-l, and-r, and-i, or-l, or-r, or-e, Tested, passed, failed, test, is→T, is→nT, T→is, nT→is}
-
--- which of two stands before the other
-pub data Compared {A : Type 0} (same before : A → A → Bool) (a b : A) : Type 0 where
-  less : T (before a b) → Compared same before a b
-  equal : T (same a b) → Compared same before a b
-  more : T (before b a) → Compared same before a b
-
-pub record Order {A : Type 0} (same before : A → A → Bool) : Type 0 where
-  pub same-eq : (a b : A) → T (same a b) → a ≡ b
-  pub same-refl : (a : A) → T (same a a)
-  pub irrefl : (a : A) → T (before a a) → ⊥
-  pub trans : (a b c : A) → T (before a b) → T (before b c) → T (before a c)
-  pub total : (a b : A) → Compared same before a b
 
 -- of "before", "the same" and "behind" one holds, and no two
 module _ {A : Type 0} {same before : A → A → Bool} (o : Order same before) where

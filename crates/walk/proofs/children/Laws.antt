@@ -14,14 +14,15 @@ use Rattle.monomial.specs.Order.{same, before}
 use Rattle.monomial.specs.Product.{mul, AtMost}
 use Rattle.monomial.specs.Divisors.{pairs}
 use Rattle.monomial.specs.Quotient.{divides}
+use Rattle.monomial.specs.Claims.{_∈_, _⊆_, Ascending, empty, IsPair}
 use Rattle.monomial.proofs.Tests.{cond-cases}
-use Rattle.monomial.proofs.Members.{_∈_, take-in, fill-at}
+use Rattle.monomial.proofs.Members.{take-in, fill-at}
 use Rattle.monomial.proofs.Loops.{pointwise-length}
 use Rattle.monomial.proofs.order.Laws.{mono-order}
-use Rattle.monomial.proofs.order.Ascending.{_⊆_, Ascending, empty, insert-out, insert-new, insert-old, insert-asc, insert-length, sub-length, among-in, among-out}
+use Rattle.monomial.proofs.order.Ascending.{insert-out, insert-new, insert-old, insert-asc, insert-length, sub-length, among-in, among-out}
 use Rattle.monomial.proofs.product.Laws.{mul-comm, atMost-weaken, atMost-mul, atMost-set, atMost-at}
 use Rattle.monomial.proofs.quotient.Laws.{factor-divides, atMost-divides}
-use Rattle.monomial.proofs.divisors.Pairs.{Splits, pairs-out}
+use Rattle.monomial.proofs.divisors.Pairs.{pairs-out}
 use Rattle.wiring.specs.Panel.{cards, setExponent, derivedExponent, termExponent}
 use Rattle.wiring.specs.Poly.{Poly, plain}
 use Rattle.wiring.specs.Derivative.{derivative, power}
@@ -246,7 +247,7 @@ module _ (terms : List ℕ) (clean : CleanTerms terms) (n : ℕ) (s : List Mono)
         (nonsquare-wide (w .recorded .wide) m h, atMost-weaken m (omega arith) (nonsquare-small (w .small) m h))
 
     module _ (m : Mono) (h : m ∈ gaps) (p : Mono × Mono) (k : p ∈ pairs m) where
-      two : Splits p m
+      two : IsPair p m
       two = pairs-out p m k
 
       wide-m : length m ≡ width

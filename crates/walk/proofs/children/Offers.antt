@@ -14,11 +14,12 @@ use Rattle.monomial.specs.Lists.{any, insertBy}
 use Rattle.monomial.specs.Monomial.{Mono, width}
 use Rattle.monomial.specs.Order.{same, before}
 use Rattle.monomial.specs.declared.Monomial.{Monomial}
+use Rattle.monomial.specs.Claims.{_∈_, _⊆_, Ascending, Order}
 use Rattle.monomial.proofs.Tests.{Tested, passed, failed, test, T→is, is→T, nT→is, is→nT, or-l, or-r, or-e}
-use Rattle.monomial.proofs.Members.{_∈_, here, there}
+use Rattle.monomial.proofs.Members.{here, there}
 use Rattle.monomial.proofs.Counting.{at-in}
-use Rattle.monomial.proofs.order.Laws.{Order, not-both, not-same, same-flip, behind, mono-order}
-use Rattle.monomial.proofs.order.Ascending.{_⊆_, Ascending, head-first, tail-asc, insert-out, insert-new, insert-old, insert-asc, insert-length, sub-length, sub-equal, among-in, among-out}
+use Rattle.monomial.proofs.order.Laws.{not-both, not-same, same-flip, behind, mono-order}
+use Rattle.monomial.proofs.order.Ascending.{head-first, tail-asc, insert-out, insert-new, insert-old, insert-asc, insert-length, sub-length, sub-equal, among-in, among-out}
 use Rattle.wiring.specs.Panel.{cards}
 use Rattle.wiring.specs.Signals.{signals, front}
 use Rattle.wiring.specs.Sets.{monomialsOf}

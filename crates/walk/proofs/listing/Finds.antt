@@ -11,9 +11,9 @@ use lib.Seq.{paste}
 use Rattle.monomial.specs.Lists.{any, place, gather, insertBy}
 use Rattle.monomial.specs.Monomial.{Mono}
 use Rattle.monomial.specs.Order.{same, before, sameSet, beforeSet}
+use Rattle.monomial.specs.Claims.{_∈_}
 use Rattle.monomial.proofs.Tests.{is→nT}
 use Rattle.monomial.proofs.Strips.{strip-at}
-use Rattle.monomial.proofs.Members.{_∈_}
 use Rattle.monomial.proofs.Counting.{at-in}
 use Rattle.monomial.proofs.order.Laws.{set-order}
 use Rattle.monomial.proofs.order.Ascending.{insert-out, insert-asc, insert-length, among-in}

@@ -10,11 +10,12 @@ use lib.Dec.{T}
 use lib.ListN.{length, getD, take, drop, set, length-append, length-drop, List·getD-append}
 use lib.Seq.{paste, paste-zero, getD-take, drop-cons, take-take, take-append-le, take-append-seam, take-all, drop-at, drop-append-add, drop-append-seam, length-take-le, length-paste}
 use Rattle.monomial.specs.Lists.{any, place, gather, insertBy}
+use Rattle.monomial.specs.Claims.{_∈_, Order, Compared, less, equal, more}
 use Rattle.monomial.proofs.Tests.{or-l, or-r, T→is, nT→is}
 use Rattle.monomial.proofs.Loops.{set-front}
-use Rattle.monomial.proofs.Members.{_∈_, gather-append}
+use Rattle.monomial.proofs.Members.{gather-append}
 use Rattle.monomial.proofs.Strips.{strip-length, strip-split, strip-front}
-use Rattle.monomial.proofs.order.Laws.{Order, Compared, less, equal, more, not-both, not-same, same-flip}
+use Rattle.monomial.proofs.order.Laws.{not-both, not-same, same-flip}
 
 -- ---- a buffer in parts
 -- b moves up by one record y, and r takes its place: what stands there is a, r, b and what stood behind y

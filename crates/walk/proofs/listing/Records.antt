@@ -13,10 +13,11 @@ use Rattle.monomial.specs.Lists.{gather, dictionary}
 use Rattle.monomial.specs.Monomial.{Mono, one, width}
 use Rattle.monomial.specs.Order.{same, before, sameSet, beforeSet}
 use Rattle.monomial.specs.declared.Monomial.{Monomial}
+use Rattle.monomial.specs.Claims.{_∈_, Order, Compared, less, equal, more}
 use Rattle.monomial.proofs.Tests.{same-test}
-use Rattle.monomial.proofs.Members.{_∈_, here, there, take-in, gather-append}
+use Rattle.monomial.proofs.Members.{here, there, take-in, gather-append}
 use Rattle.monomial.proofs.Counting.{at-in}
-use Rattle.monomial.proofs.order.Laws.{Order, Compared, less, equal, more, not-both, Ahead, smaller, tied, ahead, ahead-is, ℕ-order, mono-order, set-order}
+use Rattle.monomial.proofs.order.Laws.{not-both, Ahead, smaller, tied, ahead, ahead-is, ℕ-order, mono-order, set-order}
 use Rattle.wiring.specs.Panel.{cards, setBytes}
 use Rattle.wiring.specs.Signals.{front, flat}
 use Rattle.wiring.specs.Sets.{setRecord, setOf}

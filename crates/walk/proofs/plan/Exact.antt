@@ -13,9 +13,9 @@ use lib.Seq.{take-at, drop-append-add, getD-append-add}
 use Rattle.monomial.specs.Lists.{gather, arrangeBy}
 use Rattle.monomial.specs.Monomial.{Mono, width}
 use Rattle.monomial.specs.Order.{same, before}
+use Rattle.monomial.specs.Claims.{_∈_, empty}
 use Rattle.monomial.proofs.Tests.{Tested, passed, failed, test, T→is, nT→is, is→T, is→nT, and-l, and-r}
-use Rattle.monomial.proofs.Members.{_∈_, here, there, fill-at}
-use Rattle.monomial.proofs.order.Ascending.{empty}
+use Rattle.monomial.proofs.Members.{here, there, fill-at}
 use Rattle.wiring.specs.Panel.{cards, setBytes, wiresBytes, mostSteps}
 use Rattle.wiring.specs.Poly.{Poly, plain}
 use Rattle.wiring.specs.Quadratic.{Quadratic}
@@ -28,11 +28,12 @@ use Rattle.wiring.specs.declared.reply.Reply.{Reply}
 use Rattle.wiring.specs.declared.reply.Reply.the-variants.{Done, Setting, Length, Term, Twice, Nothing, Full, Spent, BadSet, NotQuadratic}
 use Rattle.wiring.specs.declared.terms.Fault.{Fault}
 use Rattle.wiring.specs.declared.terms.Fault.the-variants.{Clean, Wrong, Repeated}
+use Rattle.wiring.specs.Claims.{Measured, Breaks, Repeats, Flawless, Ranged, beyond, WellFormed, signalsIn, derivativeIn, Recordable, listIn}
 use Rattle.wiring.proofs.reply.Laws.{same-reply, code-done}
-use Rattle.wiring.proofs.terms.Exact.{Measured, length-exact, Breaks, Repeats, Flawless, wrong-exact, repeated-exact, clean-exact}
-use Rattle.wiring.proofs.sets.Exact.{Recordable, record-length, record-set, record-right, right-iff}
-use Rattle.wiring.proofs.answers.Exact.{Ranged, count-in, count-out, beyond, WellFormed, signalsIn, derivativeIn, check-exact}
-use Rattle.wiring.proofs.answers.Wired.{listIn, wire-enough}
+use Rattle.wiring.proofs.terms.Exact.{length-exact, wrong-exact, repeated-exact, clean-exact}
+use Rattle.wiring.proofs.sets.Exact.{record-length, record-set, record-right, right-iff}
+use Rattle.wiring.proofs.answers.Exact.{count-in, count-out, check-exact}
+use Rattle.wiring.proofs.answers.Wired.{wire-enough}
 use Rattle.walk.specs.Walk.{Finds, bare, level}
 use Rattle.walk.specs.Plan.{Ending, done, none, fullAt, spentAt, plan, setsBytes, said, settingsRight, planned}
 use Rattle.walk.proofs.Runs.{distinct}

@@ -9,8 +9,8 @@ use lib.Dec.{leb→le}
 use lib.ListN.{length, replicate}
 use Rattle.monomial.specs.Lists.{gather}
 use Rattle.monomial.specs.Monomial.{Mono, width}
+use Rattle.monomial.specs.Claims.{empty}
 use Rattle.monomial.proofs.Tests.{is→T, T→is, and-l, and-r}
-use Rattle.monomial.proofs.order.Ascending.{empty}
 use Rattle.wiring.specs.Panel.{cards, setBytes}
 use Rattle.wiring.specs.Reply.{Outcome, outcome}
 use Rattle.wiring.specs.Poly.{Poly}

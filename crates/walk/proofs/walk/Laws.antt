@@ -13,11 +13,12 @@ use Rattle.monomial.specs.Lists.{some, gather}
 use Rattle.monomial.specs.Monomial.{Mono, one, width}
 use Rattle.monomial.specs.Quotient.{quo, divides}
 use Rattle.monomial.specs.Divisors.{leads, pairs, next}
+use Rattle.monomial.specs.Claims.{_∈_, split, pairsFrom}
 use Rattle.monomial.proofs.Tests.{is→T, is→nT}
-use Rattle.monomial.proofs.Members.{_∈_, some-none}
+use Rattle.monomial.proofs.Members.{some-none}
 use Rattle.monomial.proofs.quotient.Laws.{one-divides}
 use Rattle.monomial.proofs.divisors.Following.{next-divides}
-use Rattle.monomial.proofs.divisors.Pairs.{split, pairsFrom, pairs-start, pairs-turn, pairs-end}
+use Rattle.monomial.proofs.divisors.Pairs.{pairs-start, pairs-turn, pairs-end}
 use Rattle.wiring.specs.Panel.{setBytes, setExponent}
 use Rattle.wiring.specs.Poly.{Poly, plain}
 use Rattle.wiring.specs.Derivative.{derivative}

@@ -12,9 +12,8 @@ use Rattle.monomial.specs.Monomial.{Mono, one, width}
 use Rattle.monomial.specs.Quotient.{quo, divides}
 use Rattle.monomial.specs.Divisors.{leads, next, pairs, divisors}
 use Rattle.monomial.specs.Order.{before}
-use Rattle.monomial.proofs.Members.{_∈_, here}
-use Rattle.monomial.proofs.order.Laws.{mono-order}
-use Rattle.monomial.proofs.order.Ascending.{from}
+use Rattle.monomial.specs.Claims.{_∈_, from}
+use Rattle.monomial.proofs.Members.{here}
 use Rattle.monomial.proofs.product.Laws.{mul-one}
 use Rattle.monomial.proofs.quotient.Laws.{divides-length, mul-quo, quo-divides}
 use Rattle.monomial.proofs.divisors.Following.{divisors-next}
@@ -43,10 +42,10 @@ pair-member a m t l =
 
 -- fewer divisors are left behind a divisor that leads
 pub fewer-left : (a m b : Mono) → T (divides a m) → (m ≡ one (length m) → ⊥) → T (leads m a) → b ≡ next m a
-    → length (from mono-order b (divisors m)) < length (from mono-order a (divisors m))
+    → length (from before b (divisors m)) < length (from before a (divisors m))
 fewer-left a m b t p l e =
     let turn = ap length (divisors-next a m t (leads-last a m p l)) in
-    let same = ap (λ (x : Mono). length (from mono-order x (divisors m))) e in
+    let same = ap (λ (x : Mono). length (from before x (divisors m))) e in
     omega arith
 
 module _ (n : ℕ) (terms : List ℕ) (level : ℕ) (set : Set) (m : Mono) (count : ℕ) (out₀ : List ℕ)

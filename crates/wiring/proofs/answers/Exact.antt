@@ -8,7 +8,6 @@ use Prim.Native.Nat.{ℕ, _+_, _≤_}
 use native.Mathlib.Omega.{arith}
 use borrow.Author.Tests.{eqb-true, eqb-false}
 use lib.Dec.{T, eqb, leb, leb→le, le→leb}
-use lib.IntN.{pos}
 use lib.ListN.{length, getD}
 use Rattle.monomial.specs.Lists.{some}
 use Rattle.monomial.specs.Monomial.{Mono, width}
@@ -23,23 +22,19 @@ use Rattle.wiring.specs.declared.terms.Fault.{Fault}
 use Rattle.wiring.specs.declared.terms.Fault.the-variants.{Clean, Wrong, Repeated}
 use Rattle.wiring.specs.Reply.{numbers}
 use Rattle.wiring.specs.Poly.{Poly, plain}
-use Rattle.wiring.specs.Derivative.{derivative}
 use Rattle.wiring.specs.Quadratic.{Quadratic}
-use Rattle.wiring.specs.Signals.{signals}
-use Rattle.wiring.specs.Terms.{Record, records, lengthRight, fault, system}
+use Rattle.wiring.specs.Terms.{records, lengthRight, fault, system}
 use Rattle.wiring.specs.Sets.{setOf, setRight}
 use Rattle.wiring.specs.Answers.{unlessFault, countRight, missing, firstUnmet, judged, recordJudged, verdict, checked}
+use Rattle.wiring.specs.Claims.{Measured, Breaks, Repeats, Flawless, Ranged, Lengths, beyond, WellFormed, signalsIn, derivativeIn, CheckSays, FirstUnlinked, RightRecord}
 use Rattle.wiring.proofs.reply.Laws.{same-reply}
-use Rattle.wiring.proofs.terms.Exact.{Measured, length-exact, Breaks, Repeats, Flawless, wrong-exact, repeated-exact, clean-exact}
-use Rattle.wiring.proofs.sets.Exact.{RightRecord, right-iff}
-use Rattle.wiring.proofs.quadratic.Definition1.{definition1, FirstUnlinked, first-unlinked, first-unlinked-one, first-unlinked-raised}
+use Rattle.wiring.proofs.terms.Exact.{length-exact, wrong-exact, repeated-exact, clean-exact}
+use Rattle.wiring.proofs.sets.Exact.{right-iff}
+use Rattle.wiring.proofs.quadratic.Definition1.{definition1, first-unlinked, first-unlinked-one, first-unlinked-raised}
 use Rattle.wiring.proofs.signals.Laws.{signals-length}
 use Rattle.wiring.proofs.answers.Laws.{judged-not, said-setting, said-terms-length, said-set-length, said-rest, record-bad, record-right, is-verdict}
 
 -- ---- the facts
-abbrev pub Ranged : ℕ → Type 0
-Ranged n = (1 ≤ n) × (n ≤ width)
-
 pub count-in : (n : ℕ) → Ranged n → countRight n ≡ true
 unfolding countRight
 count-in n r = T→is (leb 1 n && leb n width) (and-i (leb 1 n) (leb n width) (le→leb 1 n (r .0)) (le→leb n width (r .1)))
@@ -48,42 +43,8 @@ pub count-out : (n : ℕ) → T (countRight n) → Ranged n
 unfolding countRight
 count-out n t = (leb→le 1 n (and-l (leb 1 n) (leb n width) t), leb→le n width (and-r (leb 1 n) (leb n width) t))
 
-pub record Lengths (terms set : List ℕ) : Type 0 where
-  pub measured : Measured terms
-  pub long : length set ≡ setBytes
-
--- stands for a record beyond the last, of which nothing is said
-abbrev pub beyond : Record
-beyond = record { equation = 0; blank = 0; monomial = []; coefficient = pos 0 }
-
--- what all three have to be for a set to be judged
-pub record WellFormed (n : ℕ) (terms set : List ℕ) : Type 0 where
-  pub ranged : Ranged n
-  pub lengths : Lengths terms set
-  pub flawless : Flawless n (records terms) beyond
-  pub right : RightRecord n set
-
--- the signals of the set, and the derivation of the system
-abbrev pub signalsIn : ℕ → List ℕ → List Mono
-signalsIn n set = signals width n (setOf set)
-
-abbrev pub derivativeIn : List ℕ → Mono → Poly Mono
-derivativeIn terms = derivative plain (system (records terms))
-
 -- ---- what each reply of checking says
 module _ (n : ℕ) (terms set : List ℕ) where
-  abbrev pub CheckSays : Reply → Type 0
-  CheckSays Setting = Ranged n → ⊥
-  CheckSays Length = Ranged n × ((Measured terms → ⊥) ⊎ (length set ≡ setBytes → ⊥))
-  CheckSays (Term p) = Ranged n × Lengths terms set × Breaks n (records terms) beyond p
-  CheckSays (Twice p) = Ranged n × Lengths terms set × Repeats n (records terms) beyond p
-  CheckSays BadSet = Ranged n × Lengths terms set × Flawless n (records terms) beyond × (RightRecord n set → ⊥)
-  CheckSays (NotQuadratic o p) = WellFormed n terms set × (o ≡ length (setOf set)) × FirstUnlinked plain mono-order (signalsIn n set) (derivativeIn terms) [] p
-  CheckSays (Done o c k) = WellFormed n terms set × (o ≡ length (setOf set)) × (c ≡ 0) × (k ≡ 0) × Quadratic plain (signalsIn n set) (derivativeIn terms)
-  CheckSays (Nothing o k) = ⊥
-  CheckSays (Full o k) = ⊥
-  CheckSays (Spent o k) = ⊥
-
   abbrev fs : List (Poly Mono)
   fs = system (records terms)
 
@@ -110,7 +71,7 @@ module _ (n : ℕ) (terms set : List ℕ) where
   Meets = Quadratic plain (signalsIn n set) (derivativeIn terms)
 
   abbrev First : ℕ → Type 0
-  First p = FirstUnlinked plain mono-order (signalsIn n set) (derivativeIn terms) [] p
+  First p = FirstUnlinked plain (signalsIn n set) (derivativeIn terms) [] p
 
   quadratic-done : Meets → judged n fs s ≡ Done (length s) 0 0
   unfolding judged some
@@ -149,7 +110,7 @@ module _ (n : ℕ) (terms set : List ℕ) where
       go (failed e) = said-terms-length n terms set (count-in n r) e
       go (passed e) = said-set-length n terms set (count-in n r) e f
 
-  said : (r : Reply) → CheckSays r → verdict n terms set ≡ r
+  said : (r : Reply) → CheckSays n terms set r → verdict n terms set ≡ r
   said Setting h = said-setting n terms set (nT→is (countRight n) (λ t. h (count-out n t)))
   said Length h = ⊎-elim (unmeasured (h .0)) (misfit (h .0)) (h .1)
   said (Term p) h = said-fault (h .0) (h .1) (Wrong p) (wrong-exact n (records terms) beyond p .1 (h .2))
@@ -165,7 +126,7 @@ module _ (n : ℕ) (terms set : List ℕ) where
   -- ---- and one of them holds
   record Told : Type 0 where
     reply : Reply
-    holds : CheckSays reply
+    holds : CheckSays n terms set reply
 
   told-set : WellFormed n terms set → Told
   told-set w = go (test (some (missing n fs s)))
@@ -209,11 +170,11 @@ module _ (n : ℕ) (terms set : List ℕ) where
       go (failed e) = record { reply = Setting; holds = λ r. is→nT (countRight n) e (is→T (countRight n) (count-in n r)) }
 
   -- ---- what is said holds: one of the seven cases, since the other three hold of nothing
-  pub verdict-says : CheckSays (verdict n terms set)
-  verdict-says = subst CheckSays (sym (said (told .reply) (told .holds))) (told .holds)
+  pub verdict-says : CheckSays n terms set (verdict n terms set)
+  verdict-says = subst (CheckSays n terms set) (sym (said (told .reply) (told .holds))) (told .holds)
 
-  pub verdict-exact : (r : Reply) → (verdict n terms set ≡ r) ↔ CheckSays r
-  verdict-exact r = ((λ e. subst CheckSays e verdict-says), said r)
+  pub verdict-exact : (r : Reply) → (verdict n terms set ≡ r) ↔ CheckSays n terms set r
+  verdict-exact r = ((λ e. subst (CheckSays n terms set) e verdict-says), said r)
 
   -- ---- the seven, one by one
   pub says-setting : (verdict n terms set ≡ Setting) ↔ ((1 ≤ n) × (n ≤ width) → ⊥)
@@ -232,7 +193,7 @@ module _ (n : ℕ) (terms set : List ℕ) where
   says-set = verdict-exact BadSet
 
   pub says-not-quadratic : (o p : ℕ) → (verdict n terms set ≡ NotQuadratic o p)
-      ↔ (WellFormed n terms set × (o ≡ length (setOf set)) × FirstUnlinked plain mono-order (signalsIn n set) (derivativeIn terms) [] p)
+      ↔ (WellFormed n terms set × (o ≡ length (setOf set)) × FirstUnlinked plain (signalsIn n set) (derivativeIn terms) [] p)
   says-not-quadratic o p = verdict-exact (NotQuadratic o p)
 
   pub says-done : (o c k : ℕ) → (verdict n terms set ≡ Done o c k)
@@ -248,7 +209,7 @@ module _ (n : ℕ) (terms set : List ℕ) where
       (first-unlinked-raised width n fs s p (h .2), omega (arith, h .2 .below))
 
   -- ---- the contract of `check`: a reply keeps it exactly where what it says holds, and there is one such reply
-  pub check-exact : (r : Reply) → (numbers r ≡ checked n terms set) ↔ CheckSays r
+  pub check-exact : (r : Reply) → (numbers r ≡ checked n terms set) ↔ CheckSays n terms set r
   unfolding checked
   check-exact r = ((λ e. verdict-exact r .0 (is-verdict n terms set r e)), (λ h. ap numbers (sym (said r h))))
 

@@ -9,9 +9,10 @@ use lib.Dec.{T, eqb, leb, leb→le, eqb→eq}
 use lib.ListN.{length, getD, replicate}
 use Rattle.monomial.specs.Lists.{any, some, place, gather}
 use Rattle.monomial.specs.Monomial.{Mono, width}
+use Rattle.monomial.specs.Claims.{_∈_}
 use Rattle.monomial.proofs.Tests.{and-l, and-r, T→is, nT→is, is→T, is→nT, Tested, passed, failed, test}
 use Rattle.monomial.proofs.Counting.{place-lt, place-any}
-use Rattle.monomial.proofs.Members.{_∈_, some-none}
+use Rattle.monomial.proofs.Members.{some-none}
 use Rattle.monomial.proofs.order.Laws.{mono-order}
 use Rattle.wiring.specs.Panel.{setBytes, setExponent, wireBytes}
 use Rattle.wiring.specs.declared.reply.Reply.{Reply}

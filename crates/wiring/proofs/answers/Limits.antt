@@ -8,7 +8,7 @@ use lib.Dec.{T}
 use lib.IntN.{natAbs}
 use lib.ListN.{length, getD, take}
 use Rattle.monomial.specs.Monomial.{Mono, width}
-use Rattle.monomial.proofs.Members.{_∈_}
+use Rattle.monomial.specs.Claims.{_∈_}
 use Rattle.monomial.proofs.product.Laws.{atMost-at}
 use Rattle.wiring.specs.Panel.{setExponent, derivedExponent}
 use Rattle.wiring.specs.Poly.{plain, coeff, support}
@@ -16,14 +16,13 @@ use Rattle.wiring.specs.Derivative.{derivative}
 use Rattle.wiring.specs.Signals.{Fitting}
 use Rattle.wiring.specs.Terms.{records, system, CleanTerms}
 use Rattle.wiring.specs.Sets.{setOf, setRight}
+use Rattle.wiring.specs.Claims.{WellFormed, beyond, signalsIn, derivativeIn, summed}
 use Rattle.wiring.proofs.signals.Laws.{signals-fitting, fitting-weaken}
 use Rattle.wiring.proofs.terms.Laws.{clean-widens}
 use Rattle.wiring.proofs.terms.Exact.{clean-exact}
 use Rattle.wiring.proofs.sets.Laws.{right-fits}
 use Rattle.wiring.proofs.sets.Exact.{right-iff}
-use Rattle.wiring.proofs.derivative.Records.{summed}
 use Rattle.wiring.proofs.derivative.Bounds.{derivative-fits, clean-exchange, sum-fits, total-fits}
-use Rattle.wiring.proofs.answers.Exact.{WellFormed, beyond, signalsIn, derivativeIn}
 
 module _ (n : ℕ) (terms set : List ℕ) (w : WellFormed n terms set) where
   pub well-clean : CleanTerms terms

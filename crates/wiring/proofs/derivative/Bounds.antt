@@ -18,8 +18,9 @@ use Rattle.monomial.specs.Lists.{keep, below}
 use Rattle.monomial.specs.Monomial.{Mono, width}
 use Rattle.monomial.specs.Order.{same}
 use Rattle.monomial.specs.Product.{mul, AtMost}
+use Rattle.monomial.specs.Claims.{_∈_}
 use Rattle.monomial.proofs.Tests.{Tested, passed, failed, test, is→T}
-use Rattle.monomial.proofs.Members.{_∈_, here, there, take-in}
+use Rattle.monomial.proofs.Members.{here, there, take-in}
 use Rattle.monomial.proofs.Loops.{pointwise-length}
 use Rattle.monomial.proofs.order.Laws.{mono-order}
 use Rattle.monomial.proofs.product.Laws.{atMost-mul, atMost-set, atMost-at}
@@ -27,14 +28,15 @@ use Rattle.wiring.specs.Panel.{termBytes, mostCoefficient, setExponent, 
 use Rattle.wiring.specs.Poly.{Kind, Term, Poly, plain, coeff, times, monos, support}
 use Rattle.wiring.specs.Derivative.{derivative, part, partsFrom, power, image}
 use Rattle.wiring.specs.Terms.{Record, recordAt, records, equation, system, CleanTerms}
+use Rattle.wiring.specs.Kinds.{Lawful}
+use Rattle.wiring.specs.Claims.{summed, addedUp, Unlike, Sized}
 use Rattle.wiring.proofs.Ints.{abs-sum, abs-product}
 use Rattle.wiring.proofs.Poly.{coeff-append, coeff-absent, support-out, Scaled, times-out}
-use Rattle.wiring.proofs.kinds.Laws.{Lawful}
 use Rattle.wiring.proofs.kinds.Plain.{plain-lawful}
 use Rattle.wiring.proofs.coefficient.Laws.{fits-32}
-use Rattle.wiring.proofs.terms.Laws.{alike-in, Rightful, clean-at, records-length, records-at, Unlike, clean-in, clean-take, clean-unlike}
+use Rattle.wiring.proofs.terms.Laws.{alike-in, Rightful, clean-at, records-length, records-at, clean-in, clean-take, clean-unlike}
 use Rattle.wiring.proofs.derivative.Rules.{Parted, absent, present, parted}
-use Rattle.wiring.proofs.derivative.Records.{derived, equation-out, equation-own, equation-other, system-length, summed, addedUp, added-next, exchange, contribution, adds-flat, adds-hit, adds-miss}
+use Rattle.wiring.proofs.derivative.Records.{derived, equation-out, equation-own, equation-other, system-length, added-next, exchange, contribution, adds-flat, adds-hit, adds-miss}
 
 -- ---- exponents
 -- the image of a record with six exponents, at most d each
@@ -148,12 +150,6 @@ equation-apart (q ∷ rs) i u = go (test (eqb (q .equation) (suc i))) (equation-
         subst Apart (sym (equation-own q rs i e)) ((λ h. clash e (Memᴰ·of-map (λ (x : Term Mono). x .1) (equation rs i) h)), ih)
     go (failed p) ih = subst Apart (sym (equation-other q rs i (eqb-false (q .equation) (suc i) p))) ih
 
--- records of one width, coefficients at most c, no two alike
-pub record Sized (w c : ℕ) (rs : List Record) : Type 0 where
-  pub long : (r : Record) → r ∈ rs → length (r .monomial) ≡ w
-  pub limited : (r : Record) → r ∈ rs → natAbs (r .coefficient) ≤ c
-  pub unlike : Unlike rs
-
 equation-distinct : (w c : ℕ) (rs : List Record) → Sized w c rs → (i : ℕ) → Distinct plain w c (equation rs i)
 equation-distinct w c rs s i = record {
   sized = λ t h. let o = equation-out rs i t h in subst (λ (x : Term Mono). length (x .1) ≡ w) (o .is) (s .long (o .by) (o .listed));
@@ -191,7 +187,7 @@ module _ (bytes : List ℕ) (clean : CleanTerms bytes) where
   pub sum-bounded : (b : ℕ) (z m : Mono) → length z ≡ width → AtMost b z → (t : ℕ) → natAbs (summed (take t (records bytes)) z m) ≤ width * (b * mostCoefficient)
   sum-bounded b z m lz a t = rw (clean-exchange z m t) (total-bounded width mostCoefficient b (take t (records bytes)) (clean-sized t) z m lz a)
 
-  -- with exponents up to 72 every sum on the way fits a signed 32-bit number
+  -- with exponents of signals every sum on the way fits a signed 32-bit number
   pub sum-fits : (z m : Mono) → length z ≡ width → AtMost setExponent z → (t : ℕ) → natAbs (summed (take t (records bytes)) z m) < 2147483648
   sum-fits z m lz a t = let h = sum-bounded setExponent z m lz a t in omega arith
 

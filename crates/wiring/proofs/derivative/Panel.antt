@@ -5,14 +5,15 @@ use Prim.Native.Nat.{ℕ}
 use lib.ListN.{length}
 use Rattle.monomial.specs.Lists.{below}
 use Rattle.monomial.specs.Monomial.{Mono, width}
-use Rattle.monomial.proofs.Members.{_∈_}
+use Rattle.monomial.specs.Claims.{_∈_}
 use Rattle.wiring.specs.Poly.{Term, Poly, plain, Same}
 use Rattle.wiring.specs.Derivative.{derivative}
 use Rattle.wiring.specs.Terms.{Record, records, equation, system}
+use Rattle.wiring.specs.Kinds.{Derivation, OfWidth}
 use Rattle.wiring.proofs.terms.Laws.{Numbered, records-out, record-long}
 use Rattle.wiring.proofs.derivative.Records.{Stated, equation-out}
 use Rattle.wiring.proofs.kinds.Plain.{plain-lawful}
-use Rattle.wiring.proofs.derivative.Rules.{Derivation, Sized, derivative-rules, rules-fix}
+use Rattle.wiring.proofs.derivative.Rules.{derivative-rules, rules-fix}
 
 module _ (bytes : List ℕ) where
   abbrev fs : List (Poly Mono)
@@ -24,7 +25,7 @@ module _ (bytes : List ℕ) where
       let own : Numbered bytes (from .by) = records-out bytes (from .by) (from .listed) in
       sym (ap (λ (x : Term Mono). length (x .1)) (from .is)) ∙ sym (ap (λ (r : Record). length (r .monomial)) (own .is)) ∙ record-long bytes (own .number) (own .counted)
 
-  pub panel-sized : Sized plain width (system (records bytes))
+  pub panel-sized : OfWidth plain width (system (records bytes))
   unfolding system
   panel-sized f m hf hm =
       let e : (i : ℕ) × (i ∈ below width) × (equation (records bytes) i ≡ f) = Memᴰ·of-map (equation (records bytes)) (below width) hf in

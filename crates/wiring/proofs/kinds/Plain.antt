@@ -11,9 +11,9 @@ use Rattle.monomial.specs.Monomial.{Mono, one, vars}
 use Rattle.monomial.proofs.Members.{map-at}
 use Rattle.monomial.proofs.order.Laws.{ℕ-order}
 use Rattle.wiring.specs.Poly.{plain}
+use Rattle.wiring.specs.Kinds.{Lawful, Exponent, Near, is-none, stepped, Summing}
 use Rattle.wiring.proofs.sets.Laws.{vars-length}
-use Rattle.wiring.proofs.kinds.Laws.{Lawful}
-use Rattle.wiring.proofs.kinds.Powers.{Exponent, Near, is-none, stepped, Summing, lawful}
+use Rattle.wiring.proofs.kinds.Powers.{lawful}
 
 -- ---- 1 and the variables
 -- a variable is 1 with one exponent raised

@@ -15,10 +15,11 @@ use lib.Seq.{take-suc, take-all}
 use Rattle.monomial.specs.Lists.{any, some, keep, gather}
 use Rattle.monomial.specs.Monomial.{Mono}
 use Rattle.monomial.specs.Order.{same, before}
+use Rattle.monomial.specs.Claims.{_∈_, _⊆_, Order}
 use Rattle.monomial.proofs.Tests.{and-l, and-r, and-i, T→is, nT→is, is→T, is→nT, Tested, passed, failed, test}
-use Rattle.monomial.proofs.Members.{_∈_, there, any-in, any-out, Passing, some-in, some-out, keep-in, keep-out, gather-in, gather-out, Gathered}
-use Rattle.monomial.proofs.order.Laws.{Order, mono-order}
-use Rattle.monomial.proofs.order.Ascending.{_⊆_, keep-asc}
+use Rattle.monomial.proofs.Members.{there, any-in, any-out, Passing, some-in, some-out, keep-in, keep-out, gather-in, gather-out, Gathered}
+use Rattle.monomial.proofs.order.Laws.{mono-order}
+use Rattle.monomial.proofs.order.Ascending.{keep-asc}
 use Rattle.wiring.specs.Panel.{termBytes}
 use Rattle.wiring.specs.Coefficient.{isZero}
 use Rattle.wiring.specs.Poly.{Poly, plain, coeff, support}

@@ -11,40 +11,24 @@ use lib.ListN.{length, getD, take, drop, replicate, length-append, length-drop, 
 use lib.Seq.{length-take-le, take-suc, take-add, getD-append-add, getD-take, getD-drop, ext-getD}
 use Rattle.monomial.specs.Lists.{any, all, gather, place}
 use Rattle.monomial.specs.Monomial.{Mono, one, constants, width}
-use Rattle.monomial.specs.Order.{same, before}
+use Rattle.monomial.specs.Order.{same}
+use Rattle.monomial.specs.Claims.{_∈_}
 use Rattle.monomial.proofs.Tests.{Tested, passed, failed, test, T→is, nT→is, and-l, and-r, and-i}
-use Rattle.monomial.proofs.Members.{_∈_, here, all-in, all-out, take-in, gather-append, fill-at}
+use Rattle.monomial.proofs.Members.{here, all-in, all-out, take-in, gather-append, fill-at}
 use Rattle.monomial.proofs.Counting.{at-in}
 use Rattle.monomial.proofs.Strips.{strip-length, strip-at}
 use Rattle.monomial.proofs.order.Laws.{mono-order}
-use Rattle.monomial.proofs.order.Ascending.{Ascending, among-in, among-out}
+use Rattle.monomial.proofs.order.Ascending.{among-in, among-out}
 use Rattle.wiring.specs.Panel.{cards, setBytes, setExponent}
 use Rattle.wiring.specs.Signals.{flat}
 use Rattle.wiring.specs.Terms.{exponentsRight}
 use Rattle.wiring.specs.Sets.{places, sizeOf, setOf, ascending, monomialRight, setRight, setRecord}
+use Rattle.wiring.specs.Claims.{Permitted, RightRecord, Recordable}
 use Rattle.wiring.proofs.signals.Laws.{Wide}
 use Rattle.wiring.proofs.terms.Laws.{Fit, exponents-in, exponents-everywhere}
 use Rattle.wiring.proofs.sets.Laws.{placeAt, places-length, places-at, places-width, used-length, used-at, ascending-in, ascending-out}
 
 -- ---- the facts
--- what a set may hold: its monomials ascend strictly, none is 1 or a single variable, no exponent is above 54, and those beyond xn are 0
-pub record Permitted (n : ℕ) (s : List Mono) : Type 0 where
-  pub ascends : Ascending before s
-  pub new : (m : Mono) → m ∈ s → m ∈ constants width → ⊥
-  pub small : (m : Mono) → m ∈ s → (i : ℕ) → getD m i 0 ≤ setExponent
-  pub within : (m : Mono) → m ∈ s → (i : ℕ) → n ≤ i → getD m i 0 ≡ 0
-
--- such a set, and zero bytes behind it
-pub record RightRecord (n : ℕ) (bytes : List ℕ) : Type 0 where
-  pub zeros : (k : ℕ) → width * sizeOf bytes ≤ k → getD bytes k 0 ≡ 0
-  pub permitted : Permitted n (setOf bytes)
-
--- such a set of at most six monomials in six variables
-pub record Recordable (n : ℕ) (s : List Mono) : Type 0 where
-  pub few : length s ≤ cards
-  pub wide : (m : Mono) → m ∈ s → length m ≡ width
-  pub permitted : Permitted n s
-
 -- ---- zeros
 zero-all : (l : List ℕ) → T (all (eqb 0) l) → (k : ℕ) → getD l k 0 ≡ 0
 unfolding all

@@ -12,11 +12,12 @@ use lib.Seq.{length-take-le, getD-take, drop-cons}
 use Rattle.monomial.specs.Lists.{all, below}
 use Rattle.monomial.specs.Monomial.{Mono, vars, width}
 use Rattle.monomial.specs.Order.{before}
+use Rattle.monomial.specs.Claims.{_∈_, Ascending, empty, first}
 use Rattle.monomial.proofs.Tests.{is→T, is→nT, nT→is, and-l, and-r, and-i, same-test}
-use Rattle.monomial.proofs.Members.{_∈_, here, all-in, all-out, take-in}
+use Rattle.monomial.proofs.Members.{here, all-in, all-out, take-in}
 use Rattle.monomial.proofs.Counting.{below-out, below-at}
 use Rattle.monomial.proofs.order.Laws.{mono-order}
-use Rattle.monomial.proofs.order.Ascending.{Ascending, empty, first, head-first, tail-asc}
+use Rattle.monomial.proofs.order.Ascending.{head-first, tail-asc}
 use Rattle.wiring.specs.Panel.{cards, setBytes, setExponent}
 use Rattle.wiring.specs.Signals.{Fitting}
 use Rattle.wiring.specs.Terms.{exponentsRight}

@@ -13,8 +13,9 @@ use Rattle.monomial.specs.Lists.{any, gather, below}
 use Rattle.monomial.specs.Monomial.{Mono, one, vars, constants, width}
 use Rattle.monomial.specs.Product.{mul, AtMost, FitsBytes}
 use Rattle.monomial.specs.declared.Monomial.{Monomial}
+use Rattle.monomial.specs.Claims.{_∈_}
 use Rattle.monomial.proofs.Loops.{Seeking, seeking-start, seeking-found, seeking-on, seeking-ends, pointwise-length}
-use Rattle.monomial.proofs.Members.{_∈_, here, there, take-in, gather-append, map-at}
+use Rattle.monomial.proofs.Members.{here, there, take-in, gather-append, map-at}
 use Rattle.monomial.proofs.Counting.{at-in, below-length, below-at}
 use Rattle.monomial.proofs.Strips.{strip-length, strip-at}
 use Rattle.monomial.proofs.product.Laws.{atMost-weaken, atMost-mul}

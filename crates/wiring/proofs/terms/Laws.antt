@@ -16,8 +16,9 @@ use Rattle.monomial.specs.Lists.{any, all, below}
 use Rattle.monomial.specs.Monomial.{Mono, width}
 use Rattle.monomial.specs.Order.{same}
 use Rattle.monomial.specs.Product.{AtMost}
+use Rattle.monomial.specs.Claims.{_∈_}
 use Rattle.monomial.proofs.Tests.{Tested, passed, failed, test, T→is, is→T, nT→is, is→nT, and-l, and-r, and-i}
-use Rattle.monomial.proofs.Members.{_∈_, here, any-in, all-out}
+use Rattle.monomial.proofs.Members.{here, any-in, all-out}
 use Rattle.monomial.proofs.Loops.{Seeking, seeking-start, seeking-found, seeking-on, seeking-ends}
 use Rattle.monomial.proofs.order.Laws.{mono-order}
 use Rattle.monomial.proofs.Counting.{below-in, below-out, below-length, below-at, at-in}
@@ -28,6 +29,7 @@ use mir.ValLaws.{toZ-ofZ}
 use Rattle.wiring.specs.Coefficient.{isZero}
 use Rattle.wiring.specs.Terms.{Record, recordAt, records, exponentsRight, coefficientRight, termRight, alike, faultFrom, fault, CleanTerms}
 use Rattle.wiring.specs.declared.terms.Fault.the-variants.{Clean, Wrong, Repeated}
+use Rattle.wiring.specs.Claims.{Unlike}
 
 -- ---- the records of the bytes
 pub records-length : (bytes : List ℕ) → length (records bytes) ≡ length bytes / termBytes
@@ -107,11 +109,6 @@ clean-new n seen (p ∷ rs) e q r s h t =
     ⊎-elim (λ i. l .new (any-in (alike p) s (subst (λ x. T (alike x q)) i t)))
     (λ k. clean-new n (seen ++ (p ∷ [])) rs (l .rest) q r (Memᴰ·append-left (p ∷ []) s) k t)
     (List·Memᴰ·cases-cons h)
-
--- no record is like one before it
-abbrev pub Unlike : List Record → Type 0
-Unlike [] = Unit {0}
-Unlike (q ∷ rs) = ((r : Record) → r ∈ rs → T (alike r q) → ⊥) × Unlike rs
 
 pub clean-unlike : (n : ℕ) (seen rs : List Record) → faultFrom n seen rs ≡ Clean → Unlike rs
 clean-unlike n seen [] e = tt

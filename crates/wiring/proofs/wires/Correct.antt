@@ -13,20 +13,15 @@ use Rattle.monomial.proofs.Members.{gather-same, fill-at}
 use Rattle.monomial.proofs.Counting.{below-out}
 use Rattle.monomial.proofs.product.Laws.{atMost-at}
 use Rattle.wiring.specs.Panel.{wireBytes}
-use Rattle.wiring.specs.Coefficient.{word, signed}
 use Rattle.wiring.specs.Poly.{Kind, Poly}
 use Rattle.wiring.specs.Wires.{Wire, signal, row, wiring, wireRecord, wireList, Met}
+use Rattle.wiring.specs.Kinds.{Lawful}
+use Rattle.wiring.specs.Claims.{rowOf, Correct, Decodes}
 use Rattle.wiring.proofs.coefficient.Laws.{decode-bytes}
-use Rattle.wiring.proofs.kinds.Laws.{Lawful}
-use Rattle.wiring.proofs.wires.Laws.{Row, rowOf, wiring-rows, wiring-row, wiring-is, row-one}
+use Rattle.wiring.proofs.wires.Laws.{wiring-rows, wiring-row, wiring-is, row-one}
 use Rattle.wiring.proofs.wires.Sheets.{record-length, list-length}
 
 -- ---- the list
--- the records of each left variable are its derivative, and the list is these rows by ascending left variable
-pub record Correct {M : Type 0} (k : Kind M) (v : List M) (d : M → Poly M) (list : List Wire) : Type 0 where
-  pub rows : (i : ℕ) → i < length v → Row k v i (d (signal k v i)) (rowOf i list)
-  pub ordered : list ≡ gather (λ i. rowOf i list) (below (length v))
-
 module _ {M : Type 0} (k : Kind M) (v : List M) (d : M → Poly M) where
   abbrev own : ℕ → List Wire
   own i = row k v i (d (signal k v i))
@@ -42,15 +37,6 @@ module _ {M : Type 0} (k : Kind M) (v : List M) (d : M → Poly M) where
   correct-one law l c = c .ordered ∙ rows-alike l (λ i h. row-one k law v i (d (signal k v i)) (rowOf i l) (c .rows i h))
 
 -- ---- the bytes of a record
-pub record Decodes (x : Wire) (bytes : List ℕ) : Type 0 where
-  pub long : length bytes ≡ wireBytes
-  pub each : (k : ℕ) → getD bytes k 0 < 256
-  pub left-is : getD bytes 0 0 ≡ x .left
-  pub a-is : getD bytes 1 0 ≡ x .a
-  pub b-is : getD bytes 2 0 ≡ x .b
-  pub blank : getD bytes 3 0 ≡ 0
-  pub coefficient-is : signed (word bytes 4) ≡ x .coefficient
-
 pub wire-decodes : (x : Wire) → x .left < 256 → x .a < 256 → x .b < 256 → natAbs (x .coefficient) < 2147483648 → Decodes x (wireRecord x)
 unfolding wireRecord
 wire-decodes x l a b c = record {

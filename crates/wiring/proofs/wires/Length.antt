@@ -13,10 +13,11 @@ use Rattle.monomial.specs.Lists.{keep, arrangeBy, below}
 use Rattle.monomial.specs.Monomial.{Mono, one, vars, constants, width}
 use Rattle.monomial.specs.Order.{same, before}
 use Rattle.monomial.specs.Product.{mul}
+use Rattle.monomial.specs.Claims.{_∈_, Ascending}
 use Rattle.monomial.proofs.Tests.{cond-cases, Tested, passed, failed, test}
-use Rattle.monomial.proofs.Members.{_∈_, keep-none, keep-no, keep-append, keep-map, keep-length, fill-at}
+use Rattle.monomial.proofs.Members.{keep-none, keep-no, keep-append, keep-map, keep-length, fill-at}
 use Rattle.monomial.proofs.Counting.{below-asc}
-use Rattle.monomial.proofs.order.Ascending.{Ascending, head-first, tail-asc, arrange-length}
+use Rattle.monomial.proofs.order.Ascending.{head-first, tail-asc, arrange-length}
 use Rattle.wiring.specs.Panel.{cards, mostTerms, mostWires}
 use Rattle.wiring.specs.Coefficient.{isZero}
 use Rattle.wiring.specs.Poly.{Kind, Term, Poly, plain, coeff, monos, support, times}

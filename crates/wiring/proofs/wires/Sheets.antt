@@ -12,10 +12,11 @@ use lib.Seq.{paste, take-suc, take-all, drop-cons, take-at, drop-at, length-past
 use Rattle.monomial.specs.Lists.{keep, gather}
 use Rattle.monomial.specs.Monomial.{Mono}
 use Rattle.monomial.specs.Order.{before}
+use Rattle.monomial.specs.Claims.{_∈_, Ascending}
 use Rattle.monomial.proofs.Tests.{is→T, is→nT}
-use Rattle.monomial.proofs.Members.{_∈_, keep-no, keep-all, gather-append}
+use Rattle.monomial.proofs.Members.{keep-no, keep-all, gather-append}
 use Rattle.monomial.proofs.order.Laws.{mono-order, not-both}
-use Rattle.monomial.proofs.order.Ascending.{Ascending, head-first, tail-asc}
+use Rattle.monomial.proofs.order.Ascending.{head-first, tail-asc}
 use Rattle.monomial.proofs.Counting.{at-in}
 use Rattle.wiring.specs.Panel.{wireBytes}
 use Rattle.wiring.specs.Poly.{Poly, plain, coeff, support}

@@ -15,9 +15,8 @@ use lib.ListN.{length}
 use Rattle.monomial.specs.Monomial.{Mono, one}
 use Rattle.monomial.specs.Quotient.{quo}
 use Rattle.monomial.specs.Divisors.{leads, divisors}
+use Rattle.monomial.specs.Claims.{from}
 use Rattle.monomial.proofs.Tests.{is→T, is→nT}
-use Rattle.monomial.proofs.order.Laws.{mono-order}
-use Rattle.monomial.proofs.order.Ascending.{from}
 use Rattle.wiring.specs.Sets.{monomialsOf}
 use Rattle.wiring.specs.Terms.{records, system}
 use Rattle.walk.specs.Walk.{Finds, bare, child, opens, opened, run}
@@ -137,7 +136,7 @@ abbrev Inv-loop : runner-lts.InvT-loop
 Inv-loop terms out₀ f set m v cur₀ a₀ out cur a = Running bare (f .n) terms (f .level) (f .limit) set (m .e) cur₀ out₀ (a .e) cur out
 
 abbrev μ-loop : runner-lts.MeasureT-loop
-μ-loop terms out₀ f set m v cur₀ a₀ out cur a = length (from mono-order (a .e) (divisors (m .e)))
+μ-loop terms out₀ f set m v cur₀ a₀ out cur a = length (from before (a .e) (divisors (m .e)))
 
 -- ---- the place where a child was offered
 abbrev Offered : ℕ → Type 0
