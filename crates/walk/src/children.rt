@@ -23,7 +23,7 @@ pub struct Tried {
 }
 
 // The set with m in its place, where the set is ascending and lacks m.
-pub fn with(set: Set, m: Monomial) -> Set
+fn with(set: Set, m: Monomial) -> Set
     requires { ⌜ set .len < cards ⌝ }
     ensures { λ r. ⌜ (Ascending before (monomialsOf set) → any (same (m .e)) (monomialsOf set) ≡ false →
         monomialsOf r ≡ insertBy same before (m .e) (monomialsOf set)) × (r .len ≡ set .len + 1) ⌝ }
@@ -86,7 +86,7 @@ fn is_met(v: Signals, a: Monomial, b: Monomial) -> bool
 }
 
 // The set plus those of a, b not in V, where it has at most level monomials. What is to be added is known before anything is copied.
-pub fn offer(level: usize, v: Signals, set: Set, a: Monomial, b: Monomial) -> Tried
+pub(crate) fn offer(level: usize, v: Signals, set: Set, a: Monomial, b: Monomial) -> Tried
     requires { ⌜ (level ≤ cards) × ((set .len ≤ level) × ((v .len ≤ mostSignals) × Ascending before (monomialsOf set))) ⌝ }
     ensures { λ r. ⌜ ((n : ℕ) → signalsOf v ≡ signals width n (monomialsOf set) → Child level (child n (monomialsOf set) (a .e, b .e)) r) ⌝ }
 {

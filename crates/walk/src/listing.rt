@@ -142,7 +142,7 @@ fn put(out: &mut [u8], at: usize, r: Record)
 }
 
 // Keeps a found set: listed already, or in its place, or no room.
-pub fn keep(out: &mut [u8], count: usize, set: Set) -> Kept
+pub(crate) fn keep(out: &mut [u8], count: usize, set: Set) -> Kept
     requires { ⌜ Recorded (monomialsOf set) × (setBytes * count ≤ length (now out)) ⌝ }
     ensures { λ r. ⌜ ((finds : Finds) (taken : ℕ) → Shown finds count (now (out .entry)) →
         KeptAs r taken (now (out .exit)) (kept (length (now (out .entry)) / setBytes) (monomialsOf set) taken finds)) ⌝ }

@@ -101,7 +101,7 @@ fn judge(terms: &[u8], out: &mut [u8], f: Frame, set: Set, st: State) -> Opened
 }
 
 // Opens a set: one step, and then its pairs.
-pub fn open(terms: &[u8], out: &mut [u8], f: Frame, set: Set, st: State) -> Turn
+pub(crate) fn open(terms: &[u8], out: &mut [u8], f: Frame, set: Set, st: State) -> Turn
     requires { ⌜ Ready (f .n) (now terms) (f .level) set (st .count) (now out) ⌝ }
     ensures { λ r. ⌜ ((d : ℕ) (finds : Finds) → f .level - set .len < d → Shown finds (st .count) (now (out .entry)) →
         Tells r (now (out .exit))

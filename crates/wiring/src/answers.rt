@@ -1,8 +1,7 @@
 // Checking and wiring: the operations on n, term records and a set record. Neither assumes anything of its input.
+use super::buffer;
 use super::panel::SET_BYTES;
 use super::panel::TABLE_BYTES;
-use super::panel::TERM_BYTES;
-use super::panel::TERMS_BYTES;
 use super::quadratic;
 use super::reply;
 use super::reply::Reply;
@@ -19,7 +18,7 @@ ghost use lib.ListN.{length};
 ghost use Rattle.monomial.specs.Monomial.{width};
 ghost use Rattle.wiring.specs.Panel.{cards, setBytes, setExponent};
 ghost use Rattle.wiring.specs.Reply.{numbers, outcome};
-ghost use Rattle.wiring.specs.Terms.{lengthRight, records, system, CleanTerms};
+ghost use Rattle.wiring.specs.Terms.{records, system, CleanTerms};
 ghost use Rattle.wiring.specs.Signals.{Fitting};
 ghost use Rattle.wiring.specs.Sets.{monomialsOf};
 ghost use Rattle.wiring.specs.Answers.{countRight, judged, recordJudged, checked, listed, wires, wired, Wirable};
@@ -32,16 +31,6 @@ pub fn count_right(n: u64) -> bool
         return false;
     }
     n <= WIDTH as u64
-}
-
-// Whether term records have a length that records can have.
-pub fn length_right(terms: &[u8]) -> bool
-    ensures { λ r. ⌜ r ≡ lengthRight (now (terms .entry)) ⌝ }
-{
-    if terms.len() % TERM_BYTES != 0 {
-        return false;
-    }
-    terms.len() <= TERMS_BYTES
 }
 
 // What is said of a set that keeps its rule.
@@ -86,7 +75,7 @@ pub fn check(n: u64, terms: &[u8], set: &[u8]) -> Reply
     if !count_right(n) {
         return Reply::Setting;
     }
-    if !length_right(terms) {
+    if !terms::length_right(terms) {
         return Reply::Length;
     }
     if set.len() != SET_BYTES {
@@ -114,7 +103,7 @@ fn list_wires(n: usize, terms: &[u8], set: Set, out: &mut [u8]) -> Reply
             steps: 0,
         };
     }
-    wires::clear(out);
+    buffer::clear(out);
     Reply::Full { order, steps: 0 }
 }
 
@@ -122,7 +111,7 @@ fn list_wires(n: usize, terms: &[u8], set: Set, out: &mut [u8]) -> Reply
 pub fn wire(n: u64, terms: &[u8], set: &[u8], out: &mut [u8]) -> Reply
     ensures { λ r. ⌜ outcome r (now (out .exit)) ≡ wired n (now (terms .entry)) (now (set .entry)) (length (now (out .entry))) ⌝ }
 {
-    wires::clear(out);
+    buffer::clear(out);
     let said = check(n, terms, set);
     let five = reply::numbers(said);
     if five[0] != 0 {

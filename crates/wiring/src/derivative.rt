@@ -15,7 +15,7 @@ ghost use Rattle.wiring.specs.Derivative.{derivative, power, image};
 ghost use Rattle.wiring.specs.Terms.{recordAt, records, system, CleanTerms};
 
 // The exponent in z of the variable of record t.
-pub fn power(terms: &[u8], t: usize, z: Monomial) -> u8
+pub(crate) fn power(terms: &[u8], t: usize, z: Monomial) -> u8
     requires { ⌜ CleanTerms (now terms) × (termBytes * t + termBytes ≤ length (now terms)) ⌝ }
     ensures { λ r. ⌜ r ≡ power (recordAt (now (terms .entry)) t) (z .e) ⌝ }
 {
@@ -25,7 +25,7 @@ pub fn power(terms: &[u8], t: usize, z: Monomial) -> u8
 }
 
 // The monomial of record t in the derivative of z: z divided by the record's variable, times the record's monomial.
-pub fn image(terms: &[u8], t: usize, z: Monomial) -> Monomial
+pub(crate) fn image(terms: &[u8], t: usize, z: Monomial) -> Monomial
     requires { ⌜ CleanTerms (now terms) × ((termBytes * t + termBytes ≤ length (now terms)) × ((0 < power (recordAt (now terms) t) (z .e)) × AtMost 200 (z .e))) ⌝ }
     ensures { λ r. ⌜ r .e ≡ image (recordAt (now (terms .entry)) t) (z .e) ⌝ }
 {
@@ -36,7 +36,7 @@ pub fn image(terms: &[u8], t: usize, z: Monomial) -> Monomial
 }
 
 // The total coefficient of m in the derivative of z.
-pub fn total(terms: &[u8], z: Monomial, m: Monomial) -> i32
+pub(crate) fn total(terms: &[u8], z: Monomial, m: Monomial) -> i32
     requires { ⌜ CleanTerms (now terms) × AtMost setExponent (z .e) ⌝ }
     ensures { λ r. ⌜ r ≡ coeff plain (derivative plain (system (records (now (terms .entry)))) (z .e)) (m .e) ⌝ }
 {

@@ -25,7 +25,7 @@ ghost use Rattle.wiring.specs.Terms.{recordAt, records, system, CleanTer
 ghost use Rattle.wiring.specs.Choice.{cheaper, Picked, Best, Offered};
 
 // The monomial of record t in the derivative of z, where it has a coefficient and is not in V2. The total, which is dear, is asked last.
-fn missing(terms: &[u8], t: usize, z: Monomial, sq: &[u8]) -> Pick
+fn nonsquare_of(terms: &[u8], t: usize, z: Monomial, sq: &[u8]) -> Pick
     requires { ⌜ CleanTerms (now terms) × ((termBytes * t + termBytes ≤ length (now terms)) × AtMost setExponent (z .e)) ⌝ }
     ensures { λ r. ⌜ Offered (offers (λ m. not (any (same m) (tabled (now (sq .entry))))) (system (records (now (terms .entry)))) (z .e) (recordAt (now (terms .entry)) t)) (image (recordAt (now (terms .entry)) t) (z .e)) r ⌝ }
 {
@@ -43,14 +43,14 @@ fn missing(terms: &[u8], t: usize, z: Monomial, sq: &[u8]) -> Pick
 }
 
 // Whether the derivative of z has a monomial that is not in V2.
-pub fn has_nonsquare(terms: &[u8], z: Monomial, sq: &[u8]) -> bool
+fn has_nonsquare(terms: &[u8], z: Monomial, sq: &[u8]) -> bool
     requires { ⌜ CleanTerms (now terms) × AtMost setExponent (z .e) ⌝ }
     ensures { λ r. ⌜ ((v : List Mono) → tabled (now (sq .entry)) ≡ products plain v → r ≡ some (unmet plain v (derivative plain (system (records (now (terms .entry)))) (z .e)))) ⌝ }
 {
     let count = terms.len() / TERM_BYTES;
     let mut t: usize = 0;
     while t < count {
-        let p = missing(terms, t, z, sq);
+        let p = nonsquare_of(terms, t, z, sq);
         if p.some {
             return true;
         }
@@ -86,7 +86,7 @@ fn choose_in(p: Pick, terms: &[u8], z: Monomial, sq: &[u8]) -> Pick
     let mut best = p;
     let mut t: usize = 0;
     while t < count {
-        let p = missing(terms, t, z, sq);
+        let p = nonsquare_of(terms, t, z, sq);
         if p.some {
             best = choice::cheapest(best, p.m);
         }

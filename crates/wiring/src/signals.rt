@@ -84,7 +84,7 @@ pub fn products_of(v: Signals, table: &mut [u8]) -> usize
 }
 
 // Whether m is in the table. It is lent: a copy for each question would cost more than the search.
-pub fn is_product(table: &[u8], m: Monomial) -> bool
+pub(crate) fn is_product(table: &[u8], m: Monomial) -> bool
     ensures { λ r. ⌜ r ≡ any (same (m .e)) (tabled (now (table .entry))) ⌝ }
 {
     let count = table.len() / WIDTH;

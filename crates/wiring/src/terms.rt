@@ -6,6 +6,7 @@ use super::panel::MONOMIAL_AT;
 use super::panel::MOST_COEFFICIENT;
 use super::panel::TERM_BYTES;
 use super::panel::TERM_EXPONENT;
+use super::panel::TERMS_BYTES;
 use monomial::Monomial;
 use monomial::width::WIDTH;
 ghost use mathlib.Core.Path.{_≡_};
@@ -13,7 +14,7 @@ ghost use Prim.Native.Nat.{_+_, _*_, _/_, _≤_, _<_};
 ghost use lib.ListN.{length, take};
 ghost use Rattle.monomial.specs.Lists.{any};
 ghost use Rattle.wiring.specs.Panel.{termBytes};
-ghost use Rattle.wiring.specs.Terms.{recordAt, records, exponentsRight, coefficientRight, termRight, alike, fault};
+ghost use Rattle.wiring.specs.Terms.{lengthRight, recordAt, records, exponentsRight, coefficientRight, termRight, alike, fault};
 
 // The first record with a fault decides; places count from 1.
 pub enum Fault {
@@ -22,8 +23,18 @@ pub enum Fault {
     Repeated(u64),
 }
 
+// Whether term records have a length that records can have.
+pub fn length_right(terms: &[u8]) -> bool
+    ensures { λ r. ⌜ r ≡ lengthRight (now (terms .entry)) ⌝ }
+{
+    if terms.len() % TERM_BYTES != 0 {
+        return false;
+    }
+    terms.len() <= TERMS_BYTES
+}
+
 // The exponents are at most most, and zero beyond xn.
-pub fn exponents_right(most: u8, n: usize, m: Monomial) -> bool
+pub(crate) fn exponents_right(most: u8, n: usize, m: Monomial) -> bool
     ensures { λ r. ⌜ r ≡ exponentsRight most n (m .e) ⌝ }
 {
     let e = m.e;
@@ -80,7 +91,7 @@ fn term_right(n: usize, terms: &[u8], t: usize) -> bool
     coefficient_right(coefficient::decode(terms, at + COEFFICIENT_AT))
 }
 
-pub fn wide(x: u8) -> usize
+pub(crate) fn wide(x: u8) -> usize
     ensures { λ r. ⌜ (r ≡ x) × (r < 256) ⌝ }
 {
     x as usize

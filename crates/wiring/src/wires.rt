@@ -11,7 +11,7 @@ ghost use mathlib.Core.Path.{_≡_};
 ghost use mathlib.Core.List.{List, [], _++_};
 ghost use Prim.Native.Nat.{_+_, _*_, _≤_, _<_};
 ghost use lib.Dec.{T};
-ghost use lib.ListN.{length, getD, replicate};
+ghost use lib.ListN.{length, getD};
 ghost use lib.Seq.{paste};
 ghost use Rattle.monomial.specs.Lists.{keep};
 ghost use Rattle.monomial.specs.Product.{AtMost};
@@ -34,17 +34,6 @@ pub struct Pair {
 pub struct Written {
     pub ok: bool,
     pub at: usize,
-}
-
-// Zeroes a buffer.
-pub fn clear(out: &mut [u8])
-    ensures { λ _. ⌜ now (out .exit) ≡ replicate (length (now (out .entry))) 0 ⌝ }
-{
-    let mut i: usize = 0;
-    while i < out.len() {
-        out[i] = 0;
-        i += 1;
-    }
 }
 
 // The pair of smallest a, then smallest b, whose product is m.
@@ -162,7 +151,7 @@ fn write_row(terms: &[u8], v: Signals, left: usize, out: &mut [u8], from: usize)
 }
 
 // Writes the whole list: the records of each left variable, ascending.
-pub fn write_wires(terms: &[u8], v: Signals, out: &mut [u8]) -> Written
+pub(crate) fn write_wires(terms: &[u8], v: Signals, out: &mut [u8]) -> Written
     requires { ⌜ CleanTerms (now terms) × ((v .len ≤ mostSignals) × (Fitting setExponent (signalsOf v) × (Sheet [] 0 (now out) × Met plain (signalsOf v) (derivative plain (system (records (now terms))))))) ⌝ }
     ensures { λ r. ⌜ Wrote (wiring plain (signalsOf v) (derivative plain (system (records (now (terms .entry)))))) r (now (out .exit)) ⌝ }
 {

@@ -25,8 +25,8 @@ loop-holds c =
     let l = c .before .before .args .terms .now in
     (refl, seeking-start _ (records l))
 
-missing-requires : tie.Need-missing-requires Inv-loop μ-loop
-missing-requires c κs =
+nonsquare-of-requires : tie.Need-nonsquare-of-requires Inv-loop μ-loop
+nonsquare-of-requires c κs =
     let s = c .before .before .before .before in
     (s .pre .0, (omega arith, s .pre .1))
 
@@ -36,7 +36,7 @@ returns c =
     let l = a .terms .now in
     let k = c .before .before .before .loop in
     let f = offers (outside (tabled (a .sq .now))) (system (records l)) (a .z .e) in
-    let here = at-record f l (k .t) (omega arith) ∙ sym (c .before .missing .ensures .told) ∙ c .if1 .taken in
+    let here = at-record f l (k .t) (omega arith) ∙ sym (c .before .nonsquare-of .ensures .told) ∙ c .if1 .taken in
     λ v e. seeking-found f (recordAt l (k .t)) (k .inv .1) (omega (arith, records-length l)) here ∙ found-unmet (tabled (a .sq .now)) v (records l) (a .z .e) e
 
 add-t : tie.Need-add-t Inv-loop μ-loop
@@ -51,7 +51,7 @@ loop-again c =
     let l = a .terms .now in
     let k = c .before .before .before .loop in
     let f = offers (outside (tabled (a .sq .now))) (system (records l)) (a .z .e) in
-    let not-here = at-record f l (k .t) (omega arith) ∙ sym (c .before .missing .ensures .told) ∙ c .if1 .left in
+    let not-here = at-record f l (k .t) (omega arith) ∙ sym (c .before .nonsquare-of .ensures .told) ∙ c .if1 .left in
     (k .inv .0, seeking-on f (recordAt l (k .t)) (k .inv .1) (omega (arith, records-length l)) not-here)
 
 returns-2 : tie.Need-returns-2 Inv-loop μ-loop
@@ -69,7 +69,7 @@ has-nonsquare-spec =
     Inv-loop
     μ-loop
     loop-holds
-    missing-requires
+    nonsquare-of-requires
     returns
     add-t
     loop-less

@@ -1,4 +1,4 @@
--- `missing` meets its contract: the tests of the code are those of `offers`, in its order. Assumes nothing.
+-- `nonsquare_of` meets its contract: the tests of the code are those of `offers`, in its order. Assumes nothing.
 use mathlib.Core.Path.{refl, sym, ap, _∙_}
 use mathlib.Core.Bool.{not}
 use Rattle.monomial.specs.Lists.{any}
@@ -13,8 +13,8 @@ use Rattle.wiring.specs.Coefficient.{isZero}
 use Rattle.wiring.specs.Terms.{recordAt, records, system}
 use Rattle.wiring.proofs.quadratic.Records.{offered-low, offered-fails, offered-zero, offered-here}
 use borrow.Author.Needs.{needs}
-use Rattle.wiring.proofs.quadratic.missing.Statement.{statement}
-use Rattle.wiring.proofs.quadratic.missing.Tie as tie
+use Rattle.wiring.proofs.quadratic.nonsquare_of.Statement.{statement}
+use Rattle.wiring.proofs.quadratic.nonsquare_of.Tie as tie
 
 power-requires : tie.Need-power-requires
 power-requires c κs =
@@ -81,8 +81,8 @@ returns-4 c =
     (x .ensures) (c .before .before .before .before .before .before .if1 .left) (m .ensures) _
     (ap not (sym (c .before .before .before .before .is-product .ensures) ∙ c .before .before .before .if2 .left)) other refl refl
 
-pub missing-spec : {M : Type 1} → statement M
-missing-spec =
+pub nonsquare-of-spec : {M : Type 1} → statement M
+nonsquare-of-spec =
     tie.close
     (tie.spec
     power-requires

@@ -1,8 +1,8 @@
 -- `length_right` meets its contract: the tests are the definition's. Assumes nothing.
 use borrow.Author.Tests.{eq-eqb, ne-eqb}
 use Rattle.wiring.specs.Terms.{lengthRight}
-use Rattle.wiring.proofs.answers.length_right.Statement.{statement}
-use Rattle.wiring.proofs.answers.length_right.Tie as tie
+use Rattle.wiring.proofs.terms.length_right.Statement.{statement}
+use Rattle.wiring.proofs.terms.length_right.Tie as tie
 
 returns : tie.Need-returns
 unfolding lengthRight

@@ -5,8 +5,8 @@ use native.Mathlib.Omega.{arith}
 use lib.ListN.{length, replicate, length-replicate, getD-replicate}
 use Rattle.monomial.proofs.Loops.{Filling, filling-start, filling-next, filling-end}
 use borrow.Author.Needs.{needs}
-use Rattle.wiring.proofs.wires.clear.Statement.{statement}
-use Rattle.wiring.proofs.wires.clear.Tie as tie
+use Rattle.wiring.proofs.buffer.clear.Statement.{statement}
+use Rattle.wiring.proofs.buffer.clear.Tie as tie
 
 abbrev Inv-loop : tie.InvT-loop
 Inv-loop out₀ i₀ out i = Filling 0 (length out₀) (replicate (length out₀) 0) out i
