@@ -46,19 +46,21 @@ slice-aggregate-first-unmet c =
 
 first-unmet-requires : tie.Need-first-unmet-requires
 first-unmet-requires c κs =
-    let s = c .before .before .before .before .before .before in
-    let v = c .before .before .before .before .signals-of .ensures in
+    let at-signals-of = c .before .before .before .before in
+    let s = at-signals-of .before .before in
+    let v = at-signals-of .signals-of .ensures in
     let sq = c .before .before .products-of .ensures in
     (s .pre .0, (omega arith, (omega arith, (fits-as setExponent (s .args .n) _ _ (omega arith) (v .0) (s .pre .1 .1 .1), sq .0))))
 
 returns : tie.Need-returns
 returns c =
-    let s = c .before .before .before .before .before .before .before .before .before in
+    let at-signals-of = c .before .before .before .before .before .before .before in
+    let s = at-signals-of .before .before in
     let m = monomialsOf (s .args .set) in
     let fs = system (records (s .args .terms .now)) in
     let room : length (s .args .set .m) ≡ cards = search (needs, array-length) in
     let size : s .args .set .len ≡ length m = sym (front-length (s .args .set .len) (s .args .set .m) (omega arith)) in
-    let v = c .before .before .before .before .before .before .before .signals-of .ensures in
+    let v = at-signals-of .signals-of .ensures in
     let long = signals-length (s .args .n) m (omega arith) in
     let at = c .before .before .first-unmet .result in
     let first = first-as (s .args .n) fs m _ at (v .0) (c .before .before .first-unmet .ensures) in
@@ -66,12 +68,13 @@ returns c =
 
 returns-2 : tie.Need-returns-2
 returns-2 c =
-    let s = c .before .before .before .before .before .before .before .before .before in
+    let at-signals-of = c .before .before .before .before .before .before .before in
+    let s = at-signals-of .before .before in
     let m = monomialsOf (s .args .set) in
     let fs = system (records (s .args .terms .now)) in
     let room : length (s .args .set .m) ≡ cards = search (needs, array-length) in
     let size : s .args .set .len ≡ length m = sym (front-length (s .args .set .len) (s .args .set .m) (omega arith)) in
-    let v = c .before .before .before .before .before .before .before .signals-of .ensures in
+    let v = at-signals-of .signals-of .ensures in
     let long = signals-length (s .args .n) m (omega arith) in
     let at = c .before .before .first-unmet .result in
     let first = first-as (s .args .n) fs m _ at (v .0) (c .before .before .first-unmet .ensures) in

@@ -45,9 +45,10 @@ loop-less c = search needs
 
 loop-again : tie.Need-loop-again Inv-loop μ-loop
 loop-again c =
-    let s = c .before .before .before .before .before .before in
+    let at-loop = c .before .before .before in
+    let s = at-loop .before .before .before in
     let v = s .args .t2 in
-    let k = c .before .before .before .loop in
+    let k = at-loop .loop in
     let room : length (v .m) ≡ mostSignals = search (needs, array-length) in
     let long = front-length (v .len) (v .m) (omega arith) in
     let here = front-at (v .len) (v .m) (k .j) [] (omega arith) (omega arith) in

@@ -47,9 +47,10 @@ has-nonsquare-requires c κs =
 
 returns : tie.Need-returns Inv-loop μ-loop
 returns c =
-    let s = c .before .before .before .before .before .before .before in
+    let at-loop = c .before .before .before .before in
+    let s = at-loop .before .before .before in
     let v = s .args .t2 in
-    let k = c .before .before .before .before .loop in
+    let k = at-loop .loop in
     let room : length (v .m) ≡ mostSignals = search (needs, array-length) in
     let f = bad (s .args .terms .now) (signalsOf v) in
     let long = front-length (v .len) (v .m) (omega arith) in
@@ -64,9 +65,10 @@ loop-less c = search needs
 
 loop-again : tie.Need-loop-again Inv-loop μ-loop
 loop-again c =
-    let s = c .before .before .before .before .before .before .before in
+    let at-loop = c .before .before .before .before in
+    let s = at-loop .before .before .before in
     let v = s .args .t2 in
-    let k = c .before .before .before .before .loop in
+    let k = at-loop .loop in
     let room : length (v .m) ≡ mostSignals = search (needs, array-length) in
     let f = bad (s .args .terms .now) (signalsOf v) in
     let long = front-length (v .len) (v .m) (omega arith) in

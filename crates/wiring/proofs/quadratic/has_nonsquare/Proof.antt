@@ -32,9 +32,11 @@ nonsquare-of-requires c κs =
 
 returns : tie.Need-returns Inv-loop μ-loop
 returns c =
-    let a = c .before .before .before .before .before .before .args in
+    let at-loop = c .before .before .before in
+    let start = at-loop .before .before .before in
+    let a = start .args in
     let l = a .terms .now in
-    let k = c .before .before .before .loop in
+    let k = at-loop .loop in
     let f = offers (outside (tabled (a .sq .now))) (system (records l)) (a .z .e) in
     let here = at-record f l (k .t) (omega arith) ∙ sym (c .before .nonsquare-of .ensures .told) ∙ c .if1 .taken in
     λ v e. seeking-found f (recordAt l (k .t)) (k .inv .1) (omega (arith, records-length l)) here ∙ found-unmet (tabled (a .sq .now)) v (records l) (a .z .e) e
@@ -47,9 +49,11 @@ loop-less c = search needs
 
 loop-again : tie.Need-loop-again Inv-loop μ-loop
 loop-again c =
-    let a = c .before .before .before .before .before .before .args in
+    let at-loop = c .before .before .before in
+    let start = at-loop .before .before .before in
+    let a = start .args in
     let l = a .terms .now in
-    let k = c .before .before .before .loop in
+    let k = at-loop .loop in
     let f = offers (outside (tabled (a .sq .now))) (system (records l)) (a .z .e) in
     let not-here = at-record f l (k .t) (omega arith) ∙ sym (c .before .nonsquare-of .ensures .told) ∙ c .if1 .left in
     (k .inv .0, seeking-on f (recordAt l (k .t)) (k .inv .1) (omega (arith, records-length l)) not-here)

@@ -27,9 +27,11 @@ same-requires c κs = search needs
 
 returns : tie.Need-returns Inv-loop μ-loop
 returns c =
-    let f = same (c .before .before .before .before .before .args .m .e) in
+    let at-loop = c .before .before .before .before in
+    let start = at-loop .before in
+    let f = same (start .args .m .e) in
     let test = ap f (sym (c .before .before .constant .ensures)) ∙ sym (c .before .same .ensures) ∙ c .if1 .taken in
-    seeking-found f (one width) (c .before .before .before .before .loop .inv) (omega (arith, vars-length width)) test
+    seeking-found f (one width) (at-loop .loop .inv) (omega (arith, vars-length width)) test
 
 add-i : tie.Need-add-i Inv-loop μ-loop
 add-i c = search needs
@@ -39,9 +41,11 @@ loop-less c = search needs
 
 loop-again : tie.Need-loop-again Inv-loop μ-loop
 loop-again c =
-    let f = same (c .before .before .before .before .before .args .m .e) in
+    let at-loop = c .before .before .before .before in
+    let start = at-loop .before in
+    let f = same (start .args .m .e) in
     let test = ap f (sym (c .before .before .constant .ensures)) ∙ sym (c .before .same .ensures) ∙ c .if1 .left in
-    seeking-on f (one width) (c .before .before .before .before .loop .inv) (omega (arith, vars-length width)) test
+    seeking-on f (one width) (at-loop .loop .inv) (omega (arith, vars-length width)) test
 
 returns-2 : tie.Need-returns-2 Inv-loop μ-loop
 returns-2 c = seeking-ends _ (c .before .loop .inv) (omega (arith, vars-length width))

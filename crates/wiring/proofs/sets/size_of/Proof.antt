@@ -34,11 +34,13 @@ same-requires c κs = search needs
 returns : tie.Need-returns Inv-loop μ-loop
 unfolding sizeOf
 returns c =
-    let bytes = c .before .before .before .before .before .before .args .s .now in
-    let i = c .before .before .before .before .loop .i in
+    let at-loop = c .before .before .before .before in
+    let start = at-loop .before .before in
+    let bytes = start .args .s .now in
+    let i = at-loop .loop .i in
     let read = c .before .before .read .ensures in
     let here = ap (same (one width)) (places-at bytes i [] (omega arith) ∙ sym read) ∙ sym (c .before .same .ensures) ∙ c .if1 .taken in
-    (placing-found _ [] (c .before .before .before .before .loop .inv) (omega (arith, places-length bytes)) here, omega arith)
+    (placing-found _ [] (at-loop .loop .inv) (omega (arith, places-length bytes)) here, omega arith)
 
 add-i : tie.Need-add-i Inv-loop μ-loop
 add-i c = search needs
@@ -48,11 +50,13 @@ loop-less c = search needs
 
 loop-again : tie.Need-loop-again Inv-loop μ-loop
 loop-again c =
-    let bytes = c .before .before .before .before .before .before .args .s .now in
-    let i = c .before .before .before .before .loop .i in
+    let at-loop = c .before .before .before .before in
+    let start = at-loop .before .before in
+    let bytes = start .args .s .now in
+    let i = at-loop .loop .i in
     let read = c .before .before .read .ensures in
     let here = ap (same (one width)) (places-at bytes i [] (omega arith) ∙ sym read) ∙ sym (c .before .same .ensures) ∙ c .if1 .left in
-    placing-on _ [] (c .before .before .before .before .loop .inv) (omega (arith, places-length bytes)) here
+    placing-on _ [] (at-loop .loop .inv) (omega (arith, places-length bytes)) here
 
 returns-2 : tie.Need-returns-2 Inv-loop μ-loop
 unfolding sizeOf

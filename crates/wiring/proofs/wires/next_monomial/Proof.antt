@@ -40,9 +40,11 @@ loop-less c = search needs
 
 loop-again : tie.Need-loop-again Inv-loop μ-loop
 loop-again c =
-    let a = c .before .before .before .before .before .args in
+    let at-loop = c .before .before .before in
+    let start = at-loop .before .before in
+    let a = start .args in
     let l = a .terms .now in
-    let k = c .before .before .before .loop in
+    let k = at-loop .loop in
     let f = offers (beyond (a .last)) (system (records l)) (a .z .e) in
     let told = at-record f l (k .t) (omega arith) ∙ sym (c .before .following .ensures .told) in
     let few : k .t < length (records l) = omega (arith, records-length l) in (

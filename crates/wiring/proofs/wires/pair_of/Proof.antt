@@ -73,11 +73,12 @@ element-copy-out-y c = search needs
 
 times-requires : tie.Need-times-requires Inv-loop μ-loop Inv-found μ-found
 times-requires c κs =
-    let s = c .before .before .before .before .before .before in
+    let at-found = c .before .before .before .before .before in
+    let s = at-found .before in
     let v = s .args .t1 in
     let k = c .before .before .loop in
     let room : length (v .m) ≡ mostSignals = search (needs, array-length) in
-    let a = c .before .before .before .before .before .found .a in
+    let a = at-found .found .a in
     let ha : a < v .len = rw (k .inv .0) at (k .inv .1 .0) in
     let hb : k .b < v .len = omega arith in
     rw (k .inv .1 .1 .0, ← at v room (s .pre .0) (k .b) hb) (product-of-two (signalsOf v) a (k .b) [] (s .pre .1 .0) (within v room (s .pre .0) a ha) (within v room (s .pre .0) (k .b) hb))
@@ -93,10 +94,12 @@ loop-less c = search needs
 
 loop-again : tie.Need-loop-again Inv-loop μ-loop Inv-found μ-found
 loop-again c =
-    let s = c .before .before .before .before .before .before .before .before .before in
+    let at-loop = c .before .before .before .before .before in
+    let at-found = at-loop .before .before .before in
+    let s = at-found .before in
     let v = s .args .t1 in
-    let o = c .before .before .before .before .before .before .before .before .found in
-    let k = c .before .before .before .before .before .loop in
+    let o = at-found .found in
+    let k = at-loop .loop in
     let room : length (v .m) ≡ mostSignals = search (needs, array-length) in
     let hb : k .b < v .len = omega arith in
     let at-b = at v room (s .pre .0) (k .b) hb in
@@ -113,9 +116,10 @@ found-less c = search needs
 
 found-again : tie.Need-found-again Inv-loop μ-loop Inv-found μ-found
 found-again c =
-    let s = c .before .before .before .before .before in
+    let at-found = c .before .before .before .before in
+    let s = at-found .before in
     let v = s .args .t1 in
-    let o = c .before .before .before .before .found in
+    let o = at-found .found in
     let k = c .before .loop in
     let room : length (v .m) ≡ mostSignals = search (needs, array-length) in
     let ha : o .a < v .len = rw (k .inv .0) at (k .inv .1 .0) in
@@ -133,10 +137,12 @@ returns c =
 
 returns-2 : tie.Need-returns-2 Inv-loop μ-loop Inv-found μ-found
 returns-2 c =
-    let s = c .before .before .before .before .before .before .before .before .before in
+    let at-loop = c .before .before .before .before .before in
+    let at-found = at-loop .before .before .before in
+    let s = at-found .before in
     let v = s .args .t1 in
-    let o = c .before .before .before .before .before .before .before .before .found in
-    let k = c .before .before .before .before .before .loop in
+    let o = at-found .found in
+    let k = at-loop .loop in
     let room : length (v .m) ≡ mostSignals = search (needs, array-length) in
     let hb : k .b < v .len = omega arith in
     let at-b = at v room (s .pre .0) (k .b) hb in

@@ -74,11 +74,13 @@ pair-of-requires c κs =
     let s = c .before .before .before .before .before .before .before .before .before in
     let v = s .args .t2 in
     let room : length (v .m) ≡ mostSignals = search (needs, array-length) in
-    let k = c .before .before .before .before .loop in
+    let at-loop-test = c .before .before .before in
+    let at-loop = at-loop-test .before in
+    let k = at-loop .loop in
     let z = entry (v .m) (s .args .left) in
     let long = front-length (v .len) (v .m) (omega arith) in
     let member = Memᴰ·cast (k .inv .1 .0) (at-in (signalsOf v) (s .args .left) [] (omega arith)) in
-    let met = rowing-met (signalsOf v) (s .args .left) (derived (s .args .terms .now) z) (k .inv .1 .1) (c .before .before .before .loop-test .taken)
+    let met = rowing-met (signalsOf v) (s .args .left) (derived (s .args .terms .now) z) (k .inv .1 .1) (at-loop-test .loop-test .taken)
     (λ m. s .pre .1 .1 .1 .1 .1 z m member) in
     (s .pre .1 .0, (fitting-weaken setExponent 127 (signalsOf v) (omega arith) (s .pre .1 .1 .1 .0), met))
 
@@ -108,10 +110,12 @@ next-monomial-requires-2 c κs =
 
 loop-less : tie.Need-loop-less Inv-loop μ-loop
 loop-less c =
-    let s = c .before .before .before .before .before .before .before .before .before .before .before .before .before .before .before in
-    let k = c .before .before .before .before .before .before .before .before .before .before .loop in
+    let at-loop-test = c .before .before .before .before .before .before .before .before .before in
+    let at-loop = at-loop-test .before in
+    let s = at-loop .before .before .before .before .before in
+    let k = at-loop .loop in
     let left = rowing-left (signalsOf (s .args .t2)) (s .args .left) (derived (s .args .terms .now) (entry (s .args .t2 .m) (s .args .left)))
-    (k .inv .1 .1) (c .before .before .before .before .before .before .before .before .before .loop-test .taken) in
+    (k .inv .1 .1) (at-loop-test .loop-test .taken) in
     omega arith
 
 loop-again : tie.Need-loop-again Inv-loop μ-loop
