@@ -2,8 +2,8 @@
 //! changed for this: each answer is its own, and true by itself. A call walks from level 0 under the whole limit, and the
 //! first level with a find is its last; so the answer that ends the climb is what the planner says for the cap itself.
 
-use crate::answer::{Answer, NONE};
-use crate::settings::{Settings, CARDS};
+use crate::asking::answer::{Answer, NONE};
+use crate::typed::settings::{Settings, CARDS};
 
 /// `ask` asks the planner with its K; `shown` hears of every K for which there is none, and its steps.
 pub fn climb<E>(
@@ -28,7 +28,7 @@ pub fn climb<E>(
 #[cfg(test)]
 mod tests {
     use super::*;
-    use crate::answer::Reply;
+    use crate::asking::answer::Reply;
 
     fn answer(code: u64, order: u64, steps: u64) -> Answer {
         Answer { reply: Reply { code, order, count: 0, steps, place: 0 }, ..Answer::default() }

@@ -1,8 +1,8 @@
 //! Equations from text. Terms are kept as typed, unmerged, each with its place: what is wrong with a system is for the
 //! planner to say, and what is no system at all is said here.
 
-use crate::lexer::{tokens, Token, Word};
-use crate::text::{short, Fault, Source, Span};
+use crate::typed::lexer::{tokens, Token, Word};
+use crate::typed::text::{short, Fault, Source, Span};
 
 /// A name of the text. Numbers count from 1.
 #[derive(Debug, Clone, Copy, PartialEq)]
@@ -330,7 +330,7 @@ fn whole(digits: &str) -> u128 {
 #[cfg(test)]
 mod tests {
     use super::*;
-    use crate::text::point;
+    use crate::typed::text::point;
 
     fn sources(texts: &[&str]) -> Vec<Source> {
         texts.iter().map(|text| Source { file: None, text: text.to_string() }).collect()

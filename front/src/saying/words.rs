@@ -1,10 +1,10 @@
 //! The words for a reply. "Smallest" is said after code 0 alone: only then has the whole search ended. Short of that
 //! the words say how far the search got, and nothing of what it met on its way.
 
-use crate::answer::{Reply, DONE, FULL, LENGTH, NONE, SETTING, SPENT, TERM, TWICE};
-use crate::settings::{Settings, CARDS, SETS, STEPS};
-use crate::system::{System, TERMS};
-use crate::text::{counted, grouped, short, Source, Span};
+use crate::asking::answer::{Reply, DONE, FULL, LENGTH, NONE, SETTING, SPENT, TERM, TWICE};
+use crate::typed::settings::{Settings, CARDS, SETS, STEPS};
+use crate::typed::system::{System, TERMS};
+use crate::typed::text::{counted, grouped, short, Source, Span};
 
 /// What is said of a reply, in lines, and the places in the typed text that it is about, each with words of its own.
 #[derive(Debug, PartialEq)]
@@ -154,8 +154,8 @@ fn full(reply: &Reply, settings: &Settings) -> String {
 #[cfg(test)]
 mod tests {
     use super::*;
-    use crate::system::tests::system;
-    use crate::text::point;
+    use crate::typed::system::tests::system;
+    use crate::typed::text::point;
 
     const TEXT: &str = "x' = x^4 + x^3";
 

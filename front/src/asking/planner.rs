@@ -6,8 +6,8 @@ use std::sync::mpsc::{channel, RecvTimeoutError};
 use std::thread;
 use std::time::Duration;
 
-use crate::answer::{self, Answer};
-use crate::settings::Settings;
+use crate::asking::answer::{self, Answer};
+use crate::typed::settings::Settings;
 
 /// The variable that names the script which runs a proved program by its name. The command `plan` sets it.
 pub const RUNNER: &str = "SIRAGUMON_RUNNER";

@@ -1,8 +1,8 @@
 //! The typed equations as the box takes them: numbered variables and term records of 12 bytes.
 
 use crate::algebra::{self, Exponents};
-use crate::parser::{Typed, Variable};
-use crate::text::{grouped, Fault, Span};
+use crate::typed::parser::{Typed, Variable};
+use crate::typed::text::{grouped, Fault, Span};
 
 /// The box's limits (document 01, The system on the panel). The planner judges by them; here they only give a refusal its reason.
 pub const VARIABLES: usize = 6;
@@ -178,8 +178,8 @@ impl System {
 #[cfg(test)]
 pub mod tests {
     use super::*;
-    use crate::parser::parse;
-    use crate::text::Source;
+    use crate::typed::parser::parse;
+    use crate::typed::text::Source;
 
     pub fn system(text: &str) -> System {
         let sources = [Source { file: None, text: text.into() }];
@@ -322,7 +322,7 @@ pub mod tests {
                 Ok(system) => system,
                 Err(fault) => {
                     // Every fault can be pointed at.
-                    fault.span.map(|span| crate::text::point(&sources, span));
+                    fault.span.map(|span| crate::typed::text::point(&sources, span));
                     continue;
                 }
             };

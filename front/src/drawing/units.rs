@@ -3,9 +3,9 @@
 //! wires run from left to right.
 
 use crate::algebra;
-use crate::label::width;
+use crate::drawing::label::width;
+use crate::drawing::shapes::{words, Part, Rect, Shape, SIZE};
 use crate::patch::{Patch, Row};
-use crate::shapes::{words, Part, Rect, Shape, SIZE};
 
 /// The size of remarks.
 pub const SMALL: i32 = 12;

@@ -2,8 +2,8 @@
 
 use std::io::Read;
 
-use crate::settings::{Count, Settings};
-use crate::text::{short, Source};
+use crate::typed::settings::{Count, Settings};
+use crate::typed::text::{short, Source};
 
 pub const HELP: &str = "\
 Plans a patch: finds all smallest sets of new signals that make a polynomial system quadratic, and wires one.
