@@ -3,10 +3,11 @@
 use crate::algebra;
 use crate::asking::answer::Answer;
 use crate::patch::Patch;
+use crate::saying::numbers::{counted, grouped};
 use crate::saying::words::{said, Said};
 use crate::typed::settings::Settings;
 use crate::typed::system::System;
-use crate::typed::text::{counted, grouped, point, Fault, Source};
+use crate::typed::text::{point, Fault, Source};
 
 pub struct Report<'a> {
     pub sources: &'a [Source],

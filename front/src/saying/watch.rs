@@ -3,8 +3,8 @@
 use std::io::Write;
 use std::time::Duration;
 
+use crate::saying::numbers::{counted, grouped};
 use crate::saying::words::excluded;
-use crate::typed::text::{counted, grouped};
 
 /// A search that is over sooner than this says nothing but its answer.
 const PATIENCE: Duration = Duration::from_secs(1);

@@ -2,9 +2,11 @@
 //! the words say how far the search got, and nothing of what it met on its way.
 
 use crate::asking::answer::{Reply, DONE, FULL, LENGTH, NONE, SETTING, SPENT, TERM, TWICE};
+use crate::saying::numbers::{counted, grouped};
+use crate::saying::rule;
 use crate::typed::settings::{Settings, CARDS, SETS, STEPS};
 use crate::typed::system::{System, TERMS};
-use crate::typed::text::{counted, grouped, short, Source, Span};
+use crate::typed::text::{short, Source, Span};
 
 /// What is said of a reply, in lines, and the places in the typed text that it is about, each with words of its own.
 #[derive(Debug, PartialEq)]
@@ -58,8 +60,8 @@ pub fn said(reply: &Reply, settings: &Settings, system: &System, sources: &[Sour
             let text = short(&sources[term.span.source].text[term.span.from..term.span.to]);
             places.push(("", term.span));
             if reply.code == TERM {
-                let rule = term.broken_rule(&system.names).unwrap_or("a field of it breaks its rule".into());
-                format!("Refused: term {place}, {text}: {rule}.")
+                let broken = rule::broken(term, &system.names).unwrap_or("a field of it breaks its rule".into());
+                format!("Refused: term {place}, {text}: {broken}.")
             } else {
                 let earlier = system.terms[..place - 1]
                     .iter()

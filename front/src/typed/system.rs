@@ -2,13 +2,13 @@
 
 use crate::algebra::{self, Exponents};
 use crate::typed::parser::{Typed, Variable};
-use crate::typed::text::{grouped, Fault, Span};
+use crate::typed::text::{Fault, Span};
 
 /// The box's limits (document 01, The system on the panel). The planner judges by them; here they only give a refusal its reason.
 pub const VARIABLES: usize = 6;
 pub const TERMS: usize = 32;
-const POWER: u128 = 9;
-const COEFFICIENT: u128 = 1_000_000;
+pub const POWER: u128 = 9;
+pub const COEFFICIENT: u128 = 1_000_000;
 
 /// A term record.
 #[derive(Debug, Clone, PartialEq)]
@@ -49,31 +49,6 @@ impl Term {
         let size = i64::try_from(self.size).ok()?;
         let coefficient = i32::try_from(if self.negative { -size } else { size }).ok()?;
         Some(Record { equation: self.equation as u8, exponents, coefficient })
-    }
-
-    /// Which rule of a record the term breaks.
-    pub fn broken_rule(&self, names: &[String]) -> Option<String> {
-        let shown = |number: u128| {
-            if number == u128::MAX {
-                "too long to show".into()
-            } else {
-                grouped(number)
-            }
-        };
-        for (name, &power) in names.iter().zip(&self.powers) {
-            if POWER < power {
-                return Some(format!("the power of {name} is {}, and the box takes 0 to {POWER}", shown(power)));
-            }
-        }
-        if self.size == 0 {
-            return Some("its coefficient is 0; leave the term out".into());
-        }
-        if COEFFICIENT < self.size {
-            let sign = if self.negative { "-" } else { "" };
-            let (size, most) = (shown(self.size), grouped(COEFFICIENT));
-            return Some(format!("its coefficient is {sign}{size}, and the box takes -{most} to {most}"));
-        }
-        None
     }
 }
 
@@ -239,23 +214,6 @@ pub mod tests {
         let sources = [Source { file: None, text: "x4' = w3, w3' = 1".into() }];
         let fault = System::of(&parse(&sources).unwrap()).unwrap_err();
         assert_eq!(fault.words, "7 variables, and the box takes up to 6");
-    }
-
-    #[test]
-    fn the_broken_rule() {
-        let rule = |text: &str| {
-            let system = system(text);
-            system.terms[0].broken_rule(&system.names)
-        };
-        assert_eq!(rule("x' = x^9"), None);
-        assert_eq!(rule("x' = 1000000*x"), None);
-        assert_eq!(rule("x' = x*y^10").unwrap(), "the power of y is 10, and the box takes 0 to 9");
-        assert_eq!(rule("x' = x^300").unwrap(), "the power of x is 300, and the box takes 0 to 9");
-        assert_eq!(rule("x' = 0*x").unwrap(), "its coefficient is 0; leave the term out");
-        assert_eq!(
-            rule("x' = -1000001*x").unwrap(),
-            "its coefficient is -1,000,001, and the box takes -1,000,000 to 1,000,000"
-        );
     }
 
     #[test]
