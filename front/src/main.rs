@@ -3,6 +3,7 @@
 mod algebra;
 mod asking;
 mod drawing;
+mod panel;
 mod patch;
 #[cfg(test)]
 mod recorded;
@@ -18,7 +19,7 @@ use asking::climb;
 use asking::planner::{Planner, RUNNER};
 use drawing::{sheet, svg};
 use patch::Patch;
-use saying::help::HELP;
+use saying::help::help;
 use saying::report::{Drawn, Report};
 use saying::watch::Watch;
 use saying::{export, report, words};
@@ -45,7 +46,7 @@ fn run() -> u8 {
         Err(why) => return stop(REFUSED, &format!("plan: {why}\n")),
     };
     if options.help {
-        return print(LISTED, HELP);
+        return print(LISTED, &help());
     }
     if options.inputs.is_empty() {
         return stop(REFUSED, "plan: no equation was given, as in ./plan \"x' = x^4 + x^3\" (--help says more)\n");

@@ -84,9 +84,10 @@ fn leash(_: &mut Command) {}
 #[cfg(test)]
 mod tests {
     use super::*;
+    use crate::panel::TERM_BYTES;
 
     fn ask(runner: &str) -> Result<Answer, String> {
-        let planner = Planner { runner: runner.into(), n: 1, terms: vec![0; 12 * 9000] };
+        let planner = Planner { runner: runner.into(), n: 1, terms: vec![0; TERM_BYTES * 9000] };
         planner.ask(&Settings::default(), || ())
     }
 

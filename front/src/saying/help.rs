@@ -1,6 +1,13 @@
 //! The words of `--help`.
 
-pub const HELP: &str = "\
+use crate::panel::{CARDS, SETS, STEPS, TERMS, USUAL_SETS, USUAL_STEPS, VARIABLES};
+use crate::saying::numbers::grouped;
+
+pub fn help() -> String {
+    let (steps, usual_steps) = (grouped(STEPS), grouped(USUAL_STEPS));
+    let (sets, usual_sets) = (grouped(SETS), grouped(USUAL_SETS));
+    format!(
+        "\
 Plans a patch: finds all smallest sets of new signals that make a polynomial system quadratic, and wires one.
 
   ./plan \"x' = x^4 + x^3\"
@@ -10,12 +17,12 @@ Plans a patch: finds all smallest sets of new signals that make a polynomial sys
 An argument with = in it is one equation or several, separated by commas, semicolons or lines; any other is the name
 of a file that holds them (- is standard input). In a file, # hides the rest of its line.
 
-Variables are x, y, z or x1 to x6, coefficients whole numbers, powers ^ or ** with a whole number, products * or a
-space; sums are written multiplied out. A variable without an equation never changes. A system has up to 32 terms.
+Variables are x, y, z or x1 to x{VARIABLES}, coefficients whole numbers, powers ^ or ** with a whole number, products * or a
+space; sums are written multiplied out. A variable without an equation never changes. A system has up to {TERMS} terms.
 
-  --cards K      new signals of a set, at most: 0 to 6 (6)
-  --steps N      steps of the search, at most: 1 to 1,000,000,000 (1,000,000)
-  --sets N       sets that there is room for: 0 to 20,000 (1,000)
+  --cards K      new signals of a set, at most: 0 to {CARDS} ({CARDS})
+  --steps N      steps of the search, at most: 1 to {steps} ({usual_steps})
+  --sets N       sets that there is room for: 0 to {sets} ({usual_sets})
   --set N        wires the N-th set of the list (1)
   --svg FILE     draws the patch of that set
   --json         writes all of it for other programs
@@ -28,4 +35,6 @@ shown so far; it may be stopped at any time.
 
 Exit status: 0 all smallest sets are listed; 1 none up to --cards, or stopped by --steps or --sets; 2 the input was
 refused or not understood; 3 something could not be built, run or written.
-";
+"
+    )
+}

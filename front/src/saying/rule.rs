@@ -1,7 +1,8 @@
 //! Why a term fits no record: the rule of the box that it breaks.
 
+use crate::panel::{COEFFICIENT, POWER};
 use crate::saying::numbers::grouped;
-use crate::typed::system::{Term, COEFFICIENT, POWER};
+use crate::typed::system::Term;
 
 /// Which rule of a record the term breaks. `names` are the variables of its system.
 pub fn broken(term: &Term, names: &[String]) -> Option<String> {

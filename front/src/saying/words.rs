@@ -2,10 +2,11 @@
 //! the words say how far the search got, and nothing of what it met on its way.
 
 use crate::asking::answer::{Reply, DONE, FULL, LENGTH, NONE, SETTING, SPENT, TERM, TWICE};
+use crate::panel::{CARDS, SETS, STEPS, TERMS};
 use crate::saying::numbers::{counted, grouped};
 use crate::saying::rule;
-use crate::typed::settings::{Settings, CARDS, SETS, STEPS};
-use crate::typed::system::{System, TERMS};
+use crate::typed::settings::Settings;
+use crate::typed::system::System;
 use crate::typed::text::{short, Source, Span};
 
 /// What is said of a reply, in lines, and the places in the typed text that it is about, each with words of its own.

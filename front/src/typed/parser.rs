@@ -1,6 +1,7 @@
 //! Equations from text. Terms are kept as typed, unmerged, each with its place: what is wrong with a system is for the
 //! planner to say, and what is no system at all is said here.
 
+use crate::panel::{CARDS, VARIABLES};
 use crate::typed::lexer::{tokens, Token, Word};
 use crate::typed::text::{short, Fault, Source, Span};
 
@@ -8,27 +9,25 @@ use crate::typed::text::{short, Fault, Source, Span};
 #[derive(Debug, Clone, Copy, PartialEq)]
 pub enum Variable {
     /// x, y, z
-    Letter(u8),
-    /// x1 to x6
-    Numbered(u8),
-    /// w1 to w6: a new signal of an earlier plan, pasted back
-    Wired(u8),
+    Letter(usize),
+    /// x1, x2, .., as many as the box takes
+    Numbered(usize),
+    /// w1, w2, .., one for each card: a new signal of an earlier plan, pasted back
+    Wired(usize),
 }
 
 impl Variable {
     pub fn of(name: &str) -> Option<Variable> {
-        let number = |digits: &str| match digits.as_bytes() {
-            [digit @ b'1'..=b'6'] => Some(digit - b'0'),
-            _ => None,
-        };
+        let number = |digits: &str, most: usize| (1..=most).find(|i| i.to_string() == digits);
         match name {
             "x" => return Some(Variable::Letter(1)),
             "y" => return Some(Variable::Letter(2)),
             "z" => return Some(Variable::Letter(3)),
             _ => {}
         }
-        let numbered = name.strip_prefix('x').and_then(number).map(Variable::Numbered);
-        numbered.or_else(|| name.strip_prefix('w').and_then(number).map(Variable::Wired))
+        let numbered = name.strip_prefix('x').and_then(|digits| number(digits, VARIABLES)).map(Variable::Numbered);
+        let wired = || name.strip_prefix('w').and_then(|digits| number(digits, CARDS as usize)).map(Variable::Wired);
+        numbered.or_else(wired)
     }
 }
 
@@ -92,7 +91,7 @@ fn one_style(names: &[(Variable, Span)]) -> Result<(), Fault> {
             let later = if (a.source, a.from) < (b.source, b.from) { b } else { a };
             Err(Fault::at(
                 later,
-                "two ways of naming in one system: use x, y, z or x1 to x6, not both (the square of x is x^2)",
+                format!("two ways of naming in one system: use x, y, z or x1 to x{VARIABLES}, not both (the square of x is x^2)"),
             ))
         }
         _ => Ok(()),
@@ -303,7 +302,7 @@ impl Parser<'_> {
                     product.join(" ")
                 ))
             }
-            _ => self.fault(format!("the name {name} is not known: variables are x, y, z or x1 to x6")),
+            _ => self.fault(format!("the name {name} is not known: variables are x, y, z or x1 to x{VARIABLES}")),
         }
     }
 

@@ -1,14 +1,9 @@
-//! The typed equations as the box takes them: numbered variables and term records of 12 bytes.
+//! The typed equations as the box takes them: numbered variables and term records.
 
 use crate::algebra::{self, Exponents};
+use crate::panel::{COEFFICIENT_AT, EXPONENTS_AT, TERM_BYTES, VARIABLES};
 use crate::typed::parser::{Typed, Variable};
 use crate::typed::text::{Fault, Span};
-
-/// The box's limits (document 01, The system on the panel). The planner judges by them; here they only give a refusal its reason.
-pub const VARIABLES: usize = 6;
-pub const TERMS: usize = 32;
-pub const POWER: u128 = 9;
-pub const COEFFICIENT: u128 = 1_000_000;
 
 /// A term record.
 #[derive(Debug, Clone, PartialEq)]
@@ -19,11 +14,11 @@ pub struct Record {
 }
 
 impl Record {
-    pub fn bytes(&self) -> [u8; 12] {
-        let mut out = [0; 12];
+    pub fn bytes(&self) -> [u8; TERM_BYTES] {
+        let mut out = [0; TERM_BYTES];
         out[0] = self.equation;
-        out[2..8].copy_from_slice(&self.exponents);
-        out[8..].copy_from_slice(&self.coefficient.to_le_bytes());
+        out[EXPONENTS_AT..COEFFICIENT_AT].copy_from_slice(&self.exponents);
+        out[COEFFICIENT_AT..].copy_from_slice(&self.coefficient.to_le_bytes());
         out
     }
 }
@@ -73,17 +68,17 @@ impl System {
     pub fn of(typed: &Typed) -> Result<System, Fault> {
         let largest = |of: fn(Variable) -> usize| typed.names.iter().map(|&(v, _)| of(v)).max().unwrap_or(0);
         let plain = largest(|v| match v {
-            Variable::Letter(i) | Variable::Numbered(i) => i.into(),
+            Variable::Letter(i) | Variable::Numbered(i) => i,
             Variable::Wired(_) => 0,
         });
         let wired = largest(|v| match v {
-            Variable::Wired(i) => i.into(),
+            Variable::Wired(i) => i,
             _ => 0,
         });
         // A pasted signal comes after all variables.
         let number = |v| match v {
-            Variable::Letter(i) | Variable::Numbered(i) => usize::from(i),
-            Variable::Wired(i) => plain + usize::from(i),
+            Variable::Letter(i) | Variable::Numbered(i) => i,
+            Variable::Wired(i) => plain + i,
         };
         if let Some(&(_, span)) = typed.names.iter().find(|&&(v, _)| VARIABLES < number(v)) {
             let count = plain + wired;
