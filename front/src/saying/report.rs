@@ -1,7 +1,7 @@
 //! The whole answer, for a person.
 
 use crate::algebra;
-use crate::asking::answer::Answer;
+use crate::asking::answer::{Answer, DONE, TWICE};
 use crate::patch::Patch;
 use crate::saying::numbers::{counted, grouped};
 use crate::saying::words::{said, Said};
@@ -85,14 +85,15 @@ impl Report<'_> {
     /// Why the asked set is not wired.
     pub fn no_such_set(&self) -> Option<String> {
         let (which, count) = (self.settings.which, self.answer.reply.count);
-        let missing = self.answer.reply.code == 0 && self.patch.is_none();
+        let missing = self.answer.reply.code == DONE && self.patch.is_none();
         missing.then(|| format!("There is no set {which}: the list has {}.", counted(count, "set")))
     }
 
     pub fn for_a_person(&self) -> String {
         let mut out = String::new();
         let said = self.said();
-        if self.answer.reply.code == 0 || 4 < self.answer.reply.code {
+        // After code 1 to 4 there is no system that was planned.
+        if self.answer.reply.code == DONE || TWICE < self.answer.reply.code {
             for equation in self.equations() {
                 out += &format!("  {equation}\n");
             }
