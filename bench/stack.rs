@@ -1,5 +1,5 @@
-// Prints how many bytes of stack planning, checking and wiring take: the stack below is painted, the call runs on it, and then we look how
-// far down the paint is gone. About a hundred bytes of each number are the frames of the caller.
+// Prints how many bytes of stack planning, checking and wiring take: the stack below is painted, the call runs on it,
+// and then we look how far down the paint is gone. About a hundred bytes of each number are the frames of the caller.
 
 mod panel;
 mod proved;
@@ -12,8 +12,8 @@ use std::hint::black_box;
 const PAINTED: usize = 64 * 1024;
 const PAINT: u8 = 0xa5;
 
-// The paint lies in the frame of a call that has ended, so that the frames of the next call lie on it. The low end is handed back as a
-// number, since nothing may be borrowed from a frame that is gone.
+// The paint lies in the frame of a call that has ended, so that the frames of the next call lie on it. The low end is
+// handed back as a number, since nothing may be borrowed from a frame that is gone.
 #[inline(never)]
 fn paint() -> usize {
     let mut area = [0u8; PAINTED];
@@ -25,7 +25,8 @@ fn paint() -> usize {
 #[inline(never)]
 fn left(low: usize) -> usize {
     let mut i = 0;
-    // The area is part of this thread's stack, which stays mapped; volatile, since the compiler takes a frame that is gone for empty.
+    // The area is part of this thread's stack, which stays mapped; volatile, since the compiler takes a frame that is
+    // gone for empty.
     while i < PAINTED && unsafe { ((low + i) as *const u8).read_volatile() } == PAINT {
         i += 1;
     }

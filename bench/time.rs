@@ -1,4 +1,5 @@
-// Times the proved planning against the walk in Rust, system by system, in one process. Ends with status 1 where a reply or a buffer differs.
+// Times the proved planning against the walk in Rust, system by system, in one process. Ends with status 1 where a
+// reply or a buffer differs.
 
 mod panel;
 mod proved;

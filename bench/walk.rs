@@ -1,6 +1,6 @@
-// The walk in plain Rust: the yardstick of the benchmark. It keeps sets, signals and products in the shapes of the proved code, so that
-// the times compare; for that reason it is not an independent second program. No heap. Input is taken as clean: the checks cost
-// nothing beside a walk.
+// The walk in plain Rust: the yardstick of the benchmark. It keeps sets, signals and products in the shapes of the
+// proved code, so that the times compare; for that reason it is not an independent second program. No heap. Input is
+// taken as clean: the checks cost nothing beside a walk.
 
 use crate::panel::{CARDS, COEFFICIENT_AT, EXPONENTS_AT, PRODUCTS, SET_BYTES, SIGNALS, TERM_BYTES, TERMS, VARIABLES};
 

@@ -1,6 +1,7 @@
-//! Asking for K = 0, 1, 2, .. in turn, so that a long search can say what it has shown so far. The planner's walk is not
-//! changed for this: each answer is its own, and true by itself. A call walks from level 0 under the whole limit, and the
-//! first level with a find is its last; so the answer that ends the climb is what the planner says for the cap itself.
+//! Asking for K = 0, 1, 2, .. in turn, so that a long search can say what it has shown so far. The planner's walk is
+//! not changed for this: each answer is its own, and true by itself. A call walks from level 0 under the whole limit,
+//! and the first level with a find is its last; so the answer that ends the climb is what the planner says for the cap
+//! itself.
 
 use crate::asking::answer::{Answer, NONE};
 use crate::panel::CARDS;

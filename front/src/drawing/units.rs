@@ -1,6 +1,6 @@
-//! The units of a patch, each laid out by itself. Wires are named at both ends instead of being drawn from end to end, so
-//! nothing crosses: a multiplier has the names of what it takes and gives, an integrator the names of what it sums. All
-//! wires run from left to right.
+//! The units of a patch, each laid out by itself. Wires are named at both ends instead of being drawn from end to end,
+//! so nothing crosses: a multiplier has the names of what it takes and gives, an integrator the names of what it sums.
+//! All wires run from left to right.
 
 use crate::algebra;
 use crate::drawing::label::width;

@@ -91,7 +91,10 @@ fn one_style(names: &[(Variable, Span)]) -> Result<(), Fault> {
             let later = if (a.source, a.from) < (b.source, b.from) { b } else { a };
             Err(Fault::at(
                 later,
-                format!("two ways of naming in one system: use x, y, z or x1 to x{VARIABLES}, not both (the square of x is x^2)"),
+                format!(
+                    "two ways of naming in one system: use x, y, z or x1 to x{VARIABLES}, not both \
+                     (the square of x is x^2)"
+                ),
             ))
         }
         _ => Ok(()),
