@@ -16,19 +16,22 @@ pub enum Variable {
     Wired(usize),
 }
 
+/// The variables that have names without numbers.
+pub const LETTERS: [&str; 3] = ["x", "y", "z"];
+
 impl Variable {
     pub fn of(name: &str) -> Option<Variable> {
-        let number = |digits: &str, most: usize| (1..=most).find(|i| i.to_string() == digits);
-        match name {
-            "x" => return Some(Variable::Letter(1)),
-            "y" => return Some(Variable::Letter(2)),
-            "z" => return Some(Variable::Letter(3)),
-            _ => {}
-        }
-        let numbered = name.strip_prefix('x').and_then(|digits| number(digits, VARIABLES)).map(Variable::Numbered);
-        let wired = || name.strip_prefix('w').and_then(|digits| number(digits, CARDS as usize)).map(Variable::Wired);
-        numbered.or_else(wired)
+        let letter = LETTERS.iter().position(|&letter| letter == name).map(|i| Variable::Letter(i + 1));
+        letter
+            .or_else(|| number(name, 'x', VARIABLES).map(Variable::Numbered))
+            .or_else(|| number(name, 'w', CARDS as usize).map(Variable::Wired))
     }
+}
+
+/// The number of a name like x1: 1 to `most`, without zeros before it.
+fn number(name: &str, letter: char, most: usize) -> Option<usize> {
+    let digits = name.strip_prefix(letter)?;
+    (1..=most).find(|i| i.to_string() == digits)
 }
 
 /// One term as typed. Numbers too large to hold stand at the largest that fits; no rule of the box lets them pass.

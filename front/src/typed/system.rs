@@ -2,7 +2,7 @@
 
 use crate::algebra::{self, Exponents};
 use crate::panel::{COEFFICIENT_AT, EXPONENTS_AT, TERM_BYTES, VARIABLES};
-use crate::typed::parser::{Typed, Variable};
+use crate::typed::parser::{Typed, Variable, LETTERS};
 use crate::typed::text::{Fault, Span};
 
 /// A term record.
@@ -87,7 +87,7 @@ impl System {
         let letters = typed.names.iter().any(|&(v, _)| matches!(v, Variable::Letter(_)));
         let name = |i: usize| match i {
             i if plain <= i => format!("w{}", i - plain + 1),
-            i if letters => ["x", "y", "z"][i].into(),
+            i if letters => LETTERS[i].into(),
             i => format!("x{}", i + 1),
         };
         let n = plain + wired;
