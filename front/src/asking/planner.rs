@@ -6,8 +6,8 @@ use std::sync::mpsc::{channel, RecvTimeoutError};
 use std::thread;
 use std::time::Duration;
 
-use crate::answer::{self, Answer};
-use crate::settings::Settings;
+use crate::asking::answer::{self, Answer};
+use crate::typed::settings::Settings;
 
 /// The variable that names the script which runs a proved program by its name. The command `plan` sets it.
 pub const RUNNER: &str = "SIRAGUMON_RUNNER";
@@ -84,9 +84,10 @@ fn leash(_: &mut Command) {}
 #[cfg(test)]
 mod tests {
     use super::*;
+    use crate::panel::TERM_BYTES;
 
     fn ask(runner: &str) -> Result<Answer, String> {
-        let planner = Planner { runner: runner.into(), n: 1, terms: vec![0; 12 * 9000] };
+        let planner = Planner { runner: runner.into(), n: 1, terms: vec![0; TERM_BYTES * 9000] };
         planner.ask(&Settings::default(), || ())
     }
 

@@ -1,9 +1,11 @@
-//! Asking for K = 0, 1, 2, .. in turn, so that a long search can say what it has shown so far. The planner's walk is not
-//! changed for this: each answer is its own, and true by itself. A call walks from level 0 under the whole limit, and the
-//! first level with a find is its last; so the answer that ends the climb is what the planner says for the cap itself.
+//! Asking for K = 0, 1, 2, .. in turn, so that a long search can say what it has shown so far. The planner's walk is
+//! not changed for this: each answer is its own, and true by itself. A call walks from level 0 under the whole limit,
+//! and the first level with a find is its last; so the answer that ends the climb is what the planner says for the cap
+//! itself.
 
-use crate::answer::{Answer, NONE};
-use crate::settings::{Settings, CARDS};
+use crate::asking::answer::{Answer, NONE};
+use crate::panel::CARDS;
+use crate::typed::settings::Settings;
 
 /// `ask` asks the planner with its K; `shown` hears of every K for which there is none, and its steps.
 pub fn climb<E>(
@@ -28,7 +30,7 @@ pub fn climb<E>(
 #[cfg(test)]
 mod tests {
     use super::*;
-    use crate::answer::Reply;
+    use crate::asking::answer::Reply;
 
     fn answer(code: u64, order: u64, steps: u64) -> Answer {
         Answer { reply: Reply { code, order, count: 0, steps, place: 0 }, ..Answer::default() }
@@ -52,7 +54,7 @@ mod tests {
     #[test]
     fn each_level_is_asked_in_turn() {
         let answers = [answer(5, 1, 1), answer(5, 2, 4), answer(0, 2, 23)];
-        let (asked, shown, last) = climbed(6, &answers);
+        let (asked, shown, last) = climbed(CARDS, &answers);
         assert_eq!(asked, ["0", "1", "2"]);
         assert_eq!(shown, [(0, 1), (1, 4)]);
         assert_eq!(last, answers[2]);
@@ -69,12 +71,13 @@ mod tests {
     #[test]
     fn every_other_code_ends_the_climb() {
         for code in [0, 1, 2, 3, 4, 6, 7] {
-            assert_eq!(climbed(6, &[answer(code, 0, 1)]).0.len(), 1);
+            assert_eq!(climbed(CARDS, &[answer(code, 0, 1)]).0.len(), 1);
         }
     }
 
     #[test]
     fn a_cap_out_of_range_is_asked_as_it_is() {
-        assert_eq!(climbed(7, &[answer(1, 0, 0)]).0, ["7"]);
+        let beyond = CARDS + 1;
+        assert_eq!(climbed(beyond, &[answer(1, 0, 0)]).0, [beyond.to_string()]);
     }
 }

@@ -1,11 +1,11 @@
-//! The units of a patch, each laid out by itself. Wires are named at both ends instead of being drawn from end to end, so
-//! nothing crosses: a multiplier has the names of what it takes and gives, an integrator the names of what it sums. All
-//! wires run from left to right.
+//! The units of a patch, each laid out by itself. Wires are named at both ends instead of being drawn from end to end,
+//! so nothing crosses: a multiplier has the names of what it takes and gives, an integrator the names of what it sums.
+//! All wires run from left to right.
 
 use crate::algebra;
-use crate::label::width;
+use crate::drawing::label::width;
+use crate::drawing::shapes::{words, Part, Rect, Shape, SIZE};
 use crate::patch::{Patch, Row};
-use crate::shapes::{words, Part, Rect, Shape, SIZE};
 
 /// The size of remarks.
 pub const SMALL: i32 = 12;

@@ -3,8 +3,8 @@
 use std::io::Write;
 use std::time::Duration;
 
-use crate::text::{counted, grouped};
-use crate::words::excluded;
+use crate::saying::numbers::{counted, grouped};
+use crate::saying::words::excluded;
 
 /// A search that is over sooner than this says nothing but its answer.
 const PATIENCE: Duration = Duration::from_secs(1);

@@ -1,5 +1,7 @@
 //! How far the planner may go: cards, steps and room.
 
+use crate::panel::{CARDS, SETS, STEPS, USUAL_SETS, USUAL_STEPS};
+
 /// A number as typed. It may be too large for the planner, which then refuses it.
 #[derive(Debug, Clone, PartialEq)]
 pub struct Count(String);
@@ -38,11 +40,6 @@ impl From<u64> for Count {
     }
 }
 
-/// The most cards, steps and sets that the planner takes. It judges by itself; here they only give a refusal its reason.
-pub const CARDS: u64 = 6;
-pub const STEPS: u64 = 1_000_000_000;
-pub const SETS: u64 = 20_000;
-
 #[derive(Debug, Clone, PartialEq)]
 pub struct Settings {
     /// K: the most new signals of a set.
@@ -58,7 +55,7 @@ pub struct Settings {
 impl Default for Settings {
     /// As document 01's program plans.
     fn default() -> Settings {
-        Settings { cards: CARDS.into(), steps: 1_000_000.into(), sets: 1_000.into(), which: 1 }
+        Settings { cards: CARDS.into(), steps: USUAL_STEPS.into(), sets: USUAL_SETS.into(), which: 1 }
     }
 }
 

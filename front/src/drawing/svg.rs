@@ -1,8 +1,8 @@
 //! A drawing as SVG. Readable in black and white.
 
-use crate::drawing::Drawing;
-use crate::label::{runs, Height, REDUCED};
-use crate::shapes::{Part, Rect, Shape, SIZE};
+use crate::drawing::label::{runs, Height, REDUCED};
+use crate::drawing::shapes::{Part, Rect, Shape, SIZE};
+use crate::drawing::sheet::Drawing;
 
 const FONT: &str = "Helvetica, Arial, 'Liberation Sans', 'DejaVu Sans', sans-serif";
 
@@ -123,7 +123,7 @@ fn escaped(text: &str) -> String {
 #[cfg(test)]
 mod tests {
     use super::*;
-    use crate::drawing::tests::drawings;
+    use crate::drawing::sheet::tests::drawings;
 
     /// The names of the elements, each opened and closed in turn.
     fn balanced(text: &str) -> Vec<String> {

@@ -1,6 +1,6 @@
 //! The words of an equation: names, numbers and signs, each with its place.
 
-use crate::text::{Source, Span};
+use crate::typed::text::{Source, Span};
 
 #[derive(Debug, Clone, PartialEq)]
 pub enum Word {

@@ -1,6 +1,6 @@
 //! What a drawing is made of.
 
-use crate::label::width;
+use crate::drawing::label::width;
 
 /// The size of names and numbers.
 pub const SIZE: i32 = 14;

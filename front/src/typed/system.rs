@@ -1,14 +1,9 @@
-//! The typed equations as the box takes them: numbered variables and term records of 12 bytes.
+//! The typed equations as the box takes them: numbered variables and term records.
 
 use crate::algebra::{self, Exponents};
-use crate::parser::{Typed, Variable};
-use crate::text::{grouped, Fault, Span};
-
-/// The box's limits (document 01, The system on the panel). The planner judges by them; here they only give a refusal its reason.
-pub const VARIABLES: usize = 6;
-pub const TERMS: usize = 32;
-const POWER: u128 = 9;
-const COEFFICIENT: u128 = 1_000_000;
+use crate::panel::{COEFFICIENT_AT, EXPONENTS_AT, TERM_BYTES, VARIABLES};
+use crate::typed::parser::{Typed, Variable, LETTERS};
+use crate::typed::text::{Fault, Span};
 
 /// A term record.
 #[derive(Debug, Clone, PartialEq)]
@@ -19,11 +14,11 @@ pub struct Record {
 }
 
 impl Record {
-    pub fn bytes(&self) -> [u8; 12] {
-        let mut out = [0; 12];
+    pub fn bytes(&self) -> [u8; TERM_BYTES] {
+        let mut out = [0; TERM_BYTES];
         out[0] = self.equation;
-        out[2..8].copy_from_slice(&self.exponents);
-        out[8..].copy_from_slice(&self.coefficient.to_le_bytes());
+        out[EXPONENTS_AT..COEFFICIENT_AT].copy_from_slice(&self.exponents);
+        out[COEFFICIENT_AT..].copy_from_slice(&self.coefficient.to_le_bytes());
         out
     }
 }
@@ -50,31 +45,6 @@ impl Term {
         let coefficient = i32::try_from(if self.negative { -size } else { size }).ok()?;
         Some(Record { equation: self.equation as u8, exponents, coefficient })
     }
-
-    /// Which rule of a record the term breaks.
-    pub fn broken_rule(&self, names: &[String]) -> Option<String> {
-        let shown = |number: u128| {
-            if number == u128::MAX {
-                "too long to show".into()
-            } else {
-                grouped(number)
-            }
-        };
-        for (name, &power) in names.iter().zip(&self.powers) {
-            if POWER < power {
-                return Some(format!("the power of {name} is {}, and the box takes 0 to {POWER}", shown(power)));
-            }
-        }
-        if self.size == 0 {
-            return Some("its coefficient is 0; leave the term out".into());
-        }
-        if COEFFICIENT < self.size {
-            let sign = if self.negative { "-" } else { "" };
-            let (size, most) = (shown(self.size), grouped(COEFFICIENT));
-            return Some(format!("its coefficient is {sign}{size}, and the box takes -{most} to {most}"));
-        }
-        None
-    }
 }
 
 /// A system that can be asked about.
@@ -98,17 +68,17 @@ impl System {
     pub fn of(typed: &Typed) -> Result<System, Fault> {
         let largest = |of: fn(Variable) -> usize| typed.names.iter().map(|&(v, _)| of(v)).max().unwrap_or(0);
         let plain = largest(|v| match v {
-            Variable::Letter(i) | Variable::Numbered(i) => i.into(),
+            Variable::Letter(i) | Variable::Numbered(i) => i,
             Variable::Wired(_) => 0,
         });
         let wired = largest(|v| match v {
-            Variable::Wired(i) => i.into(),
+            Variable::Wired(i) => i,
             _ => 0,
         });
         // A pasted signal comes after all variables.
         let number = |v| match v {
-            Variable::Letter(i) | Variable::Numbered(i) => usize::from(i),
-            Variable::Wired(i) => plain + usize::from(i),
+            Variable::Letter(i) | Variable::Numbered(i) => i,
+            Variable::Wired(i) => plain + i,
         };
         if let Some(&(_, span)) = typed.names.iter().find(|&&(v, _)| VARIABLES < number(v)) {
             let count = plain + wired;
@@ -117,7 +87,7 @@ impl System {
         let letters = typed.names.iter().any(|&(v, _)| matches!(v, Variable::Letter(_)));
         let name = |i: usize| match i {
             i if plain <= i => format!("w{}", i - plain + 1),
-            i if letters => ["x", "y", "z"][i].into(),
+            i if letters => LETTERS[i].into(),
             i => format!("x{}", i + 1),
         };
         let n = plain + wired;
@@ -178,8 +148,8 @@ impl System {
 #[cfg(test)]
 pub mod tests {
     use super::*;
-    use crate::parser::parse;
-    use crate::text::Source;
+    use crate::typed::parser::parse;
+    use crate::typed::text::Source;
 
     pub fn system(text: &str) -> System {
         let sources = [Source { file: None, text: text.into() }];
@@ -239,23 +209,6 @@ pub mod tests {
         let sources = [Source { file: None, text: "x4' = w3, w3' = 1".into() }];
         let fault = System::of(&parse(&sources).unwrap()).unwrap_err();
         assert_eq!(fault.words, "7 variables, and the box takes up to 6");
-    }
-
-    #[test]
-    fn the_broken_rule() {
-        let rule = |text: &str| {
-            let system = system(text);
-            system.terms[0].broken_rule(&system.names)
-        };
-        assert_eq!(rule("x' = x^9"), None);
-        assert_eq!(rule("x' = 1000000*x"), None);
-        assert_eq!(rule("x' = x*y^10").unwrap(), "the power of y is 10, and the box takes 0 to 9");
-        assert_eq!(rule("x' = x^300").unwrap(), "the power of x is 300, and the box takes 0 to 9");
-        assert_eq!(rule("x' = 0*x").unwrap(), "its coefficient is 0; leave the term out");
-        assert_eq!(
-            rule("x' = -1000001*x").unwrap(),
-            "its coefficient is -1,000,001, and the box takes -1,000,000 to 1,000,000"
-        );
     }
 
     #[test]
@@ -322,7 +275,7 @@ pub mod tests {
                 Ok(system) => system,
                 Err(fault) => {
                     // Every fault can be pointed at.
-                    fault.span.map(|span| crate::text::point(&sources, span));
+                    fault.span.map(|span| crate::typed::text::point(&sources, span));
                     continue;
                 }
             };

@@ -1,35 +1,37 @@
 //! Equations from text. Terms are kept as typed, unmerged, each with its place: what is wrong with a system is for the
 //! planner to say, and what is no system at all is said here.
 
-use crate::lexer::{tokens, Token, Word};
-use crate::text::{short, Fault, Source, Span};
+use crate::panel::{CARDS, VARIABLES};
+use crate::typed::lexer::{tokens, Token, Word};
+use crate::typed::text::{short, Fault, Source, Span};
 
 /// A name of the text. Numbers count from 1.
 #[derive(Debug, Clone, Copy, PartialEq)]
 pub enum Variable {
     /// x, y, z
-    Letter(u8),
-    /// x1 to x6
-    Numbered(u8),
-    /// w1 to w6: a new signal of an earlier plan, pasted back
-    Wired(u8),
+    Letter(usize),
+    /// x1, x2, .., as many as the box takes
+    Numbered(usize),
+    /// w1, w2, .., one for each card: a new signal of an earlier plan, pasted back
+    Wired(usize),
 }
+
+/// The variables that have names without numbers.
+pub const LETTERS: [&str; 3] = ["x", "y", "z"];
 
 impl Variable {
     pub fn of(name: &str) -> Option<Variable> {
-        let number = |digits: &str| match digits.as_bytes() {
-            [digit @ b'1'..=b'6'] => Some(digit - b'0'),
-            _ => None,
-        };
-        match name {
-            "x" => return Some(Variable::Letter(1)),
-            "y" => return Some(Variable::Letter(2)),
-            "z" => return Some(Variable::Letter(3)),
-            _ => {}
-        }
-        let numbered = name.strip_prefix('x').and_then(number).map(Variable::Numbered);
-        numbered.or_else(|| name.strip_prefix('w').and_then(number).map(Variable::Wired))
+        let letter = LETTERS.iter().position(|&letter| letter == name).map(|i| Variable::Letter(i + 1));
+        letter
+            .or_else(|| number(name, 'x', VARIABLES).map(Variable::Numbered))
+            .or_else(|| number(name, 'w', CARDS as usize).map(Variable::Wired))
     }
+}
+
+/// The number of a name like x1: 1 to `most`, without zeros before it.
+fn number(name: &str, letter: char, most: usize) -> Option<usize> {
+    let digits = name.strip_prefix(letter)?;
+    (1..=most).find(|i| i.to_string() == digits)
 }
 
 /// One term as typed. Numbers too large to hold stand at the largest that fits; no rule of the box lets them pass.
@@ -92,7 +94,10 @@ fn one_style(names: &[(Variable, Span)]) -> Result<(), Fault> {
             let later = if (a.source, a.from) < (b.source, b.from) { b } else { a };
             Err(Fault::at(
                 later,
-                "two ways of naming in one system: use x, y, z or x1 to x6, not both (the square of x is x^2)",
+                format!(
+                    "two ways of naming in one system: use x, y, z or x1 to x{VARIABLES}, not both \
+                     (the square of x is x^2)"
+                ),
             ))
         }
         _ => Ok(()),
@@ -303,7 +308,7 @@ impl Parser<'_> {
                     product.join(" ")
                 ))
             }
-            _ => self.fault(format!("the name {name} is not known: variables are x, y, z or x1 to x6")),
+            _ => self.fault(format!("the name {name} is not known: variables are x, y, z or x1 to x{VARIABLES}")),
         }
     }
 
@@ -330,7 +335,7 @@ fn whole(digits: &str) -> u128 {
 #[cfg(test)]
 mod tests {
     use super::*;
-    use crate::text::point;
+    use crate::typed::text::point;
 
     fn sources(texts: &[&str]) -> Vec<Source> {
         texts.iter().map(|text| Source { file: None, text: text.to_string() }).collect()

@@ -1,12 +1,12 @@
 //! The whole answer, for other programs: JSON.
 
 use crate::algebra::Exponents;
-use crate::json::Json;
 use crate::patch::Patch;
-use crate::report::Report;
-use crate::settings::Count;
-use crate::system::Record;
-use crate::text::{place, Fault, Source, Span};
+use crate::saying::json::Json;
+use crate::saying::report::Report;
+use crate::typed::settings::Count;
+use crate::typed::system::Record;
+use crate::typed::text::{place, Fault, Source, Span};
 
 /// All that is said to a person, and what was sent and received.
 pub fn answer(report: &Report) -> String {

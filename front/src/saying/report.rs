@@ -1,12 +1,13 @@
 //! The whole answer, for a person.
 
 use crate::algebra;
-use crate::answer::Answer;
+use crate::asking::answer::{Answer, DONE, TWICE};
 use crate::patch::Patch;
-use crate::settings::Settings;
-use crate::system::System;
-use crate::text::{counted, grouped, point, Fault, Source};
-use crate::words::{said, Said};
+use crate::saying::numbers::{counted, grouped};
+use crate::saying::words::{said, Said};
+use crate::typed::settings::Settings;
+use crate::typed::system::System;
+use crate::typed::text::{point, Fault, Source};
 
 pub struct Report<'a> {
     pub sources: &'a [Source],
@@ -84,14 +85,15 @@ impl Report<'_> {
     /// Why the asked set is not wired.
     pub fn no_such_set(&self) -> Option<String> {
         let (which, count) = (self.settings.which, self.answer.reply.count);
-        let missing = self.answer.reply.code == 0 && self.patch.is_none();
+        let missing = self.answer.reply.code == DONE && self.patch.is_none();
         missing.then(|| format!("There is no set {which}: the list has {}.", counted(count, "set")))
     }
 
     pub fn for_a_person(&self) -> String {
         let mut out = String::new();
         let said = self.said();
-        if self.answer.reply.code == 0 || 4 < self.answer.reply.code {
+        // After code 1 to 4 there is no system that was planned.
+        if self.answer.reply.code == DONE || TWICE < self.answer.reply.code {
             for equation in self.equations() {
                 out += &format!("  {equation}\n");
             }
@@ -146,8 +148,8 @@ pub fn not_understood(sources: &[Source], fault: &Fault) -> String {
 #[cfg(test)]
 mod tests {
     use super::*;
-    use crate::answer::{read, Reply};
-    use crate::system::tests::system;
+    use crate::asking::answer::{read, Reply};
+    use crate::typed::system::tests::system;
 
     /// What is printed for a text and an answer, and whether set `which` is wired.
     fn printed(text: &str, answer: &Answer, which: u64) -> String {
@@ -188,7 +190,7 @@ mod tests {
 
     #[test]
     fn a_set_that_is_not_there_is_not_wired() {
-        let answer = read(1, crate::answer::tests::EXAMPLE).unwrap();
+        let answer = read(1, crate::asking::answer::tests::EXAMPLE).unwrap();
         let text = printed("x' = x^4 + x^3", &answer, 3);
         assert!(text.ends_with("\nThere is no set 3: the list has 2 sets.\n"), "{text}");
         assert!(!text.contains("wired:"), "{text}");

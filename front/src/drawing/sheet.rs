@@ -1,9 +1,9 @@
 //! The units on a sheet, between a heading and a legend.
 
-use crate::label::{lines, width};
+use crate::drawing::label::{lines, width};
+use crate::drawing::shapes::{words, Part, SIZE};
+use crate::drawing::units::{integrators, multipliers, Unit, SMALL};
 use crate::patch::Patch;
-use crate::shapes::{words, Part, SIZE};
-use crate::units::{integrators, multipliers, Unit, SMALL};
 
 const TITLE: i32 = 18;
 const MARGIN: i32 = 24;
@@ -128,8 +128,8 @@ fn sheet(patch: &Patch, equations: &[String], which: &str, tall: i32) -> Drawing
 #[cfg(test)]
 pub mod tests {
     use super::*;
+    use crate::drawing::shapes::{Rect, Shape};
     use crate::recorded;
-    use crate::shapes::{Rect, Shape};
 
     impl Shape {
         /// The room that it takes; nothing for a wire.

@@ -1,6 +1,7 @@
 //! What the proved program wrote, read back. Anything that is not exactly an answer is refused: half an answer is none.
 
 use crate::algebra::Exponents;
+use crate::panel::CARDS;
 
 /// The five numbers of a reply (document 01, What the box says).
 #[derive(Debug, Clone, Copy, PartialEq, Default)]
@@ -75,8 +76,8 @@ fn reply(line: &str) -> Result<Reply, String> {
         return Err(wrong());
     };
     let reply = Reply { code, order, count, steps, place };
-    // Six new signals at most, and seven for "none of up to six".
-    if reply.name().is_none() || 7 < order {
+    // One more than there are cards stands for "none with up to all of them".
+    if reply.name().is_none() || CARDS + 1 < order {
         return Err(wrong());
     }
     Ok(reply)
@@ -148,6 +149,7 @@ pub mod tests {
 
     #[test]
     fn half_an_answer_is_none() {
+        let beyond_the_cards = format!("5 {} 0 1 0\n", CARDS + 2);
         for text in [
             "",
             "\n",
@@ -163,7 +165,7 @@ pub mod tests {
             "0 1 1 6 0\n2.0.0.0.0.0\n1 1 2\n",
             "8 0 0 0 0\n",
             "10 0 0 0 0\n",
-            "5 9 0 1 0\n",
+            &beyond_the_cards,
             "plan: killed\n",
         ] {
             assert!(read(1, text).is_err(), "{text:?}");

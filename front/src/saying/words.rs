@@ -1,10 +1,13 @@
 //! The words for a reply. "Smallest" is said after code 0 alone: only then has the whole search ended. Short of that
 //! the words say how far the search got, and nothing of what it met on its way.
 
-use crate::answer::{Reply, DONE, FULL, LENGTH, NONE, SETTING, SPENT, TERM, TWICE};
-use crate::settings::{Settings, CARDS, SETS, STEPS};
-use crate::system::{System, TERMS};
-use crate::text::{counted, grouped, short, Source, Span};
+use crate::asking::answer::{Reply, DONE, FULL, LENGTH, NONE, SETTING, SPENT, TERM, TWICE};
+use crate::panel::{CARDS, SETS, STEPS, TERMS};
+use crate::saying::numbers::{counted, grouped};
+use crate::saying::rule;
+use crate::typed::settings::Settings;
+use crate::typed::system::System;
+use crate::typed::text::{short, Source, Span};
 
 /// What is said of a reply, in lines, and the places in the typed text that it is about, each with words of its own.
 #[derive(Debug, PartialEq)]
@@ -58,8 +61,8 @@ pub fn said(reply: &Reply, settings: &Settings, system: &System, sources: &[Sour
             let text = short(&sources[term.span.source].text[term.span.from..term.span.to]);
             places.push(("", term.span));
             if reply.code == TERM {
-                let rule = term.broken_rule(&system.names).unwrap_or("a field of it breaks its rule".into());
-                format!("Refused: term {place}, {text}: {rule}.")
+                let broken = rule::broken(term, &system.names).unwrap_or("a field of it breaks its rule".into());
+                format!("Refused: term {place}, {text}: {broken}.")
             } else {
                 let earlier = system.terms[..place - 1]
                     .iter()
@@ -154,8 +157,8 @@ fn full(reply: &Reply, settings: &Settings) -> String {
 #[cfg(test)]
 mod tests {
     use super::*;
-    use crate::system::tests::system;
-    use crate::text::point;
+    use crate::typed::system::tests::system;
+    use crate::typed::text::point;
 
     const TEXT: &str = "x' = x^4 + x^3";
 
