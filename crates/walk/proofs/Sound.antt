@@ -20,6 +20,7 @@ use Rattle.monomial.proofs.Members.{here, there, gather-in, gather-out, Gathere
 use Rattle.monomial.proofs.product.Laws.{mul-comm, atMost-weaken, atMost-mul, atMost-at, atMost-all}
 use Rattle.monomial.proofs.quotient.Laws.{factor-divides, atMost-divides}
 use Rattle.monomial.proofs.divisors.Pairs.{pairs-out}
+use Rattle.monomial.proofs.Variables.{constants-fit}
 use Rattle.wiring.specs.Panel.{cards, setExponent, derivedExponent, termExponent}
 use Rattle.wiring.specs.Poly.{Poly, plain, coeff}
 use Rattle.wiring.specs.Choice.{chosen}
@@ -30,7 +31,7 @@ use Rattle.wiring.specs.Answers.{missing}
 use Rattle.wiring.specs.declared.terms.Fault.the-variants.{Clean}
 use Rattle.wiring.specs.Claims.{summed, Recordable}
 use Rattle.wiring.proofs.terms.Laws.{Fields, fields-out, clean-right, clean-widens, exponents-everywhere}
-use Rattle.wiring.proofs.signals.Laws.{base, base-in, signals-cases, constants-fit}
+use Rattle.wiring.proofs.signals.Laws.{base, base-in, signals-cases}
 use Rattle.wiring.proofs.derivative.Bounds.{sum-fits, total-fits}
 use Rattle.walk.specs.Walk.{Rules, child, Step, found, other, opens, ends, tried, triedAll, opened}
 use Rattle.walk.specs.Turns.{Walked}

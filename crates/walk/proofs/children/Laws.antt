@@ -23,6 +23,7 @@ use Rattle.monomial.proofs.order.Ascending.{insert-out, insert-new, insert-old,
 use Rattle.monomial.proofs.product.Laws.{mul-comm, atMost-weaken, atMost-mul, atMost-set, atMost-at}
 use Rattle.monomial.proofs.quotient.Laws.{factor-divides, atMost-divides}
 use Rattle.monomial.proofs.divisors.Pairs.{pairs-out}
+use Rattle.monomial.proofs.Variables.{constants-fit}
 use Rattle.wiring.specs.Panel.{cards, setExponent, derivedExponent, termExponent}
 use Rattle.wiring.specs.Poly.{Poly, plain}
 use Rattle.wiring.specs.Derivative.{derivative, power}
@@ -32,7 +33,7 @@ use Rattle.wiring.specs.Terms.{Record, records, system, CleanTerms}
 use Rattle.wiring.specs.Answers.{missing}
 use Rattle.wiring.proofs.Poly.{support-out}
 use Rattle.wiring.proofs.quadratic.Laws.{Factors, inV2-in, unmet-out, Nonsquare, nonsquares-out}
-use Rattle.wiring.proofs.signals.Laws.{base, base-in, set-in, signals-cases, constants-fit}
+use Rattle.wiring.proofs.signals.Laws.{base, base-in, set-in, signals-cases}
 use Rattle.wiring.proofs.terms.Laws.{Rightful, clean-in}
 use Rattle.wiring.proofs.derivative.Records.{Derived, derived}
 use Rattle.wiring.proofs.choice.Laws.{chosen-best}

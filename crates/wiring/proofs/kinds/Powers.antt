@@ -9,7 +9,7 @@ use lib.ListN.{length, getD, set, replicate, length-set, length-replicate}
 use lib.Seq.{getD-set-same, getD-set-other, set-set, set-getD}
 use Rattle.monomial.specs.Lists.{pointwise}
 use Rattle.monomial.proofs.Members.{fill-at}
-use Rattle.monomial.proofs.Loops.{pointwise-length, pointwise-comm, pointwise-assoc, pointwise-unit, pointwise-cancel}
+use Rattle.monomial.proofs.Loops.{pointwise-length, pointwise-comm, pointwise-assoc, pointwise-unit, pointwise-cancel, pointwise-everywhere, pointwise-change, pointwise-raise}
 use Rattle.monomial.proofs.order.Laws.{list-order}
 use Rattle.wiring.specs.Poly.{Kind}
 use Rattle.wiring.specs.Kinds.{variable, Built, unit, single, product, inverse, Lawful, Exponent, powers, size, Tick, Near, is-none, stepped, Summing}
@@ -17,16 +17,6 @@ use Rattle.wiring.specs.Kinds.{variable, Built, unit, single, product, i
 -- a list of one entry again and again, with that entry set once more
 fill-set : {A : Type 0} (x : A) (w i : ℕ) → set (replicate w x) i x ≡ replicate w x
 fill-set x w i = ap (set (replicate w x) i) (sym (fill-at x w i)) ∙ set-getD (replicate w x) i x
-
--- of a product, one factor may be divided by a variable, where its exponent may fall before a sum as well as after it
-pub over-mul : {E : Type 0} (x : Exponent E) (a b : List E) (i : ℕ)
-    → ((e : E) → x .plus e (x .less (getD b i (x .none))) ≡ x .less (x .plus e (getD b i (x .none))))
-    → pointwise (x .plus) a (set b i (x .less (getD b i (x .none)))) ≡ set (pointwise (x .plus) a b) i (x .less (getD (pointwise (x .plus) a b) i (x .none)))
-unfolding pointwise
-over-mul x [] b i h = refl
-over-mul x (e ∷ a) [] i h = refl
-over-mul x (e ∷ a) (f ∷ b) zero h = ap (λ g. g ∷ pointwise (x .plus) a b) (h e)
-over-mul x (e ∷ a) (f ∷ b) (suc i) h = ap (_∷_ (x .plus e f)) (over-mul x a b i h)
 
 module _ {E : Type 0} (x : Exponent E) (l : Summing x) where
   abbrev mul : List E → List E → List E
@@ -40,22 +30,11 @@ module _ {E : Type 0} (x : Exponent E) (l : Summing x) where
 
   -- ---- exponents by their places
   mul-at : (a b : List E) (i : ℕ) → length a ≡ length b → at (mul a b) i ≡ x .plus (at a i) (at b i)
-  unfolding pointwise
-  mul-at [] [] i h = sym (l .plus-none (x .none))
-  mul-at [] (f ∷ b) i h = let o : ⊥ = omega arith in absurd o
-  mul-at (e ∷ a) [] i h = let o : ⊥ = omega arith in absurd o
-  mul-at (e ∷ a) (f ∷ b) zero h = refl
-  mul-at (e ∷ a) (f ∷ b) (suc i) h = mul-at a b i (omega arith)
+  mul-at a b i h = pointwise-everywhere (x .plus) (x .none) (l .plus-none (x .none)) a b i h
 
   -- a power of one variable times z
-  one-mul : (z : List E) → mul (one (length z)) z ≡ z
-  one-mul z = pointwise-comm (x .plus) (l .plus-comm) (one (length z)) z ∙ pointwise-unit (x .plus) (x .none) (l .plus-none) z
-
   raise : (z : List E) (i : ℕ) (s : E) → i < length z → mul (set (one (length z)) i s) z ≡ set z i (x .plus s (at z i))
-  unfolding pointwise
-  raise [] i s h = let o : ⊥ = omega arith in absurd o
-  raise (e ∷ z) zero s h = ap (_∷_ (x .plus s e)) (one-mul z)
-  raise (e ∷ z) (suc i) s h = ap₂ _∷_ (l .plus-comm (x .none) e ∙ l .plus-none e) (raise z i s (omega arith))
+  raise z i s h = pointwise-raise (x .plus) (x .none) (λ e. l .plus-comm (x .none) e ∙ l .plus-none e) z i s h
 
   -- ---- 1 and the variables make every monomial
   unfoldable degree : List E → ℕ
@@ -152,6 +131,6 @@ module _ {E : Type 0} (x : Exponent E) (l : Summing x) where
       power-other = λ w i j h n. ap (x .number) (variable-at w i j h ∙ getD-set-other (one w) i j (x .once) (x .none) n ∙ fill-at (x .none) w j) ∙ l .number-none;
       power-mul = λ a b i h. ap (x .number) (mul-at a b i h) ∙ l .number-plus (at a i) (at b i);
       over-own = over-own;
-      over-mul = λ a b i n. over-mul x a b i (λ e. l .plus-less e (at b i) n);
+      over-mul = λ a b i n. pointwise-change (x .plus) (x .less) (x .none) a b i (λ e. l .plus-less e (at b i) n);
       built = λ z. build (degree z) (length z) z refl (omega arith);
     }

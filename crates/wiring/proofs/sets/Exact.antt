@@ -28,7 +28,6 @@ use Rattle.wiring.proofs.signals.Laws.{Wide}
 use Rattle.wiring.proofs.terms.Laws.{Fit, exponents-in, exponents-everywhere}
 use Rattle.wiring.proofs.sets.Laws.{placeAt, places-length, places-at, places-width, used-length, used-at, ascending-in, ascending-out}
 
--- ---- the facts
 -- ---- zeros
 zero-all : (l : List ℕ) → T (all (eqb 0) l) → (k : ℕ) → getD l k 0 ≡ 0
 unfolding all

@@ -3,14 +3,14 @@ use mathlib.Core.Path.{_≡_, refl, sym, ap, ap₂, subst, _∙_}
 use mathlib.Core.Logic.{⊎-elim}
 use mathlib.Core.Bool.{Bool, true, false, _&&_}
 use mathlib.Core.List.{List, [], _∷_, List·Memᴰ·cases-cons, Memᴰ·of-map}
-use Prim.Native.Nat.{ℕ, zero, suc, _+_, _*_, _-_, _<_, _≤_}
+use Prim.Native.Nat.{ℕ, suc, _+_, _*_, _-_, _<_, _≤_}
 use native.Mathlib.Omega.{arith}
 use native.Mathlib.Numerals.{add-one}
 use lib.Dec.{T, eqb}
-use lib.ListN.{length, getD, take, drop, length-map, length-drop, drop-of-length-le}
+use lib.ListN.{length, getD, take, drop, length-drop, drop-of-length-le}
 use lib.Seq.{length-take-le, getD-take, drop-cons}
 use Rattle.monomial.specs.Lists.{all, below}
-use Rattle.monomial.specs.Monomial.{Mono, vars, width}
+use Rattle.monomial.specs.Monomial.{Mono, width}
 use Rattle.monomial.specs.Order.{before}
 use Rattle.monomial.specs.Claims.{_∈_, Ascending, empty, first}
 use Rattle.monomial.proofs.Tests.{is→T, is→nT, nT→is, and-l, and-r, and-i, same-test}
@@ -24,12 +24,6 @@ use Rattle.wiring.specs.Terms.{exponentsRight}
 use Rattle.wiring.specs.Sets.{places, sizeOf, setOf, ascending, monomialRight, setRight, monomialsOf, SetReads}
 use Rattle.wiring.specs.declared.sets.SetRead.{SetRead}
 use Rattle.wiring.proofs.terms.Laws.{all-small}
-
--- ---- 1 and the variables
-pub vars-length : (w : ℕ) → length (vars w) ≡ w
-unfolding vars
-vars-length zero = refl
-vars-length (suc w) = ap suc (length-map (vars w) (_∷_ 0) ∙ vars-length w)
 
 -- ---- the places of a record
 -- the six bytes from place i on

@@ -2,12 +2,12 @@
 use mathlib.Core.Path.{_≡_, refl, sym, ap, ap₂, subst, _∙_}
 use mathlib.Core.Logic.{_⊎_, ⊎-elim}
 use mathlib.Core.Bool.{Bool, true, false}
-use mathlib.Core.List.{List, [], _∷_, _++_, map, append-nil, List·Memᴰ·cases-cons, List·Memᴰ·not-nil, List·Memᴰ·append-cases, Memᴰ·append-left, Memᴰ·append-right, Memᴰ·of-map}
+use mathlib.Core.List.{List, [], _∷_, _++_, map, append-nil, List·Memᴰ·not-nil, List·Memᴰ·append-cases, Memᴰ·append-left, Memᴰ·append-right, Memᴰ·of-map}
 use Prim.Native.Nat.{ℕ, zero, suc, _+_, _*_, _/_, _<_, _≤_}
 use native.Mathlib.Omega.{arith}
 use native.Mathlib.Numerals.{add-one}
 use native.Mathlib.Nat.{mul-le-mul-left, mul-le-mul-right}
-use lib.ListN.{length, getD, take, drop, set, length-append, length-map, length-set, length-replicate, drop-of-length-le, List·getD-append}
+use lib.ListN.{length, getD, take, drop, set, length-append, length-map, length-set, drop-of-length-le, List·getD-append}
 use lib.Seq.{paste, length-take-le, getD-take, take-set-lt, take-suc-set, take-all, take-paste, length-paste, drop-cons, append-snoc, getD-append-add, ext-getD}
 use Rattle.monomial.specs.Lists.{any, gather, below}
 use Rattle.monomial.specs.Monomial.{Mono, one, vars, constants, width}
@@ -19,6 +19,7 @@ use Rattle.monomial.proofs.Members.{here, there, take-in, gather-append, map-at
 use Rattle.monomial.proofs.Counting.{at-in, below-length, below-at}
 use Rattle.monomial.proofs.Strips.{strip-length, strip-at}
 use Rattle.monomial.proofs.product.Laws.{atMost-weaken, atMost-mul}
+use Rattle.monomial.proofs.Variables.{constants-fit, vars-length}
 use Rattle.wiring.specs.Panel.{cards, mostSignals, tableBytes, mostProducts}
 use Rattle.wiring.specs.Poly.{Kind, plain}
 use Rattle.wiring.specs.Quadratic.{products}
@@ -126,22 +127,22 @@ module _ {size : ℕ} {t : List Mono} {m : List Monomial} {at : ℕ} (w : Copyin
 
 -- ---- V
 pub signals-length : (n : ℕ) (s : List Mono) → n ≤ width → length (signals width n s) ≡ n + 1 + length s
-unfolding signals vars
+unfolding signals
 signals-length n s h =
-    let front-is : length (take (suc n) (constants width)) ≡ suc n = length-take-le (suc n) (constants width) (omega arith) in
+    let front-is : length (take (suc n) (constants width)) ≡ suc n = length-take-le (suc n) (constants width) (omega (arith, vars-length width)) in
     length-append (take (suc n) (constants width)) s ∙ omega arith
 
 -- the constants and then the set, each by its number
 pub signals-constant : (n : ℕ) (s : List Mono) (i : ℕ) (d : Mono) → n ≤ width → i ≤ n → getD (signals width n s) i d ≡ getD (constants width) i d
-unfolding signals vars
+unfolding signals
 signals-constant n s i d h k =
-    let front-is : length (take (suc n) (constants width)) ≡ suc n = length-take-le (suc n) (constants width) (omega arith) in
+    let front-is : length (take (suc n) (constants width)) ≡ suc n = length-take-le (suc n) (constants width) (omega (arith, vars-length width)) in
     List·getD-append (take (suc n) (constants width)) s d i (omega arith) ∙ getD-take (suc n) (constants width) i d (omega arith)
 
 pub signals-new : (n : ℕ) (s : List Mono) (j : ℕ) (d : Mono) → n ≤ width → getD (signals width n s) (n + 1 + j) d ≡ getD s j d
-unfolding signals vars
+unfolding signals
 signals-new n s j d h =
-    let front-is : length (take (suc n) (constants width)) ≡ n + 1 = length-take-le (suc n) (constants width) (omega arith) ∙ sym (add-one n) in
+    let front-is : length (take (suc n) (constants width)) ≡ n + 1 = length-take-le (suc n) (constants width) (omega (arith, vars-length width)) ∙ sym (add-one n) in
     ap (λ (k : ℕ). getD (signals width n s) (k + j) d) (sym front-is) ∙ getD-append-add (take (suc n) (constants width)) s j d
 
 -- 1 and the variables are in V of every set, and so are the set's own monomials
@@ -200,28 +201,6 @@ module _ {n len : ℕ} {u m : List Monomial} {at : ℕ} (r : Signalling n len u 
 
   pub signalling-end : at ≡ n + 1 + len → front (n + 1 + len) m ≡ signals width n (front len u)
   signalling-end p = subst (λ (k : ℕ). front k m ≡ signals width n (front len u)) p (copying-end (r .copying) (omega (arith, many)))
-
--- 1 and the variables have their width, and exponents of at most 1
-one-fits : (b w : ℕ) → AtMost b (one w)
-one-fits b zero = tt
-one-fits b (suc w) = (omega arith, one-fits b w)
-
-vars-fit : (b w : ℕ) → 1 ≤ b → (m : Mono) → m ∈ vars w → (length m ≡ w) × AtMost b m
-unfolding vars
-vars-fit b zero h m k = absurd (List·Memᴰ·not-nil k)
-vars-fit b (suc w) h m k = ⊎-elim first (later (vars-fit b w h)) (List·Memᴰ·cases-cons k)
-  where
-    first : m ≡ 1 ∷ one w → (length m ≡ suc w) × AtMost b m
-    first e = rw e (ap suc (length-replicate w 0), (h, one-fits b w))
-
-    later : ((z : Mono) → z ∈ vars w → (length z ≡ w) × AtMost b z) → m ∈ map (_∷_ 0) (vars w) → (length m ≡ suc w) × AtMost b m
-    later fit n =
-        let p : (z : Mono) × (z ∈ vars w) × (0 ∷ z ≡ m) = Memᴰ·of-map (_∷_ 0) (vars w) n in
-        let q = fit (p .0) (p .1) in
-        rw (sym (p .2)) (ap suc (q .0), (omega arith, q .1))
-
-pub constants-fit : (b w : ℕ) → 1 ≤ b → (m : Mono) → m ∈ constants w → (length m ≡ w) × AtMost b m
-constants-fit b w h m k = ⊎-elim (λ e. rw e (length-replicate w 0, one-fits b w)) (vars-fit b w h m) (List·Memᴰ·cases-cons k)
 
 pub signals-fitting : (b n : ℕ) (s : List Mono) → 1 ≤ b → Fitting b s → Fitting b (signals width n s)
 unfolding signals

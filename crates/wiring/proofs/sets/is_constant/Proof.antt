@@ -5,8 +5,8 @@ use native.Mathlib.Omega.{arith}
 use Rattle.monomial.specs.Monomial.{one, constants, width}
 use Rattle.monomial.specs.Order.{same}
 use Rattle.monomial.proofs.Loops.{Seeking, seeking-start, seeking-found, seeking-on, seeking-ends}
-use Rattle.wiring.proofs.sets.Laws.{vars-length}
 use borrow.Author.Needs.{needs}
+use Rattle.monomial.proofs.Variables.{vars-length}
 use Rattle.wiring.proofs.sets.is_constant.Statement.{statement}
 use Rattle.wiring.proofs.sets.is_constant.Tie as tie
 
