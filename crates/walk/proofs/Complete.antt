@@ -28,7 +28,7 @@ use Rattle.wiring.proofs.quadratic.Definition1.{no-members}
 use Rattle.wiring.proofs.signals.Laws.{base-in, signals-cases}
 use Rattle.walk.specs.Walk.{Rules, child, found, ends, opened}
 use Rattle.walk.proofs.Rules.{Wide, Orderly, Extends, extends-self, extends-on, extends-lower, extends-upper, opens-is, goes-on, Sparing}
-use Rattle.walk.proofs.Sound.{find-in, find-on}
+use Rattle.walk.proofs.Openings.{Parted, below-in, find-in}
 use Rattle.walk.proofs.children.Laws.{chosen-in, signals-grow, signals-wide, Grown, old, left, right, child-sub, child-out, child-asc, split-longer}
 
 module _ (n : ℕ) (fs : List (Poly Mono)) where
@@ -129,7 +129,7 @@ module _ (r : Rules) (o : Orderly r) (n : ℕ) (fs : List (Poly Mono)) (spares :
   reached t at wide q ht (suc d) s a ext h = go (missing n fs s) refl (reached t at wide q ht d)
     where
       go : (l : List Mono) → missing n fs s ≡ l → ((c : List Mono) → Ascending before c → Extends r c t → k < length c + d → Met t d c) → Met t (suc d) s
-      go [] e ih = record { set = s; ascending = a; extends = extends-self r s; within = ext .holds; quadratic = e; listed = find-in r o n fs k d s e }
+      go [] e ih = record { set = s; ascending = a; extends = extends-self r s; within = ext .holds; quadratic = e; listed = find-in r n fs k d s e }
       go (m ∷ l) e ih =
           let gap : chosen m l ∈ missing n fs s = subst (λ u. chosen m l ∈ u) (sym e) (chosen-in m l) in
           let w : Towards n fs s t (chosen m l) = towards n fs s t (chosen m l) a (ext .holds) wide q gap in
@@ -141,13 +141,15 @@ module _ (r : Rules) (o : Orderly r) (n : ℕ) (fs : List (Poly Mono)) (spares :
           let own : Extends r s c = extends-lower r s c t ext up (w .within) in
           let x : Met t d c = ih c ac (extends-upper r s c t ext up (w .within)) (omega arith) in
           let on : ends r n k s (m ∷ l) ≡ false = not-closed r n fs spares k s t (m ∷ l) a at wide ext q ht e (omega arith) in
+          let parted : Parted r n fs k s (w .pair) =
+          record { first = m; others = l; are = e; on = on; listed = w .listed; taken = opens-is r n k s (w .pair) own (omega arith) } in
           record {
             set = x .set;
             ascending = x .ascending;
             extends = extends-on r s c (x .set) own (x .extends);
             within = x .within;
             quadratic = x .quadratic;
-            listed = find-on r o n fs k d s m l e (x .set) (w .pair) on (w .listed) (opens-is r n k s (w .pair) own (omega arith)) (x .listed);
+            listed = below-in r o n fs k d s (w .pair) (found (x .set)) parted (x .listed);
           }
 
   -- t itself, where no quadratic set between s and t is smaller
