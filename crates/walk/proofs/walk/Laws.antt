@@ -35,7 +35,7 @@ use Rattle.walk.specs.declared.walk.Turn.{Turn}
 use Rattle.walk.specs.declared.walk.Turn.the-variants.{Going, Spent, Full}
 use Rattle.walk.specs.Walk.{Finds, Rules, child, Taken, pair, opening, Step, found, other, opens, ends, tried, triedAll, after, opened, Run, ended, spent, full, kept, onward, run}
 use Rattle.walk.specs.Listing.{Shown}
-use Rattle.walk.specs.Turns.{Walked, Ended, Tells, Sheet, Closed, Split, JudgedBy, Judged}
+use Rattle.walk.specs.Turns.{Walked, Ended, Tells, Showing, NothingFollows, PairsFollow, SteppedBy, Stepped}
 use Rattle.walk.proofs.children.Laws.{walked-54}
 use Rattle.walk.proofs.Steps.{run-append, run-stops, run-other, run-last, opened-found, opened-ends, opened-split}
 
@@ -203,13 +203,13 @@ pub choice-member : (ns : List Mono) (m first : Mono) (others : List Mono) → n
 choice-member ns m first others e i =
     subst (λ (l : List Mono). m ∈ l) (sym e) (subst (λ (x : Mono). x ∈ (first ∷ others)) (sym i) (chosen-best first others .0))
 
--- ---- what was judged, by the word of the code
+-- ---- what follows the step of an opening, by the word of the code
 module _ (r : Rules) (n : ℕ) (terms : List ℕ) (level limit : ℕ) (set : Set) (st : State) (out₀ : List ℕ) (o : Opened) (out : List ℕ) where
-  pub judged-closed : o .split ≡ false → Judged r n terms level limit set st out₀ o out → Closed r n terms level limit set st out₀ (o .turn) out
-  judged-closed e j = subst (λ (b : Bool). JudgedBy r n terms level limit set st out₀ b o out) e j
+  pub nothing-follows : o .split ≡ false → Stepped r n terms level limit set st out₀ o out → NothingFollows r n terms level limit set st out₀ (o .turn) out
+  nothing-follows e j = subst (λ (b : Bool). SteppedBy r n terms level limit set st out₀ b o out) e j
 
-  pub judged-split : o .split ≡ true → Judged r n terms level limit set st out₀ o out → Split r n terms level limit set st out₀ (o .m .e) out
-  judged-split e j = subst (λ (b : Bool). JudgedBy r n terms level limit set st out₀ b o out) e j
+  pub pairs-follow : o .split ≡ true → Stepped r n terms level limit set st out₀ o out → PairsFollow r n terms level limit set st out₀ (o .m .e) out
+  pairs-follow e j = subst (λ (b : Bool). SteppedBy r n terms level limit set st out₀ b o out) e j
 
 -- ---- the loop of the pair runner: the run of what is left is that of the whole, for every depth and every list of finds that the buffer showed
 module _ (r : Rules) (n : ℕ) (terms : List ℕ) (level limit : ℕ) (set : Set) (m : Mono) (st₀ : State) (out₀ : List ℕ) where
@@ -234,8 +234,8 @@ module _ (r : Rules) (n : ℕ) (terms : List ℕ) (level limit : ℕ) (set : Set
   }
 
   -- the buffer still shows some finds
-  pub running-sheet : (a : Mono) (cur : State) (out : List ℕ) → Running a cur out → Sheet (st₀ .count) out₀ → Sheet (cur .count) out
-  running-sheet a cur out u s =
+  pub running-showing : (a : Mono) (cur : State) (out : List ℕ) → Running a cur out → Showing (st₀ .count) out₀ → Showing (cur .count) out
+  running-showing a cur out u s =
       let x = u .stands (level - set .len) (s .finds) (omega arith) (s .shown) in
       record { finds = x .finds; shown = x .shown }
 
