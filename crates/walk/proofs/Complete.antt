@@ -27,8 +27,9 @@ use Rattle.wiring.proofs.quadratic.Laws.{Factors, inV2-in, inV2-out, unmet-in, 
 use Rattle.wiring.proofs.quadratic.Definition1.{no-members}
 use Rattle.wiring.proofs.signals.Laws.{base-in, signals-cases}
 use Rattle.walk.specs.Walk.{Rules, child, found, ends, opened}
+use Rattle.walk.specs.Openings.{Parted}
 use Rattle.walk.proofs.Rules.{Wide, Orderly, Extends, extends-self, extends-on, extends-lower, extends-upper, opens-is, goes-on, Sparing}
-use Rattle.walk.proofs.Openings.{Parted, below-in, find-in}
+use Rattle.walk.proofs.Openings.{below-in, find-in}
 use Rattle.walk.proofs.children.Laws.{chosen-in, signals-grow, signals-wide, Grown, old, left, right, child-sub, child-out, child-asc, split-longer}
 
 module _ (n : ℕ) (fs : List (Poly Mono)) where

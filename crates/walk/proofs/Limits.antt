@@ -20,14 +20,15 @@ use Rattle.wiring.specs.Answers.{missing}
 use Rattle.wiring.proofs.signals.Laws.{signals-cases, constants-fit}
 use Rattle.wiring.proofs.derivative.Records.{summed}
 use Rattle.wiring.proofs.derivative.Bounds.{sum-fits, total-fits}
-use Rattle.walk.specs.Walk.{Rules, child, openings, level}
+use Rattle.walk.specs.Walk.{Rules, level}
+use Rattle.walk.specs.Openings.{openings}
 use Rattle.walk.specs.Turns.{Walked}
 use Rattle.walk.proofs.Rules.{Orderly, opens-fits}
-use Rattle.walk.proofs.Openings.{Kept, opened-keep}
+use Rattle.walk.proofs.Openings.{Inherited, opened-keep}
 use Rattle.walk.proofs.children.Laws.{nonsquare-fits, child-walked, walked-54}
 
 module _ (r : Rules) (o : Orderly r) (begins : Walked (r .start)) (n : ℕ) (terms : List ℕ) (clean : CleanTerms terms) (k : ℕ) (low : k ≤ cards) where
-  keeps-walked : Kept r n (system (records terms)) k Walked
+  keeps-walked : Inherited r n (system (records terms)) k Walked
   keeps-walked s m p w h j f = child-walked terms clean n s w m h p j (omega (arith, opens-fits r n k s p f))
 
   -- a set that a step of level k opens

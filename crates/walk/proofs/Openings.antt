@@ -1,9 +1,9 @@
 -- The steps of an opened set, by any rules, each of one origin: the set's own, a pair of it, or below a child that is opened. So whatever each
 -- child keeps of its set, each set that a step opens keeps; and a level opens the start and the children of what it opens, no other set.
 -- Assumes nothing.
-use mathlib.Core.Path.{_≡_, refl, sym, ap, _∙_, subst}
+use mathlib.Core.Path.{_≡_, refl, sym, _∙_, subst}
 use mathlib.Core.Logic.{_⊎_, inl, inr, ⊎-elim, _↔_}
-use mathlib.Core.Bool.{true, false}
+use mathlib.Core.Bool.{false}
 use mathlib.Core.List.{List, [], _∷_, List·Memᴰ·cases-cons, List·Memᴰ·not-nil}
 use Prim.Native.Nat.{ℕ, zero, suc, _+_, _<_, _≤_}
 use native.Mathlib.Omega.{arith}
@@ -15,11 +15,13 @@ use Rattle.monomial.specs.Divisors.{pairs}
 use Rattle.monomial.proofs.Tests.{Tested, passed, failed, test, is→T}
 use Rattle.monomial.proofs.Members.{_∈_, here, there, gather-in, gather-out, Gathered}
 use Rattle.monomial.proofs.order.Ascending.{_⊆_, Ascending}
+use Rattle.wiring.specs.Panel.{width}
 use Rattle.wiring.specs.Poly.{Poly}
 use Rattle.wiring.specs.Choice.{chosen}
 use Rattle.wiring.specs.Signals.{signals}
 use Rattle.wiring.specs.Answers.{missing}
-use Rattle.walk.specs.Walk.{Finds, Rules, child, pair, opening, Step, found, other, openedBy, openings, opens, ends, tried, triedAll, opened, level}
+use Rattle.walk.specs.Walk.{Finds, Rules, child, pair, opening, Step, found, other, opens, ends, tried, triedAll, opened, level}
+use Rattle.walk.specs.Openings.{openedBy, openings, Parted, ChildOf}
 use Rattle.walk.proofs.Rules.{Orderly, tries-in, tries-out, opens-fits}
 use Rattle.walk.proofs.Steps.{opened-found, opened-ends, opened-split, tried-open, tried-shut, level-opens, level-out}
 use Rattle.walk.proofs.children.Laws.{chosen-in, child-asc, split-longer}
@@ -29,20 +31,11 @@ only : {A : Type 0} {x y : A} → x ∈ (y ∷ []) → x ≡ y
 only h = ⊎-elim (λ e. e) (λ j. absurd (List·Memᴰ·not-nil j)) (List·Memᴰ·cases-cons h)
 
 -- each child that the walk opens keeps P of its set
-abbrev pub Kept : Rules → ℕ → List (Poly Mono) → ℕ → (List Mono → Type 0) → Type 0
-Kept r n fs k P = (s : List Mono) (m : Mono) (p : Mono × Mono) → P s → m ∈ missing n fs s → p ∈ pairs m → T (opens r n k s p) → P (child n s p)
+abbrev pub Inherited : Rules → ℕ → List (Poly Mono) → ℕ → (List Mono → Type 0) → Type 0
+Inherited r n fs k P = (s : List Mono) (m : Mono) (p : Mono × Mono) → P s → m ∈ missing n fs s → p ∈ pairs m → T (opens r n k s p) → P (child n s p)
 
 module _ (r : Rules) (n : ℕ) (fs : List (Poly Mono)) (k : ℕ) where
-  -- a set that goes on at level k, and a pair of the nonsquare that is chosen of it whose child is opened
-  pub record Parted (s : List Mono) (p : Mono × Mono) : Type 0 where
-    pub first : Mono
-    pub others : List Mono
-    pub are : missing n fs s ≡ first ∷ others
-    pub on : ends r n k s (first ∷ others) ≡ false
-    pub listed : p ∈ pairs (chosen first others)
-    pub taken : opens r n k s p ≡ true
-
-  parted-gap : (s : List Mono) (p : Mono × Mono) (q : Parted s p) → chosen (q .first) (q .others) ∈ missing n fs s
+  parted-gap : (s : List Mono) (p : Mono × Mono) (q : Parted r n fs k s p) → chosen (q .first) (q .others) ∈ missing n fs s
   parted-gap s p q = subst (λ l. chosen (q .first) (q .others) ∈ l) (sym (q .are)) (chosen-in (q .first) (q .others))
 
   -- a set without nonsquares is found
@@ -54,7 +47,7 @@ module _ (r : Rules) (n : ℕ) (fs : List (Poly Mono)) (k : ℕ) where
     own-find : missing n fs s ≡ [] → x ≡ found s → From d s x
     own : (m : Mono) (l : List Mono) → missing n fs s ≡ m ∷ l → x ≡ other (opening s) → From d s x
     own-pair : x ≡ other pair → From d s x
-    below : (p : Mono × Mono) → Parted s p → x ∈ opened r n fs k d (child n s p) → From d s x
+    below : (p : Mono × Mono) → Parted r n fs k s p → x ∈ opened r n fs k d (child n s p) → From d s x
 
 module _ (r : Rules) (o : Orderly r) (n : ℕ) (fs : List (Poly Mono)) (k : ℕ) where
   tried-from : (d : ℕ) (s : List Mono) (x : Step) (m : Mono) (l : List Mono) (p : Mono × Mono) → missing n fs s ≡ m ∷ l → ends r n k s (m ∷ l) ≡ false
@@ -76,9 +69,9 @@ module _ (r : Rules) (o : Orderly r) (n : ℕ) (fs : List (Poly Mono)) (k : ℕ)
         where
           later : x ∈ triedAll r n fs k (opened r n fs k d) s (chosen m l) → From r n fs k d s x
           later j =
-              let two : List (Mono × Mono) = r .tries (signals 6 n s) (chosen m l) in
+              let two : List (Mono × Mono) = r .tries (signals width n s) (chosen m l) in
               let g : Gathered (tried r n fs k (opened r n fs k d) s) x two = gather-out (tried r n fs k (opened r n fs k d) s) two j in
-              tried-from d s x m l (g .entry) e b (tries-out r o (signals 6 n s) (chosen m l) (g .entry) (g .member)) (g .inside)
+              tried-from d s x m l (g .entry) e b (tries-out r o (signals width n s) (chosen m l) (g .entry) (g .member)) (g .inside)
 
       go : (l : List Mono) → missing n fs s ≡ l → From r n fs k d s x
       go [] e = own-find e (only (subst (λ es. x ∈ es) (opened-found r n fs k d s e) h))
@@ -88,18 +81,18 @@ module _ (r : Rules) (o : Orderly r) (n : ℕ) (fs : List (Poly Mono)) (k : ℕ)
   pub below-in : (d : ℕ) (s : List Mono) (p : Mono × Mono) (x : Step) → Parted r n fs k s p → x ∈ opened r n fs k d (child n s p) → x ∈ opened r n fs k (suc d) s
   below-in d s p x q h =
       let m : Mono = chosen (q .first) (q .others) in
-      let two : List (Mono × Mono) = r .tries (signals 6 n s) m in
+      let two : List (Mono × Mono) = r .tries (signals width n s) m in
       let own : x ∈ tried r n fs k (opened r n fs k d) s p = subst (λ es. x ∈ es) (sym (tried-open r n fs k (opened r n fs k d) s p (q .taken))) (there h) in
-      let later = gather-in (tried r n fs k (opened r n fs k d) s) two (tries-in r o (signals 6 n s) m p (q .listed)) own in
+      let later = gather-in (tried r n fs k (opened r n fs k d) s) two (tries-in r o (signals width n s) m p (q .listed)) own in
       subst (λ es. x ∈ es) (sym (opened-split r n fs k d s (q .first) (q .others) (q .are) (q .on))) (there later)
 
   -- ---- what each child keeps of its set, each opened set keeps; and exactly the quadratic ones are found
-  abbrev pub Keeps : (List Mono → Type 0) → Step → Type 0
-  Keeps P (found t) = P t × (missing n fs t ≡ [])
-  Keeps P (other (opening t)) = P t × (missing n fs t ≡ [] → ⊥)
-  Keeps P (other pair) = Unit {0}
+  abbrev pub StepHolds : (List Mono → Type 0) → Step → Type 0
+  StepHolds P (found t) = P t × (missing n fs t ≡ [])
+  StepHolds P (other (opening t)) = P t × (missing n fs t ≡ [] → ⊥)
+  StepHolds P (other pair) = Unit {0}
 
-  pub steps-keep : (P : List Mono → Type 0) → Kept r n fs k P → (d : ℕ) (s : List Mono) (x : Step) → P s → x ∈ opened r n fs k d s → Keeps P x
+  pub steps-keep : (P : List Mono → Type 0) → Inherited r n fs k P → (d : ℕ) (s : List Mono) (x : Step) → P s → x ∈ opened r n fs k d s → StepHolds P x
   unfolding opened
   steps-keep P keeps zero s x p h = absurd (List·Memᴰ·not-nil h)
   steps-keep P keeps (suc d) s x p h = go (step-from d s x h) (λ c. steps-keep P keeps d c x)
@@ -107,19 +100,19 @@ module _ (r : Rules) (o : Orderly r) (n : ℕ) (fs : List (Poly Mono)) (k : ℕ)
       some : (m : Mono) (l : List Mono) → missing n fs s ≡ m ∷ l → missing n fs s ≡ [] → ⊥
       some m l e f = List·Memᴰ·not-nil (subst (λ (y : List Mono). m ∈ y) (sym e ∙ f) here)
 
-      go : From r n fs k d s x → ((c : List Mono) → P c → x ∈ opened r n fs k d c → Keeps P x) → Keeps P x
-      go (own-find e q) ih = subst (Keeps P) (sym q) (p, e)
-      go (own m l e q) ih = subst (Keeps P) (sym q) (p, some m l e)
-      go (own-pair q) ih = subst (Keeps P) (sym q) tt
+      go : From r n fs k d s x → ((c : List Mono) → P c → x ∈ opened r n fs k d c → StepHolds P x) → StepHolds P x
+      go (own-find e q) ih = subst (StepHolds P) (sym q) (p, e)
+      go (own m l e q) ih = subst (StepHolds P) (sym q) (p, some m l e)
+      go (own-pair q) ih = subst (StepHolds P) (sym q) tt
       go (below c q j) ih =
           ih (child n s c) (keeps s (chosen (q .first) (q .others)) c p (parted-gap r n fs k s c q) (q .listed) (is→T (opens r n k s c) (q .taken))) j
 
-  openings-keep : (P : List Mono → Type 0) (x : Step) (t : List Mono) → t ∈ openedBy x → Keeps P x → P t
+  openings-keep : (P : List Mono → Type 0) (x : Step) (t : List Mono) → t ∈ openedBy x → StepHolds P x → P t
   openings-keep P (found u) t i h = subst P (sym (only i)) (h .0)
   openings-keep P (other (opening u)) t i h = subst P (sym (only i)) (h .0)
   openings-keep P (other pair) t i h = absurd (List·Memᴰ·not-nil i)
 
-  pub opened-keep : (P : List Mono → Type 0) → Kept r n fs k P → P (r .start) → (t : List Mono) → t ∈ openings (level r n fs k) → P t
+  pub opened-keep : (P : List Mono → Type 0) → Inherited r n fs k P → P (r .start) → (t : List Mono) → t ∈ openings (level r n fs k) → P t
   opened-keep P keeps p t h =
       let g : Gathered openedBy t (level r n fs k) = gather-out openedBy (level r n fs k) h in
       openings-keep P (g .entry) t (g .inside) (steps-keep P keeps (suc k) (r .start) (g .entry) p (level-out r n fs k (g .entry) (g .member) .1))
@@ -173,23 +166,15 @@ module _ (r : Rules) (o : Orderly r) (n : ℕ) (fs : List (Poly Mono)) (k : ℕ)
   unfolding opened
   none-opened s t h = List·Memᴰ·not-nil (gather-out openedBy (opened r n fs k zero s) h .member)
 
-  -- t is the child by a pair of one of these sets
-  pub record ChildOf (sets : Finds) (t : List Mono) : Type 0 where
-    pub of : List Mono
-    pub of-in : of ∈ sets
-    pub by : Mono × Mono
-    pub parted : Parted r n fs k of by
-    pub is : t ≡ child n of by
-
-  child-of-more : (a b : Finds) (t : List Mono) → a ⊆ b → ChildOf a t → ChildOf b t
+  child-of-more : (a b : Finds) (t : List Mono) → a ⊆ b → ChildOf r n fs k a t → ChildOf r n fs k b t
   child-of-more a b t f c = record { of = c .of; of-in = f (c .of) (c .of-in); by = c .by; parted = c .parted; is = c .is }
 
-  opened-out : (d : ℕ) (s t : List Mono) → t ∈ openings (opened r n fs k d s) → (t ≡ s) ⊎ ChildOf (openings (opened r n fs k d s)) t
+  opened-out : (d : ℕ) (s t : List Mono) → t ∈ openings (opened r n fs k d s) → (t ≡ s) ⊎ ChildOf r n fs k (openings (opened r n fs k d s)) t
   opened-out zero s t h = absurd (none-opened s t h)
   opened-out (suc d) s t h = ⊎-elim (λ e. inl e) (λ x. inr (later x (opened-out d (child n s (x .by)) t (x .inside)))) (opening-from d s t h)
     where
-      later : (x : Deeper d s t) → (t ≡ child n s (x .by)) ⊎ ChildOf (openings (opened r n fs k d (child n s (x .by)))) t
-          → ChildOf (openings (opened r n fs k (suc d) s)) t
+      later : (x : Deeper d s t) → (t ≡ child n s (x .by)) ⊎ ChildOf r n fs k (openings (opened r n fs k d (child n s (x .by)))) t
+          → ChildOf r n fs k (openings (opened r n fs k (suc d) s)) t
       later x =
           let c : List Mono = child n s (x .by) in
           ⊎-elim
@@ -220,20 +205,17 @@ module _ (r : Rules) (o : Orderly r) (n : ℕ) (fs : List (Poly Mono)) (k : ℕ)
       (opening-from d s t h)
 
   pub opened-exact : Ascending before (r .start) → (t : List Mono)
-      → (t ∈ openings (level r n fs k)) ↔ (((length (r .start) ≤ k) × (t ≡ r .start)) ⊎ ChildOf (openings (level r n fs k)) t)
+      → (t ∈ openings (level r n fs k)) ↔ (((length (r .start) ≤ k) × (t ≡ r .start)) ⊎ ChildOf r n fs k (openings (level r n fs k)) t)
   opened-exact a t = (out, ⊎-elim start step)
     where
-      steps : List Step
-      steps = opened r n fs k (suc k) (r .start)
-
-      out : t ∈ openings (level r n fs k) → ((length (r .start) ≤ k) × (t ≡ r .start)) ⊎ ChildOf (openings (level r n fs k)) t
+      out : t ∈ openings (level r n fs k) → ((length (r .start) ≤ k) × (t ≡ r .start)) ⊎ ChildOf r n fs k (openings (level r n fs k)) t
       out h =
           let g : Gathered openedBy t (level r n fs k) = gather-out openedBy (level r n fs k) h in
           let i = level-out r n fs k (g .entry) (g .member) .0 in
           let same = level-opens r n fs k i in
           ⊎-elim
           (λ e. inl (i, e))
-          (λ c. inr (subst (λ (l : List Step). ChildOf (openings l) t) (sym same) c))
+          (λ c. inr (subst (λ (l : List Step). ChildOf r n fs k (openings l) t) (sym same) c))
           (opened-out (suc k) (r .start) t (subst (λ (l : List Step). t ∈ openings l) same h))
 
       start : (length (r .start) ≤ k) × (t ≡ r .start) → t ∈ openings (level r n fs k)
@@ -241,7 +223,7 @@ module _ (r : Rules) (o : Orderly r) (n : ℕ) (fs : List (Poly Mono)) (k : ℕ)
           subst (λ (l : List Step). t ∈ openings l) (sym (level-opens r n fs k (h .0)))
           (subst (λ (u : List Mono). u ∈ openings (opened r n fs k (suc k) (r .start))) (sym (h .1)) (self-opened (suc k) (r .start) (omega arith)))
 
-      step : ChildOf (openings (level r n fs k)) t → t ∈ openings (level r n fs k)
+      step : ChildOf r n fs k (openings (level r n fs k)) t → t ∈ openings (level r n fs k)
       step c =
           let g : Gathered openedBy (c .of) (level r n fs k) = gather-out openedBy (level r n fs k) (c .of-in) in
           let same = level-opens r n fs k (level-out r n fs k (g .entry) (g .member) .0) in

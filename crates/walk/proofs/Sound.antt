@@ -2,40 +2,33 @@
 -- its exponents are small, and it says nothing of variables beyond xn. Assumes nothing.
 use mathlib.Core.Path.{_≡_, refl, sym, ap, _∙_, subst}
 use mathlib.Core.Logic.{⊎-elim}
-use mathlib.Core.Bool.{true, false}
 use mathlib.Core.List.{List, [], _∷_, map, List·Memᴰ·head, List·Memᴰ·cases-cons, List·Memᴰ·not-nil, Memᴰ·map, Memᴰ·of-map}
 use Prim.Native.Nat.{ℕ, zero, suc, _-_, _<_, _≤_}
 use native.Mathlib.Omega.{arith}
 use lib.Dec.{T, leb}
-use lib.IntN.{natAbs}
 use lib.ListN.{length, getD, set, take}
 use Rattle.monomial.specs.Lists.{pairwise, pointwise}
 use Rattle.monomial.specs.Monomial.{Mono, one, vars, constants}
 use Rattle.monomial.specs.Product.{mul, AtMost}
 use Rattle.monomial.specs.Quotient.{divides}
-use Rattle.monomial.specs.Divisors.{pairs}
-use Rattle.monomial.proofs.Tests.{Tested, passed, failed, test, is→T, and-r}
-use Rattle.monomial.proofs.Members.{_∈_, here, there, gather-in, gather-out, Gathered, take-in}
-use Rattle.monomial.proofs.product.Laws.{mul-comm, atMost-weaken, atMost-mul, atMost-at, atMost-all}
+use Rattle.monomial.proofs.Tests.{and-r}
+use Rattle.monomial.proofs.Members.{_∈_, there}
+use Rattle.monomial.proofs.product.Laws.{mul-comm, atMost-mul, atMost-at, atMost-all}
 use Rattle.monomial.proofs.quotient.Laws.{factor-divides, atMost-divides}
 use Rattle.monomial.proofs.divisors.Pairs.{Splits, pairs-out}
-use Rattle.wiring.specs.Poly.{Poly, plain, coeff}
-use Rattle.wiring.specs.Choice.{chosen}
-use Rattle.wiring.specs.Derivative.{derivative, power}
-use Rattle.wiring.specs.Signals.{signals}
+use Rattle.wiring.specs.Poly.{Poly}
+use Rattle.wiring.specs.Derivative.{power}
 use Rattle.wiring.specs.Terms.{Record, records, fault, system, CleanTerms}
 use Rattle.wiring.specs.Answers.{missing}
 use Rattle.wiring.specs.declared.terms.Fault.the-variants.{Clean}
 use Rattle.wiring.proofs.terms.Laws.{Fields, fields-out, clean-right, clean-widens, exponents-everywhere}
-use Rattle.wiring.proofs.signals.Laws.{base, base-in, signals-cases, constants-fit}
-use Rattle.wiring.proofs.derivative.Records.{summed}
-use Rattle.wiring.proofs.derivative.Bounds.{sum-fits, total-fits}
+use Rattle.wiring.proofs.signals.Laws.{base, base-in, signals-cases}
 use Rattle.wiring.proofs.sets.Exact.{Recordable}
 use Rattle.walk.specs.Walk.{Rules, child, found, opened}
 use Rattle.walk.specs.Turns.{Walked}
 use Rattle.walk.proofs.Rules.{Orderly, Extends, extends-self, extends-on, opens-fits, opens-extends}
-use Rattle.walk.proofs.Openings.{Kept, steps-keep}
-use Rattle.walk.proofs.children.Laws.{chosen-in, Grown, old, left, right, child-out, Imaged, imaged, nonsquare-fits, child-walked, walked-54}
+use Rattle.walk.proofs.Openings.{Inherited, steps-keep}
+use Rattle.walk.proofs.children.Laws.{Grown, old, left, right, child-out, Imaged, imaged, child-walked, walked-54}
 
 -- ---- variables beyond xn
 -- no exponent from number n on
@@ -146,7 +139,7 @@ module _ (n : ℕ) (terms : List ℕ) (clean : fault n (records terms) ≡ Clean
         let high : r .equation ≤ n = f .high in
         subst (Within n) (i .from .is) (within-mul n (set (i .of) at e) (r .monomial) (within-set n (i .of) at e (omega arith) own) term)
 
-    pub keeps-proper : (r : Rules) (k : ℕ) → Kept r n fs k (Proper n)
+    pub keeps-proper : (r : Rules) (k : ℕ) → Inherited r n fs k (Proper n)
     keeps-proper r k s m p q h j f = record { new = λ x i. new-of x (child-out n s p i); within = λ x i. within-of x (child-out n s p i) }
       where
         two : Splits p m
@@ -181,7 +174,7 @@ module _ (r : Rules) (o : Orderly r) (n : ℕ) (terms : List ℕ) (six : CleanTe
     pub short : length s ≤ k
     pub walked : Walked s
 
-  keeps-climbed : (s₀ : List Mono) → Kept r n (system (records terms)) k (Climbed s₀)
+  keeps-climbed : (s₀ : List Mono) → Inherited r n (system (records terms)) k (Climbed s₀)
   keeps-climbed s₀ s m p c h j f =
       let fits : length (child n s p) ≤ k = opens-fits r n k s p f in
       record {

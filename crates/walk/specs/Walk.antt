@@ -53,16 +53,6 @@ pub data Step : Type 0 where
   found : List Mono → Step
   other : Taken → Step
 
--- the set that a step opens, found or not; trying a pair opens none
-abbrev pub openedBy : Step → Finds
-openedBy (found s) = s ∷ []
-openedBy (other (opening s)) = s ∷ []
-openedBy (other pair) = []
-
--- the sets that steps open, one after the other
-abbrev pub openings : List Step → Finds
-openings es = gather openedBy es
-
 module _ (r : Rules) (n k : ℕ) where
   -- whether the child of a pair is opened at level k: what it adds to V may be, and it has at most k monomials
   unfoldable pub opens : List Mono → Mono × Mono → Bool
