@@ -1,10 +1,10 @@
 -- What C gets of each call, said of the five numbers and the bytes alone: whose reply they are and what it means; done, none, full and spent of
 -- planning, and done of checking and wiring, by their numbers. Assumes nothing.
-use mathlib.Core.Path.{_≡_, refl, sym, ap, _∙_, subst}
+use mathlib.Core.Path.{_≡_, sym, ap, _∙_}
 use mathlib.Core.Logic.{_↔_}
 use mathlib.Core.List.{List, [], _∷_}
-use Prim.Native.Nat.{ℕ, suc, _/_, _≤_}
-use lib.ListN.{length, replicate}
+use Prim.Native.Nat.{ℕ, _/_}
+use lib.ListN.{length}
 use Rattle.wiring.specs.Panel.{setBytes}
 use Rattle.wiring.specs.Poly.{plain}
 use Rattle.wiring.specs.Quadratic.{Quadratic}
@@ -16,7 +16,7 @@ use Rattle.wiring.specs.declared.reply.Reply.{Reply}
 use Rattle.wiring.specs.declared.reply.Reply.the-variants.{Done, Setting, Length, Term, Twice, Nothing, Full, Spent, BadSet, NotQuadratic}
 use Rattle.wiring.proofs.reply.Laws.{same-reply}
 use Rattle.wiring.proofs.answers.Exact.{WellFormed, signalsIn, derivativeIn, CheckSays, verdict-says, check-exact}
-use Rattle.wiring.proofs.answers.Wired.{WireSays, Patch, wire-exact, wire-replies, wire-done}
+use Rattle.wiring.proofs.answers.Wired.{Patch, wire-exact, wire-replies, wire-done}
 use Rattle.walk.specs.Walk.{bare}
 use Rattle.walk.specs.Plan.{planned}
 use Rattle.walk.proofs.Stops.{Lacks, Fills, Spends}
