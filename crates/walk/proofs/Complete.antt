@@ -8,7 +8,7 @@ use Prim.Native.Nat.{ℕ, zero, suc, _+_, _-_, _<_, _≤_}
 use native.Mathlib.Omega.{arith}
 use lib.Dec.{T}
 use lib.ListN.{length}
-use Rattle.monomial.specs.Monomial.{Mono}
+use Rattle.monomial.specs.Monomial.{Mono, width}
 use Rattle.monomial.specs.Order.{before}
 use Rattle.monomial.specs.Product.{mul}
 use Rattle.monomial.specs.Divisors.{pairs}
@@ -34,14 +34,14 @@ use Rattle.walk.proofs.children.Laws.{chosen-in, signals-grow, signals-
 
 module _ (n : ℕ) (fs : List (Poly Mono)) where
   -- ---- where t has no nonsquare, each monomial of a derivative of its V is a product
-  pub met : (t : List Mono) → missing n fs t ≡ [] → (z m : Mono) → z ∈ signals 6 n t → m ∈ support plain (derivative plain fs z)
-      → Factors plain mono-order (signals 6 n t) m
+  pub met : (t : List Mono) → missing n fs t ≡ [] → (z m : Mono) → z ∈ signals width n t → m ∈ support plain (derivative plain fs z)
+      → Factors plain mono-order (signals width n t) m
   met t q z m hz hm = go (test (inV2 plain v m))
     where
       v : List Mono
-      v = signals 6 n t
+      v = signals width n t
 
-      go : Tested (inV2 plain (signals 6 n t) m) → Factors plain mono-order (signals 6 n t) m
+      go : Tested (inV2 plain (signals width n t) m) → Factors plain mono-order (signals width n t) m
       go (passed e) = inV2-out plain mono-order v m (is→T (inV2 plain v m) e)
       go (failed e) =
           let u = unmet-in plain mono-order v (derivative plain fs z) m hm (is→nT (inV2 plain v m) e) in
@@ -52,14 +52,14 @@ module _ (n : ℕ) (fs : List (Poly Mono)) where
   same-members s t st ts e = no-members (missing n fs t) clash
     where
       v : List Mono
-      v = signals 6 n t
+      v = signals width n t
 
       clash : (m : Mono) → m ∈ missing n fs t → ⊥
       clash m h =
           let w : Nonsquare plain mono-order v (derivative plain fs) m = nonsquares-out plain mono-order v (derivative plain fs) m h in
           let u = unmet-out plain mono-order v (derivative plain fs (w .of)) m (w .missing) in
-          let f : Factors plain mono-order (signals 6 n s) m = met s e (w .of) m (signals-grow n t s ts (w .of) (w .of-in)) (u .0) in
-          let grow : signals 6 n s ⊆ v = signals-grow n s t st in
+          let f : Factors plain mono-order (signals width n s) m = met s e (w .of) m (signals-grow n t s ts (w .of) (w .of-in)) (u .0) in
+          let grow : signals width n s ⊆ v = signals-grow n s t st in
           u .1 (inV2-in plain mono-order v m (record { a = f .a; b = f .b; a-in = grow (f .a) (f .a-in); b-in = grow (f .b) (f .b-in); is = f .is }))
 
   -- ---- a step towards t: a pair whose child stays inside t and is longer
@@ -69,10 +69,10 @@ module _ (n : ℕ) (fs : List (Poly Mono)) where
     pub within : child n s pair ⊆ t
     pub longer : length s < length (child n s pair)
 
-  inside : (s t : List Mono) (p : Mono × Mono) → s ⊆ t → p .0 ∈ signals 6 n t → p .1 ∈ signals 6 n t → child n s p ⊆ t
+  inside : (s t : List Mono) (p : Mono × Mono) → s ⊆ t → p .0 ∈ signals width n t → p .1 ∈ signals width n t → child n s p ⊆ t
   inside s t p sub hl hr x h = go (child-out n s p h)
     where
-      in-t : x ∈ signals 6 n t → (x ∈ signals 6 n s → ⊥) → x ∈ t
+      in-t : x ∈ signals width n t → (x ∈ signals width n s → ⊥) → x ∈ t
       in-t k f = ⊎-elim (λ b. absurd (f (base-in n s b))) (λ j. j) (signals-cases n t k)
 
       go : Grown n s p x → x ∈ t
@@ -85,18 +85,18 @@ module _ (n : ℕ) (fs : List (Poly Mono)) where
   towards s t m a sub z q h = go (pairs-either (f .a) (f .b) (wide (f .a) (f .a-in) ∙ sym (wide (f .b) (f .b-in))))
     where
       v : List Mono
-      v = signals 6 n s
+      v = signals width n s
 
-      w : Nonsquare plain mono-order (signals 6 n s) (derivative plain fs) m
+      w : Nonsquare plain mono-order (signals width n s) (derivative plain fs) m
       w = nonsquares-out plain mono-order v (derivative plain fs) m h
 
-      f : Factors plain mono-order (signals 6 n t) m
+      f : Factors plain mono-order (signals width n t) m
       f = met t q (w .of) m (signals-grow n s t sub (w .of) (w .of-in)) (unmet-out plain mono-order v (derivative plain fs (w .of)) m (w .missing) .0)
 
-      wide : (x : Mono) → x ∈ signals 6 n t → length x ≡ 6
+      wide : (x : Mono) → x ∈ signals width n t → length x ≡ width
       wide = signals-wide n t z
 
-      make : (p : Mono × Mono) → p ∈ pairs m → p .0 ∈ signals 6 n t → p .1 ∈ signals 6 n t → Towards s t m
+      make : (p : Mono × Mono) → p ∈ pairs m → p .0 ∈ signals width n t → p .1 ∈ signals width n t → Towards s t m
       make p k hl hr = record { pair = p; listed = k; within = inside s t p sub hl hr; longer = split-longer n fs s m a h p k }
 
       go : ((f .a, f .b) ∈ pairs (mul (f .a) (f .b))) ⊎ ((f .b, f .a) ∈ pairs (mul (f .a) (f .b))) → Towards s t m
@@ -109,10 +109,10 @@ module _ (r : Rules) (n : ℕ) (fs : List (Poly Mono)) (spares : Sparing r n fs)
   pub not-closed : (s t l : List Mono) → Ascending before s → Ascending before t → Wide t → Extends r s t → missing n fs t ≡ [] → length t ≤ k
       → missing n fs s ≡ l → length s < k → ends r n k s l ≡ false
   not-closed s t l a at wide ext q ht e hs =
-      let shut : r .closed (k - length s) (signals 6 n s) (missing n fs s) ≡ true → ⊥ = spares (k - length s) s t a at wide ext q (omega arith) in
+      let shut : r .closed (k - length s) (signals width n s) (missing n fs s) ≡ true → ⊥ = spares (k - length s) s t a at wide ext q (omega arith) in
       goes-on r n k s l hs
-      (nT→is (r .closed (k - length s) (signals 6 n s) l)
-      (λ x. shut (T→is (r .closed (k - length s) (signals 6 n s) (missing n fs s)) (subst (λ u. T (r .closed (k - length s) (signals 6 n s) u)) (sym e) x))))
+      (nT→is (r .closed (k - length s) (signals width n s) l)
+      (λ x. shut (T→is (r .closed (k - length s) (signals width n s) (missing n fs s)) (subst (λ u. T (r .closed (k - length s) (signals width n s) u)) (sym e) x))))
 
 module _ (r : Rules) (o : Orderly r) (n : ℕ) (fs : List (Poly Mono)) (spares : Sparing r n fs) (k : ℕ) where
   -- a quadratic set inside t that is found below s

@@ -3,15 +3,14 @@
 use mathlib.Core.Path.{_≡_}
 use mathlib.Core.Logic.{⊎-elim}
 use mathlib.Core.List.{List}
-use Prim.Native.Nat.{ℕ, suc, _+_, _<_, _≤_}
+use Prim.Native.Nat.{ℕ, suc, _<_, _≤_}
 use native.Mathlib.Omega.{arith}
 use lib.IntN.{natAbs}
 use lib.ListN.{length, take}
-use Rattle.monomial.specs.Monomial.{Mono, constants}
+use Rattle.monomial.specs.Monomial.{Mono, constants, width}
 use Rattle.monomial.specs.Product.{AtMost}
 use Rattle.monomial.proofs.Members.{_∈_, take-in}
-use Rattle.monomial.proofs.product.Laws.{atMost-weaken}
-use Rattle.wiring.specs.Panel.{width, cards, termExponent, setExponent}
+use Rattle.wiring.specs.Panel.{cards, setExponent, derivedExponent}
 use Rattle.wiring.specs.Poly.{plain, coeff}
 use Rattle.wiring.specs.Derivative.{derivative}
 use Rattle.wiring.specs.Signals.{signals}
@@ -39,14 +38,14 @@ module _ (r : Rules) (o : Orderly r) (begins : Walked (r .start)) (n : ℕ) (ter
     pub opened-set-fits : (m : Mono) → m ∈ s → AtMost setExponent m
     opened-set-fits m i = walked-54 s opened-walked m i
 
-    pub opened-nonsquare-fits : (m : Mono) → m ∈ missing n (system (records terms)) s → AtMost (setExponent + termExponent) m
+    pub opened-nonsquare-fits : (m : Mono) → m ∈ missing n (system (records terms)) s → AtMost derivedExponent m
     opened-nonsquare-fits m i = nonsquare-fits terms clean n s opened-walked m i .1
 
-    signal-fits : (z : Mono) → z ∈ signals width n s → (length z ≡ width) × AtMost 72 z
+    signal-fits : (z : Mono) → z ∈ signals width n s → (length z ≡ width) × AtMost setExponent z
     signal-fits z i =
         ⊎-elim
-        (λ b. constants-fit 72 width (omega arith) z (take-in (suc n) (constants width) b))
-        (λ j. (opened-walked .recorded .wide z j, atMost-weaken z (omega arith) (opened-set-fits z j)))
+        (λ b. constants-fit setExponent width (omega arith) z (take-in (suc n) (constants width) b))
+        (λ j. (opened-walked .recorded .wide z j, opened-set-fits z j))
         (signals-cases n s i)
 
     -- the total of each monomial of a derivative, and the sum of the first t records on the way to it, in 32 bits

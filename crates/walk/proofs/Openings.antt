@@ -9,13 +9,12 @@ use Prim.Native.Nat.{ℕ, zero, suc, _+_, _<_, _≤_}
 use native.Mathlib.Omega.{arith}
 use lib.Dec.{T}
 use lib.ListN.{length}
-use Rattle.monomial.specs.Monomial.{Mono}
+use Rattle.monomial.specs.Monomial.{Mono, width}
 use Rattle.monomial.specs.Order.{before}
 use Rattle.monomial.specs.Divisors.{pairs}
 use Rattle.monomial.proofs.Tests.{Tested, passed, failed, test, is→T}
 use Rattle.monomial.proofs.Members.{_∈_, here, there, gather-in, gather-out, Gathered}
 use Rattle.monomial.proofs.order.Ascending.{_⊆_, Ascending}
-use Rattle.wiring.specs.Panel.{width}
 use Rattle.wiring.specs.Poly.{Poly}
 use Rattle.wiring.specs.Choice.{chosen}
 use Rattle.wiring.specs.Signals.{signals}

@@ -9,12 +9,13 @@ use borrow.Author.Tests.{leb-true, leb-false}
 use lib.Dec.{leb}
 use lib.ListN.{length}
 use Rattle.monomial.specs.Lists.{arrangeBy}
-use Rattle.monomial.specs.Monomial.{Mono}
+use Rattle.monomial.specs.Monomial.{Mono, width}
 use Rattle.monomial.specs.Order.{same, before, beforeSet}
 use Rattle.monomial.proofs.Tests.{Tested, passed, failed, test}
 use Rattle.monomial.proofs.Members.{_∈_, here}
 use Rattle.monomial.proofs.order.Laws.{mono-order, set-order}
 use Rattle.monomial.proofs.order.Ascending.{_⊆_, Ascending, arrange-asc, arrange-in, arrange-out, arrange-length, sub-length, sub-equal}
+use Rattle.wiring.specs.Panel.{cards}
 use Rattle.wiring.specs.Poly.{Poly, plain}
 use Rattle.wiring.specs.Derivative.{derivative}
 use Rattle.wiring.specs.Quadratic.{Quadratic}
@@ -38,13 +39,13 @@ use Rattle.walk.proofs.Stops.{Barren, Ends, done-exact}
 module _ (n : ℕ) (fs : List (Poly Mono)) where
   -- Definition 1 for V of a list of monomials
   abbrev pub QuadraticList : List Mono → Type 0
-  QuadraticList s = Quadratic plain (signals 6 n s) (derivative plain fs)
+  QuadraticList s = Quadratic plain (signals width n s) (derivative plain fs)
 
   no-gap : (s : List Mono) → QuadraticList s → missing n fs s ≡ []
-  no-gap s = definition1 plain mono-order (signals 6 n s) (derivative plain fs) .0
+  no-gap s = definition1 plain mono-order (signals width n s) (derivative plain fs) .0
 
   pub gapless : (s : List Mono) → missing n fs s ≡ [] → QuadraticList s
-  gapless s = definition1 plain mono-order (signals 6 n s) (derivative plain fs) .1
+  gapless s = definition1 plain mono-order (signals width n s) (derivative plain fs) .1
 
   -- ---- any list of monomials, by its members in order, each once
   abbrev arranged : List Mono → List Mono
@@ -169,12 +170,12 @@ pub record Done (r : Rules) (n : ℕ) (terms : List ℕ) (cap limit room j u : �
   pub sets : Smallest r n terms j l
 
 -- ---- plans of clean records, from a start that is a set of the walk
-module _ (r : Rules) (o : Orderly r) (begins : Walked (r .start)) (n : ℕ) (proper : Proper n (r .start)) (terms : List ℕ) (few : n ≤ 6)
-    (clean : fault n (records terms) ≡ Clean) (spares : Sparing r n (system (records terms))) (cap limit room : ℕ) (low : cap ≤ 6) where
+module _ (r : Rules) (o : Orderly r) (begins : Walked (r .start)) (n : ℕ) (proper : Proper n (r .start)) (terms : List ℕ) (few : n ≤ width)
+    (clean : fault n (records terms) ≡ Clean) (spares : Sparing r n (system (records terms))) (cap limit room : ℕ) (low : cap ≤ cards) where
   abbrev fs : List (Poly Mono)
   fs = system (records terms)
 
-  each-listed : (j : ℕ) → j ≤ 6 → Barren r n fs j → (s : List Mono) → found s ∈ level r n fs j → Listed r n terms j s
+  each-listed : (j : ℕ) → j ≤ cards → Barren r n fs j → (s : List Mono) → found s ∈ level r n fs j → Listed r n terms j s
   each-listed j h b s m =
       let at = level-out r n fs j (found s) m in
       let x : Sound r n terms j (r .start) s = opened-sound r o n terms (clean-widens n (records terms) few clean) j h (suc j) (r .start) s begins (at .0) (at .1) in

@@ -8,7 +8,7 @@ use native.Mathlib.Omega.{arith}
 use lib.Dec.{T, leb}
 use lib.ListN.{length, getD, set, take}
 use Rattle.monomial.specs.Lists.{pairwise, pointwise}
-use Rattle.monomial.specs.Monomial.{Mono, one, vars, constants}
+use Rattle.monomial.specs.Monomial.{Mono, one, vars, constants, width}
 use Rattle.monomial.specs.Product.{mul, AtMost}
 use Rattle.monomial.specs.Quotient.{divides}
 use Rattle.monomial.proofs.Tests.{and-r}
@@ -16,6 +16,7 @@ use Rattle.monomial.proofs.Members.{_∈_, there}
 use Rattle.monomial.proofs.product.Laws.{mul-comm, atMost-mul, atMost-at, atMost-all}
 use Rattle.monomial.proofs.quotient.Laws.{factor-divides, atMost-divides}
 use Rattle.monomial.proofs.divisors.Pairs.{Splits, pairs-out}
+use Rattle.wiring.specs.Panel.{cards, setExponent, termExponent}
 use Rattle.wiring.specs.Poly.{Poly}
 use Rattle.wiring.specs.Derivative.{power}
 use Rattle.wiring.specs.Terms.{Record, records, fault, system, CleanTerms}
@@ -107,10 +108,10 @@ within-vars n (suc w) x h k = ⊎-elim (λ e. first n e k) (λ i. later n (λ j 
         there (subst (λ (z : Mono). z ∈ take j (map (_∷_ 0) (vars w))) (q .2) (rw (take-map (_∷_ 0) j (vars w)) (Memᴰ·map (_∷_ 0) (ih j (q .0) (q .1) b))))
 
 pub base-within : (n : ℕ) (x : Mono) → x ∈ base n → Within n x
-base-within n x h = ⊎-elim (λ e. rw e (one-within n 6)) (vars-within n 6 x) (List·Memᴰ·cases-cons h)
+base-within n x h = ⊎-elim (λ e. rw e (one-within n width)) (vars-within n width x) (List·Memᴰ·cases-cons h)
 
-pub within-base : (n : ℕ) (x : Mono) → x ∈ constants 6 → Within n x → x ∈ base n
-within-base n x h k = ⊎-elim (λ e. List·Memᴰ·head e) (λ i. there (within-vars n 6 x i k)) (List·Memᴰ·cases-cons h)
+pub within-base : (n : ℕ) (x : Mono) → x ∈ constants width → Within n x → x ∈ base n
+within-base n x h k = ⊎-elim (λ e. List·Memᴰ·head e) (λ i. there (within-vars n width x i k)) (List·Memᴰ·cases-cons h)
 
 -- ---- what is found
 -- none of the set is in V of the empty set, and none has an exponent beyond xn
@@ -134,7 +135,7 @@ module _ (n : ℕ) (terms : List ℕ) (clean : fault n (records terms) ≡ Clean
         let e : ℕ = power r (i .of) - 1 in
         let f : Fields n r = fields-out n r (clean-right n [] (records terms) clean r (i .from .listed)) in
         let own : Within n (i .of) = ⊎-elim (base-within n (i .of)) (q .within (i .of)) (signals-cases n s (i .of-in)) in
-        let term : Within n (r .monomial) = at-within n (r .monomial) (λ j l. exponents-everywhere 9 n (r .monomial) (f .exponents) j .zero l) in
+        let term : Within n (r .monomial) = at-within n (r .monomial) (λ j l. exponents-everywhere termExponent n (r .monomial) (f .exponents) j .zero l) in
         let low : 1 ≤ r .equation = f .low in
         let high : r .equation ≤ n = f .high in
         subst (Within n) (i .from .is) (within-mul n (set (i .of) at e) (r .monomial) (within-set n (i .of) at e (omega arith) own) term)
@@ -168,7 +169,7 @@ pub record Sound (r : Rules) (n : ℕ) (terms : List ℕ) (k : ℕ) (s t : List 
   pub short : length t ≤ k
   pub walked : Walked t
 
-module _ (r : Rules) (o : Orderly r) (n : ℕ) (terms : List ℕ) (six : CleanTerms terms) (k : ℕ) (low : k ≤ 6) where
+module _ (r : Rules) (o : Orderly r) (n : ℕ) (terms : List ℕ) (six : CleanTerms terms) (k : ℕ) (low : k ≤ cards) where
   pub record Climbed (s₀ s : List Mono) : Type 0 where
     pub extends : Extends r s₀ s
     pub short : length s ≤ k
@@ -191,7 +192,7 @@ module _ (r : Rules) (o : Orderly r) (n : ℕ) (terms : List ℕ) (six : CleanTe
       record { quadratic = x .1; extends = x .0 .extends; short = x .0 .short; walked = x .0 .walked }
 
 -- and what may stand in a record of n variables stands in one
-module _ (r : Rules) (o : Orderly r) (n : ℕ) (terms : List ℕ) (few : n ≤ 6) (clean : fault n (records terms) ≡ Clean) where
+module _ (r : Rules) (o : Orderly r) (n : ℕ) (terms : List ℕ) (few : n ≤ width) (clean : fault n (records terms) ≡ Clean) where
   six : CleanTerms terms
   six = clean-widens n (records terms) few clean
 
@@ -202,12 +203,12 @@ module _ (r : Rules) (o : Orderly r) (n : ℕ) (terms : List ℕ) (few : n ≤ 6
     permitted = record {
       ascends = w .recorded .ascending;
       new = λ m h c. q .new m h (within-base n m c (q .within m h));
-      small = λ m h i. atMost-at 54 m i (walked-54 s w m h);
+      small = λ m h i. atMost-at setExponent m i (walked-54 s w m h);
       within = λ m h i l. within-at n m (q .within m h) i l;
     };
   }
 
-  pub opened-recordable : (k d : ℕ) → k ≤ 6 → (s t : List Mono) → Walked s → Proper n s → length s ≤ k
+  pub opened-recordable : (k d : ℕ) → k ≤ cards → (s t : List Mono) → Walked s → Proper n s → length s ≤ k
       → found t ∈ opened r n (system (records terms)) k d s → Recordable n t
   opened-recordable k d low s t w q l h =
       let x : Sound r n terms k s t = opened-sound r o n terms six k low d s t w l h in

@@ -8,7 +8,7 @@ use native.Mathlib.Omega.{arith}
 use borrow.Author.Tests.{leb-true, leb-false, le-leb, lt-leb}
 use lib.Dec.{leb}
 use lib.ListN.{length}
-use Rattle.monomial.specs.Monomial.{Mono}
+use Rattle.monomial.specs.Monomial.{Mono, width}
 use Rattle.monomial.specs.Order.{before}
 use Rattle.monomial.specs.Divisors.{pairs}
 use Rattle.monomial.proofs.Tests.{Tested, passed, failed, test, is→T}
@@ -125,14 +125,14 @@ module _ (r : Rules) (n b : ℕ) (fs : List (Poly Mono)) (k : ℕ) (f g : List M
       go (failed t) = tried-shut r n fs k f s p t ∙ sym (tried-shut r b fs k g s p (sym o ∙ t))
 
   pub after-alike : (m : Mono) (l : List Mono) → ends r n k s (m ∷ l) ≡ ends r b k s (m ∷ l)
-      → r .tries (signals 6 n s) (chosen m l) ≡ r .tries (signals 6 b s) (chosen m l)
-      → ((p : Mono × Mono) → p ∈ r .tries (signals 6 n s) (chosen m l) → tried r n fs k f s p ≡ tried r b fs k g s p)
+      → r .tries (signals width n s) (chosen m l) ≡ r .tries (signals width b s) (chosen m l)
+      → ((p : Mono × Mono) → p ∈ r .tries (signals width n s) (chosen m l) → tried r n fs k f s p ≡ tried r b fs k g s p)
       → after r n fs k f s (m ∷ l) ≡ after r b fs k g s (m ∷ l)
   unfolding after
   after-alike m l stop order h =
       rw (← stop, ← order)
       (ap (λ (x : List Step). other (opening s) ∷ cond (ends r n k s (m ∷ l)) [] x)
-      (gather-same (tried r n fs k f s) (tried r b fs k g s) (r .tries (signals 6 n s) (chosen m l)) h))
+      (gather-same (tried r n fs k f s) (tried r b fs k g s) (r .tries (signals width n s) (chosen m l)) h))
 
 -- ---- how deep the walk may go does not matter, where it may go deep enough
 module _ (r : Rules) (o : Orderly r) (n : ℕ) (fs : List (Poly Mono)) (k : ℕ) where
@@ -145,7 +145,7 @@ module _ (r : Rules) (o : Orderly r) (n : ℕ) (fs : List (Poly Mono)) (k : ℕ)
   after-same f g s (m ∷ l) e =
       after-alike r n n fs k f g s m l refl refl
       (λ p h. tried-alike r n n fs k f g s p refl
-      (λ t. e (chosen m l) p (chosen-in m l) (tries-out r o (signals 6 n s) (chosen m l) p h) (opens-fits r n k s p (is→T (opens r n k s p) t))))
+      (λ t. e (chosen m l) p (chosen-in m l) (tries-out r o (signals width n s) (chosen m l) p h) (opens-fits r n k s p (is→T (opens r n k s p) t))))
 
   pub deep : (d e : ℕ) (s : List Mono) → Ascending before s → length s ≤ k → k < length s + d → k < length s + e → opened r n fs k d s ≡ opened r n fs k e s
   unfolding opened

@@ -3,7 +3,7 @@ use mathlib.Core.Path.{_≡_}
 use mathlib.Core.List.{List, _++_, List·Memᴰ}
 use Prim.Native.Nat.{ℕ, _*_, _-_, _≤_}
 use lib.ListN.{length, replicate}
-use Rattle.monomial.specs.Monomial.{Mono, one}
+use Rattle.monomial.specs.Monomial.{Mono, one, width}
 use Rattle.monomial.specs.Order.{before, beforeSet}
 use Rattle.monomial.proofs.order.Ascending.{Ascending}
 use Rattle.wiring.specs.Panel.{cards, setBytes}
@@ -16,8 +16,8 @@ use Rattle.walk.specs.declared.listing.Kept.the-variants.{Held, NoRoom}
 pub record Recorded (s : List Mono) : Type 0 where
   pub few : length s ≤ cards
   pub ascending : Ascending before s
-  pub wide : (m : Mono) → List·Memᴰ m s → length m ≡ 6
-  pub proper : (m : Mono) → List·Memᴰ m s → m ≡ one 6 → ⊥
+  pub wide : (m : Mono) → List·Memᴰ m s → length m ≡ width
+  pub proper : (m : Mono) → List·Memᴰ m s → m ≡ one width → ⊥
 
 -- the first `count` records of the buffer are the finds, and the rest of it is zeros
 pub record Shown (finds : Finds) (count : ℕ) (out : List ℕ) : Type 0 where

@@ -5,9 +5,9 @@ use mathlib.Core.List.{List, _∷_, List·Memᴰ}
 use Prim.Native.Nat.{ℕ, _*_, _/_, _≤_, _<_}
 use lib.Dec.{leb}
 use lib.ListN.{length}
-use Rattle.monomial.specs.Monomial.{Mono}
+use Rattle.monomial.specs.Monomial.{Mono, width}
 use Rattle.monomial.specs.Product.{AtMost}
-use Rattle.wiring.specs.Panel.{width, cards, termExponent}
+use Rattle.wiring.specs.Panel.{cards, termExponent, setBytes}
 use Rattle.wiring.specs.Poly.{plain}
 use Rattle.wiring.specs.Derivative.{derivative}
 use Rattle.wiring.specs.Quadratic.{nonsquares}
@@ -80,7 +80,7 @@ module _ (r : Rules) (n : ℕ) (terms : List ℕ) (level limit : ℕ) (set : Set
   -- nothing follows: the turn is that of the opening, whatever the bound on the depth
   abbrev pub NothingFollows : Turn → List ℕ → Type 0
   NothingFollows turn out = (d : ℕ) (finds : Finds) → 0 < d → Shown finds (st .count) out₀
-      → Tells turn out (run limit (length out₀ / 36) (opened r n (system (records terms)) level d (monomialsOf set)) (st .steps) finds)
+      → Tells turn out (run limit (length out₀ / setBytes) (opened r n (system (records terms)) level d (monomialsOf set)) (st .steps) finds)
 
   -- the pairs of a nonsquare follow: the step is taken, the set goes on, and the buffer is as it was
   pub record PairsFollow (m : Mono) (out : List ℕ) : Type 0 where

@@ -6,9 +6,9 @@ use Prim.Native.Nat.{ℕ, _*_, _-_, _≤_}
 use lib.Dec.{eqb}
 use lib.ListN.{length, take, drop, replicate}
 use Rattle.monomial.specs.Lists.{any, all, place, below}
-use Rattle.monomial.specs.Monomial.{Mono, one, constants}
+use Rattle.monomial.specs.Monomial.{Mono, one, constants, width}
 use Rattle.monomial.specs.Order.{same, before}
-use Rattle.wiring.specs.Panel.{width, cards, setBytes, setExponent}
+use Rattle.wiring.specs.Panel.{cards, setBytes, setExponent}
 use Rattle.wiring.specs.Signals.{front, flat}
 use Rattle.wiring.specs.Terms.{exponentsRight}
 use Rattle.wiring.specs.declared.sets.Set.{Set}

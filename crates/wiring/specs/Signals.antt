@@ -5,10 +5,9 @@ use mathlib.Core.List.{List, map, List·Memᴰ}
 use Prim.Native.Nat.{ℕ, _*_, _/_}
 use lib.ListN.{length, take, drop}
 use Rattle.monomial.specs.Lists.{gather, below}
-use Rattle.monomial.specs.Monomial.{Mono}
+use Rattle.monomial.specs.Monomial.{Mono, width}
 use Rattle.monomial.specs.Product.{AtMost}
 use Rattle.monomial.specs.declared.Monomial.{Monomial}
-use Rattle.wiring.specs.Panel.{width}
 use Rattle.wiring.specs.Poly.{plain}
 use Rattle.wiring.specs.Quadratic.{members}
 use Rattle.wiring.specs.declared.signals.Signals.{Signals}

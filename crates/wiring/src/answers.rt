@@ -16,6 +16,8 @@ use monomial::width::WIDTH;
 ghost use mathlib.Core.Path.{_≡_};
 ghost use Prim.Native.Nat.{_≤_};
 ghost use lib.ListN.{length};
+ghost use Rattle.monomial.specs.Monomial.{width};
+ghost use Rattle.wiring.specs.Panel.{cards, setBytes, setExponent};
 ghost use Rattle.wiring.specs.Reply.{numbers, outcome};
 ghost use Rattle.wiring.specs.Terms.{lengthRight, records, system, CleanTerms};
 ghost use Rattle.wiring.specs.Signals.{Fitting};
@@ -44,7 +46,7 @@ pub fn length_right(terms: &[u8]) -> bool
 
 // What is said of a set that keeps its rule.
 fn judge(n: usize, terms: &[u8], set: Set) -> Reply
-    requires { ⌜ CleanTerms (now terms) × ((n ≤ 6) × ((set .len ≤ 6) × Fitting 54 (monomialsOf set))) ⌝ }
+    requires { ⌜ CleanTerms (now terms) × ((n ≤ width) × ((set .len ≤ cards) × Fitting setExponent (monomialsOf set))) ⌝ }
     ensures { λ r. ⌜ r ≡ judged n (system (records (now (terms .entry)))) (monomialsOf set) ⌝ }
 {
     let v = signals::signals_of(n, set);
@@ -67,7 +69,7 @@ fn judge(n: usize, terms: &[u8], set: Set) -> Reply
 
 // What is said of a set record, once the term records are clean.
 fn judge_record(n: usize, terms: &[u8], set: &[u8]) -> Reply
-    requires { ⌜ CleanTerms (now terms) × ((n ≤ 6) × (length (now set) ≡ 36)) ⌝ }
+    requires { ⌜ CleanTerms (now terms) × ((n ≤ width) × (length (now set) ≡ setBytes)) ⌝ }
     ensures { λ r. ⌜ r ≡ recordJudged n (system (records (now (terms .entry)))) (now (set .entry)) ⌝ }
 {
     let read = sets::read_set(n, set);

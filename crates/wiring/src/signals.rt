@@ -6,8 +6,10 @@ use monomial::width::WIDTH;
 ghost use mathlib.Core.Path.{_≡_};
 ghost use Prim.Native.Nat.{_+_, _≤_};
 ghost use lib.ListN.{length, take};
+ghost use Rattle.monomial.specs.Monomial.{width};
 ghost use Rattle.monomial.specs.Lists.{any};
 ghost use Rattle.monomial.specs.Order.{same};
+ghost use Rattle.wiring.specs.Panel.{cards, mostSignals, tableBytes};
 ghost use Rattle.wiring.specs.Poly.{plain};
 ghost use Rattle.wiring.specs.Quadratic.{products};
 ghost use Rattle.wiring.specs.Signals.{signals, Fitting, signalsOf, tabled};
@@ -21,8 +23,8 @@ pub struct Signals {
 
 // V of a set.
 pub fn signals_of(n: usize, set: Set) -> Signals
-    requires { ⌜ (n ≤ 6) × (set .len ≤ 6) ⌝ }
-    ensures { λ r. ⌜ (signalsOf r ≡ signals 6 n (monomialsOf set)) × (r .len ≡ n + 1 + set .len) ⌝ }
+    requires { ⌜ (n ≤ width) × (set .len ≤ cards) ⌝ }
+    ensures { λ r. ⌜ (signalsOf r ≡ signals width n (monomialsOf set)) × (r .len ≡ n + 1 + set .len) ⌝ }
 {
     let mut m = [Monomial::ONE; MOST_SIGNALS];
     let mut i: usize = 0;
@@ -44,7 +46,7 @@ pub fn signals_of(n: usize, set: Set) -> Signals
 
 // Whether m is in V.
 pub fn is_signal(v: Signals, m: Monomial) -> bool
-    requires { ⌜ v .len ≤ 13 ⌝ }
+    requires { ⌜ v .len ≤ mostSignals ⌝ }
     ensures { λ r. ⌜ r ≡ any (same (m .e)) (signalsOf v) ⌝ }
 {
     let len = v.len;
@@ -61,8 +63,8 @@ pub fn is_signal(v: Signals, m: Monomial) -> bool
 
 // V2 of V, side by side in the lent table; the number of its bytes. At most 13 * 14 / 2 products.
 pub fn products_of(v: Signals, table: &mut [u8]) -> usize
-    requires { ⌜ (v .len ≤ 13) × (Fitting 127 (signalsOf v) × (546 ≤ length (now table))) ⌝ }
-    ensures { λ r. ⌜ (tabled (take r (now (table .exit))) ≡ products plain (signalsOf v)) × (r ≤ 546) ⌝ }
+    requires { ⌜ (v .len ≤ mostSignals) × (Fitting 127 (signalsOf v) × (tableBytes ≤ length (now table))) ⌝ }
+    ensures { λ r. ⌜ (tabled (take r (now (table .exit))) ≡ products plain (signalsOf v)) × (r ≤ tableBytes) ⌝ }
 {
     let len = v.len;
     let mut at: usize = 0;

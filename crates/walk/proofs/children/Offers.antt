@@ -11,7 +11,7 @@ use lib.ListN.{length, getD, take, drop, set, length-set, take-append-drop, drop
 use lib.Seq.{take-length, drop-length, drop-cons, take-take, getD-take, take-set-le, drop-set-lt, getD-set-same, set-split}
 use borrow.Author.Tests.{le-leb, lt-leb}
 use Rattle.monomial.specs.Lists.{any, insertBy}
-use Rattle.monomial.specs.Monomial.{Mono}
+use Rattle.monomial.specs.Monomial.{Mono, width}
 use Rattle.monomial.specs.Order.{same, before}
 use Rattle.monomial.specs.declared.Monomial.{Monomial}
 use Rattle.monomial.proofs.Tests.{Tested, passed, failed, test, T→is, is→T, nT→is, is→nT, or-l, or-r, or-e}
@@ -19,6 +19,7 @@ use Rattle.monomial.proofs.Members.{_∈_, here, there}
 use Rattle.monomial.proofs.Counting.{at-in}
 use Rattle.monomial.proofs.order.Laws.{Order, not-both, not-same, same-flip, behind, mono-order}
 use Rattle.monomial.proofs.order.Ascending.{_⊆_, Ascending, head-first, tail-asc, insert-out, insert-new, insert-old, insert-asc, insert-length, sub-length, sub-equal, among-in, among-out}
+use Rattle.wiring.specs.Panel.{cards}
 use Rattle.wiring.specs.Signals.{signals, front}
 use Rattle.wiring.specs.Sets.{monomialsOf}
 use Rattle.wiring.specs.declared.sets.Set.{Set}
@@ -132,13 +133,13 @@ module _ {A : Type 0} {ahead : A → A → Bool} {m : A} {s u : List A} where
 
 -- ---- the same in an array of six monomials, of which the first len are those of u
 pub record Inserting (m : Mono) (len : ℕ) (u now : List Monomial) (i : ℕ) : Type 0 where
-  pub few : len < 6
-  pub source : length u ≡ 6
-  pub long : length now ≡ 6
+  pub few : len < cards
+  pub source : length u ≡ cards
+  pub long : length now ≡ cards
   pub within : i ≤ len
   pub shifting : Shifting before m (front len u) (front (len + 1) now) i
 
-pub inserting-start : (m : Mono) (len : ℕ) (u : List Monomial) → len < 6 → length u ≡ 6 → Inserting m len u u len
+pub inserting-start : (m : Mono) (len : ℕ) (u : List Monomial) → len < cards → length u ≡ cards → Inserting m len u u len
 inserting-start m len u h l =
     let s : List Mono = front len u in
     let size : length s ≡ len = front-length len u (omega arith) in
@@ -276,7 +277,7 @@ module _ (v : List Mono) (m : Mono) where
           added-fresh (added v m s) e ∙ insert-same mono-order m (added v m s) (added-asc v m s a) inside
 
 -- ---- the child by a pair, in V of n variables and the set
-module _ (n : ℕ) (v s : List Mono) (signs : v ≡ signals 6 n s) (left right : Mono) where
+module _ (n : ℕ) (v s : List Mono) (signs : v ≡ signals width n s) (left right : Mono) where
   abbrev whole : List Mono
   whole = child n s (left, right)
 

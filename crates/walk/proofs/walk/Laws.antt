@@ -10,7 +10,7 @@ use native.Mathlib.Numerals.{add-one}
 use lib.Dec.{T}
 use lib.ListN.{length}
 use Rattle.monomial.specs.Lists.{some, gather}
-use Rattle.monomial.specs.Monomial.{Mono, one}
+use Rattle.monomial.specs.Monomial.{Mono, one, width}
 use Rattle.monomial.specs.Quotient.{quo, divides}
 use Rattle.monomial.specs.Divisors.{leads, pairs, next}
 use Rattle.monomial.proofs.Tests.{is→T, is→nT}
@@ -18,6 +18,7 @@ use Rattle.monomial.proofs.Members.{_∈_, some-none}
 use Rattle.monomial.proofs.quotient.Laws.{one-divides}
 use Rattle.monomial.proofs.divisors.Following.{next-divides}
 use Rattle.monomial.proofs.divisors.Pairs.{split, pairsFrom, pairs-start, pairs-turn, pairs-end}
+use Rattle.wiring.specs.Panel.{setBytes, setExponent}
 use Rattle.wiring.specs.Poly.{Poly, plain}
 use Rattle.wiring.specs.Derivative.{derivative}
 use Rattle.wiring.specs.Quadratic.{nonsquares}
@@ -46,7 +47,7 @@ other-on x limit room es taken finds h = rw (add-one taken) (run-other limit roo
 -- ---- a set is opened, at any bound on the depth that is large enough
 module _ (r : Rules) (n : ℕ) (fs : List (Poly Mono)) (k limit room taken : ℕ) (finds : Finds) (s : List Mono) where
   abbrev gaps : List Mono
-  gaps = nonsquares plain (signals 6 n s) (derivative plain fs)
+  gaps = nonsquares plain (signals width n s) (derivative plain fs)
 
   abbrev ran : List Step → Run
   ran es = run limit room es taken finds
@@ -180,7 +181,7 @@ module _ (r : Rules) (n : ℕ) (fs : List (Poly Mono)) (k limit room : ℕ) (s :
 
 -- ---- what opening tells of the pairs that follow
 pub open-tells : (r : Rules) (n : ℕ) (fs : List (Poly Mono)) (k limit room taken : ℕ) (finds : Finds) (s : List Mono) (d size : ℕ) (m : Mono) (l : List Mono) (turn : Turn) (out : List ℕ)
-    → k - size < d → taken < limit → nonsquares plain (signals 6 n s) (derivative plain fs) ≡ m ∷ l → ends r n k s (m ∷ l) ≡ false
+    → k - size < d → taken < limit → nonsquares plain (signals width n s) (derivative plain fs) ≡ m ∷ l → ends r n k s (m ∷ l) ≡ false
     → ((g : ℕ) → k - size ≤ g → Tells turn out (run limit room (triedAll r n fs k (opened r n fs k g) s (chosen m l)) (taken + 1) finds))
     → Tells turn out (run limit room (opened r n fs k d s) taken finds)
 open-tells r n fs k limit room taken finds s zero size m l turn out h t e g f = absurd (omega arith)
@@ -218,8 +219,8 @@ module _ (r : Rules) (n : ℕ) (terms : List ℕ) (level limit : ℕ) (set : Set
 
   abbrev standing : ℕ → Finds → Mono → State → List ℕ → Type 0
   standing d finds a cur out =
-      Stands r n fs level limit (length out₀ / 36) (monomialsOf set) m d
-      (whole r n fs level limit (length out₀ / 36) (monomialsOf set) m d (st₀ .steps) finds) a (cur .steps) (cur .count) out
+      Stands r n fs level limit (length out₀ / setBytes) (monomialsOf set) m d
+      (whole r n fs level limit (length out₀ / setBytes) (monomialsOf set) m d (st₀ .steps) finds) a (cur .steps) (cur .count) out
 
   pub record Running (a : Mono) (cur : State) (out : List ℕ) : Type 0 where
     pub divisor : T (divides a m)
@@ -230,7 +231,7 @@ module _ (r : Rules) (n : ℕ) (terms : List ℕ) (level limit : ℕ) (set : Set
   running-start = record {
     divisor = one-divides m;
     long = refl;
-    stands = λ d finds h sh. stands-start r n fs level limit (length out₀ / 36) (monomialsOf set) m d (st₀ .steps) (st₀ .count) finds out₀ sh;
+    stands = λ d finds h sh. stands-start r n fs level limit (length out₀ / setBytes) (monomialsOf set) m d (st₀ .steps) (st₀ .count) finds out₀ sh;
   }
 
   -- the buffer still shows some finds
@@ -241,28 +242,28 @@ module _ (r : Rules) (n : ℕ) (terms : List ℕ) (level limit : ℕ) (set : Set
 
   module _ {a : Mono} {cur : State} {out : List ℕ} (u : Running a cur out) where
     pub running-end : (T (leads m a) → ⊥) → (d : ℕ) (finds : Finds) → level - set .len ≤ d → Shown finds (st₀ .count) out₀
-        → Tells (Going cur) out (whole r n fs level limit (length out₀ / 36) (monomialsOf set) m d (st₀ .steps) finds)
+        → Tells (Going cur) out (whole r n fs level limit (length out₀ / setBytes) (monomialsOf set) m d (st₀ .steps) finds)
     running-end l d finds h sh =
         let x = u .stands d finds h sh in
-        record { finds = x .finds; shown = x .shown; is = stands-end r n fs level limit (length out₀ / 36) (monomialsOf set) m x (u .divisor) l }
+        record { finds = x .finds; shown = x .shown; is = stands-end r n fs level limit (length out₀ / setBytes) (monomialsOf set) m x (u .divisor) l }
 
     module _ (p : m ≡ one (length m) → ⊥) (l : T (leads m a)) where
       pub running-spent : limit ≤ cur .steps → (d : ℕ) (finds : Finds) → level - set .len ≤ d → Shown finds (st₀ .count) out₀
-          → whole r n fs level limit (length out₀ / 36) (monomialsOf set) m d (st₀ .steps) finds ≡ spent
-      running-spent k d finds h sh = stands-spent r n fs level limit (length out₀ / 36) (monomialsOf set) m (u .stands d finds h sh) (u .divisor) p l k
+          → whole r n fs level limit (length out₀ / setBytes) (monomialsOf set) m d (st₀ .steps) finds ≡ spent
+      running-spent k d finds h sh = stands-spent r n fs level limit (length out₀ / setBytes) (monomialsOf set) m (u .stands d finds h sh) (u .divisor) p l k
 
       pub running-shut : (cur' : State) → cur' .steps ≡ cur .steps + 1 → cur' .count ≡ cur .count → cur .steps < limit
           → opens r n level (monomialsOf set) (a, quo m a) ≡ false → Running (next m a) cur' out
       running-shut cur' e c k b = record {
         divisor = next-divides a m (u .divisor);
         long = u .long;
-        stands = λ d finds h sh. rw (e, c) (stands-shut r n fs level limit (length out₀ / 36) (monomialsOf set) m (u .stands d finds h sh) (u .divisor) p l k b);
+        stands = λ d finds h sh. rw (e, c) (stands-shut r n fs level limit (length out₀ / setBytes) (monomialsOf set) m (u .stands d finds h sh) (u .divisor) p l k b);
       }
 
       -- the child was opened, and its turn was told for every depth and finds
       module _ (size : ℕ) (few : set .len < size) (low : set .len < level) (k : cur .steps < limit) (b : opens r n level (monomialsOf set) (a, quo m a) ≡ true) where
         abbrev opened-child : ℕ → Finds → Run
-        opened-child d finds = run limit (length out₀ / 36) (opened r n fs level d (child n (monomialsOf set) (a, quo m a))) (cur .steps + 1) finds
+        opened-child d finds = run limit (length out₀ / setBytes) (opened r n fs level d (child n (monomialsOf set) (a, quo m a))) (cur .steps + 1) finds
 
         abbrev pub Told : Turn → List ℕ → Type 0
         Told turn out' = (d : ℕ) (finds : Finds) → level - size < d → Shown finds (cur .count) out → Tells turn out' (opened-child d finds)
@@ -273,25 +274,25 @@ module _ (r : Rules) (n : ℕ) (terms : List ℕ) (level limit : ℕ) (set : Set
           long = e ∙ u .long;
           stands = λ d finds h sh.
               let x = u .stands d finds h sh in
-              stands-going r n fs level limit (length out₀ / 36) (monomialsOf set) m x (u .divisor) p l k b cur' out' (f d (x .finds) (omega arith) (x .shown));
+              stands-going r n fs level limit (length out₀ / setBytes) (monomialsOf set) m x (u .divisor) p l k b cur' out' (f d (x .finds) (omega arith) (x .shown));
         }
 
         pub running-child-spent : (out' : List ℕ) → Told Spent out' → (d : ℕ) (finds : Finds) → level - set .len ≤ d → Shown finds (st₀ .count) out₀
-            → whole r n fs level limit (length out₀ / 36) (monomialsOf set) m d (st₀ .steps) finds ≡ spent
+            → whole r n fs level limit (length out₀ / setBytes) (monomialsOf set) m d (st₀ .steps) finds ≡ spent
         running-child-spent out' f d finds h sh =
             let x = u .stands d finds h sh in
-            stands-child-spent r n fs level limit (length out₀ / 36) (monomialsOf set) m x (u .divisor) p l k b (f d (x .finds) (omega arith) (x .shown))
+            stands-child-spent r n fs level limit (length out₀ / setBytes) (monomialsOf set) m x (u .divisor) p l k b (f d (x .finds) (omega arith) (x .shown))
 
         pub running-child-full : (t : ℕ) (out' : List ℕ) → Told (Full t) out' → (d : ℕ) (finds : Finds) → level - set .len ≤ d → Shown finds (st₀ .count) out₀
-            → whole r n fs level limit (length out₀ / 36) (monomialsOf set) m d (st₀ .steps) finds ≡ full t
+            → whole r n fs level limit (length out₀ / setBytes) (monomialsOf set) m d (st₀ .steps) finds ≡ full t
         running-child-full t out' f d finds h sh =
             let x = u .stands d finds h sh in
-            stands-child-full r n fs level limit (length out₀ / 36) (monomialsOf set) m x (u .divisor) p l k b t (f d (x .finds) (omega arith) (x .shown))
+            stands-child-full r n fs level limit (length out₀ / setBytes) (monomialsOf set) m x (u .divisor) p l k b t (f d (x .finds) (omega arith) (x .shown))
 
 -- ---- a set of the walk fits the tables of its signals
-pub walked-fitting : (s : List Mono) → Walked s → Fitting 54 s
+pub walked-fitting : (s : List Mono) → Walked s → Fitting setExponent s
 walked-fitting s w m h = (w .recorded .wide m h, walked-54 s w m h)
 
 -- of V, told by its maker
-pub signals-fit : (b n : ℕ) (v s : List Mono) → 54 ≤ b → v ≡ signals 6 n s → Walked s → Fitting b v
-signals-fit b n v s h e w = subst (Fitting b) (sym e) (fitting-weaken 54 b (signals 6 n s) h (signals-fitting 54 n s (omega arith) (walked-fitting s w)))
+pub signals-fit : (b n : ℕ) (v s : List Mono) → setExponent ≤ b → v ≡ signals width n s → Walked s → Fitting b v
+signals-fit b n v s h e w = subst (Fitting b) (sym e) (fitting-weaken setExponent b (signals width n s) h (signals-fitting setExponent n s (omega arith) (walked-fitting s w)))

@@ -11,11 +11,12 @@ use lib.Dec.{T, eqb, leb, leb→le, le→leb}
 use lib.IntN.{pos}
 use lib.ListN.{length, getD}
 use Rattle.monomial.specs.Lists.{some}
-use Rattle.monomial.specs.Monomial.{Mono}
+use Rattle.monomial.specs.Monomial.{Mono, width}
 use Rattle.monomial.proofs.Tests.{Tested, passed, failed, test, T→is, nT→is, is→T, is→nT, and-l, and-r, and-i}
 use Rattle.monomial.proofs.Members.{some-none}
 use Rattle.monomial.proofs.Counting.{at-in}
 use Rattle.monomial.proofs.order.Laws.{mono-order}
+use Rattle.wiring.specs.Panel.{setBytes}
 use Rattle.wiring.specs.declared.reply.Reply.{Reply}
 use Rattle.wiring.specs.declared.reply.Reply.the-variants.{Done, Setting, Length, Term, Twice, Nothing, Full, Spent, BadSet, NotQuadratic}
 use Rattle.wiring.specs.declared.terms.Fault.{Fault}
@@ -37,19 +38,19 @@ use Rattle.wiring.proofs.answers.Laws.{judged-not, said-setting, said-t
 
 -- ---- the facts
 abbrev pub Ranged : ℕ → Type 0
-Ranged n = (1 ≤ n) × (n ≤ 6)
+Ranged n = (1 ≤ n) × (n ≤ width)
 
 pub count-in : (n : ℕ) → Ranged n → countRight n ≡ true
 unfolding countRight
-count-in n r = T→is (leb 1 n && leb n 6) (and-i (leb 1 n) (leb n 6) (le→leb 1 n (r .0)) (le→leb n 6 (r .1)))
+count-in n r = T→is (leb 1 n && leb n width) (and-i (leb 1 n) (leb n width) (le→leb 1 n (r .0)) (le→leb n width (r .1)))
 
 pub count-out : (n : ℕ) → T (countRight n) → Ranged n
 unfolding countRight
-count-out n t = (leb→le 1 n (and-l (leb 1 n) (leb n 6) t), leb→le n 6 (and-r (leb 1 n) (leb n 6) t))
+count-out n t = (leb→le 1 n (and-l (leb 1 n) (leb n width) t), leb→le n width (and-r (leb 1 n) (leb n width) t))
 
 pub record Lengths (terms set : List ℕ) : Type 0 where
   pub measured : Measured terms
-  pub long : length set ≡ 36
+  pub long : length set ≡ setBytes
 
 -- stands for a record beyond the last, of which nothing is said
 abbrev pub beyond : Record
@@ -64,7 +65,7 @@ pub record WellFormed (n : ℕ) (terms set : List ℕ) : Type 0 where
 
 -- the signals of the set, and the derivation of the system
 abbrev pub signalsIn : ℕ → List ℕ → List Mono
-signalsIn n set = signals 6 n (setOf set)
+signalsIn n set = signals width n (setOf set)
 
 abbrev pub derivativeIn : List ℕ → Mono → Poly Mono
 derivativeIn terms = derivative plain (system (records terms))
@@ -73,7 +74,7 @@ derivativeIn terms = derivative plain (system (records terms))
 module _ (n : ℕ) (terms set : List ℕ) where
   abbrev pub CheckSays : Reply → Type 0
   CheckSays Setting = Ranged n → ⊥
-  CheckSays Length = Ranged n × ((Measured terms → ⊥) ⊎ (length set ≡ 36 → ⊥))
+  CheckSays Length = Ranged n × ((Measured terms → ⊥) ⊎ (length set ≡ setBytes → ⊥))
   CheckSays (Term p) = Ranged n × Lengths terms set × Breaks n (records terms) beyond p
   CheckSays (Twice p) = Ranged n × Lengths terms set × Repeats n (records terms) beyond p
   CheckSays BadSet = Ranged n × Lengths terms set × Flawless n (records terms) beyond × (RightRecord n set → ⊥)
@@ -141,7 +142,7 @@ module _ (n : ℕ) (terms set : List ℕ) where
   unmeasured : Ranged n → (Measured terms → ⊥) → verdict n terms set ≡ Length
   unmeasured r f = said-terms-length n terms set (count-in n r) (nT→is (lengthRight terms) (λ t. f (length-exact terms .0 (T→is (lengthRight terms) t))))
 
-  misfit : Ranged n → (length set ≡ 36 → ⊥) → verdict n terms set ≡ Length
+  misfit : Ranged n → (length set ≡ setBytes → ⊥) → verdict n terms set ≡ Length
   misfit r f = go (test (lengthRight terms))
     where
       go : Tested (lengthRight terms) → verdict n terms set ≡ Length
@@ -192,13 +193,13 @@ module _ (n : ℕ) (terms set : List ℕ) where
       go (failed t) = record { reply = BadSet; holds = (r, l, clean, λ q. is→nT (setRight n set) t (right-iff n set .1 q)) }
 
   told-lengths : Ranged n → Told
-  told-lengths r = go (test (lengthRight terms)) (test (eqb (length set) 36))
+  told-lengths r = go (test (lengthRight terms)) (test (eqb (length set) setBytes))
     where
-      go : Tested (lengthRight terms) → Tested (eqb (length set) 36) → Told
+      go : Tested (lengthRight terms) → Tested (eqb (length set) setBytes) → Told
       go (failed e) q = record { reply = Length; holds = (r, inl (λ m. is→nT (lengthRight terms) e (is→T (lengthRight terms) (length-exact terms .1 m)))) }
-      go (passed e) (failed q) = record { reply = Length; holds = (r, inr (eqb-false (length set) 36 q)) }
+      go (passed e) (failed q) = record { reply = Length; holds = (r, inr (eqb-false (length set) setBytes q)) }
       go (passed e) (passed q) =
-          told-fault r (record { measured = length-exact terms .0 e; long = eqb-true (length set) 36 q }) (fault n (records terms)) refl
+          told-fault r (record { measured = length-exact terms .0 e; long = eqb-true (length set) setBytes q }) (fault n (records terms)) refl
 
   told : Told
   told = go (test (countRight n))
@@ -215,10 +216,10 @@ module _ (n : ℕ) (terms set : List ℕ) where
   verdict-exact r = ((λ e. subst CheckSays e verdict-says), said r)
 
   -- ---- the seven, one by one
-  pub says-setting : (verdict n terms set ≡ Setting) ↔ ((1 ≤ n) × (n ≤ 6) → ⊥)
+  pub says-setting : (verdict n terms set ≡ Setting) ↔ ((1 ≤ n) × (n ≤ width) → ⊥)
   says-setting = verdict-exact Setting
 
-  pub says-length : (verdict n terms set ≡ Length) ↔ (Ranged n × ((Measured terms → ⊥) ⊎ (length set ≡ 36 → ⊥)))
+  pub says-length : (verdict n terms set ≡ Length) ↔ (Ranged n × ((Measured terms → ⊥) ⊎ (length set ≡ setBytes → ⊥)))
   says-length = verdict-exact Length
 
   pub says-term : (p : ℕ) → (verdict n terms set ≡ Term p) ↔ (Ranged n × Lengths terms set × Breaks n (records terms) beyond p)
@@ -244,7 +245,7 @@ module _ (n : ℕ) (terms set : List ℕ) where
       let h = says-not-quadratic o p .0 e in
       let m = h .0 .ranged .1 in
       let l = signals-length n (setOf set) m in
-      (first-unlinked-raised 6 n fs s p (h .2), omega (arith, h .2 .below))
+      (first-unlinked-raised width n fs s p (h .2), omega (arith, h .2 .below))
 
   -- ---- the contract of `check`: a reply keeps it exactly where what it says holds, and there is one such reply
   pub check-exact : (r : Reply) → (numbers r ≡ checked n terms set) ↔ CheckSays r

@@ -12,7 +12,7 @@ use lib.IntN.{ℤ, pos, _+ℤ_, _*ℤ_, +ℤ-idl, +ℤ-idr, +ℤ-assoc, zero-*�
 use lib.ListN.{length, getD, set, take, length-map, List·getD-eq-default}
 use lib.Seq.{take-suc}
 use Rattle.monomial.specs.Lists.{keep, below}
-use Rattle.monomial.specs.Monomial.{Mono}
+use Rattle.monomial.specs.Monomial.{Mono, width}
 use Rattle.monomial.specs.Order.{same}
 use Rattle.monomial.specs.Product.{mul}
 use Rattle.monomial.proofs.Tests.{Tested, passed, failed, test, is→T}
@@ -74,22 +74,22 @@ equation-out rs i t h = go (Memᴰ·of-map (λ (r : Record). (r .coefficient, r 
 pub image-made : (r : Record) (z x y : Mono) (i : ℕ) → i ≡ r .equation → x ≡ set z (i - 1) (getD z (i - 1) 0 - 1) → y ≡ r .monomial → mul x y ≡ image r z
 image-made r z x y i e f g = ap₂ mul (f ∙ ap (λ (j : ℕ). set z (j - 1) (getD z (j - 1) 0 - 1)) e) g
 
-pub panel-equation : (rs : List Record) (i : ℕ) → i < 6 → getD (system rs) i [] ≡ equation rs i
+pub panel-equation : (rs : List Record) (i : ℕ) → i < width → getD (system rs) i [] ≡ equation rs i
 unfolding system
-panel-equation rs i h = below-at (equation rs) 6 i [] h
+panel-equation rs i h = below-at (equation rs) width i [] h
 
-pub system-length : (rs : List Record) → length (system rs) ≡ 6
+pub system-length : (rs : List Record) → length (system rs) ≡ width
 unfolding system
-system-length rs = length-map (below 6) (equation rs) ∙ below-length 6
+system-length rs = length-map (below width) (equation rs) ∙ below-length width
 
 pub panel-stated : (rs : List Record) (i : ℕ) (t : Term Mono) → t ∈ getD (system rs) i [] → Stated rs i t
-panel-stated rs i t h = go (test (ltb i 6))
+panel-stated rs i t h = go (test (ltb i width))
   where
-    go : Tested (ltb i 6) → Stated rs i t
-    go (passed e) = equation-out rs i t (subst (λ (f : Poly Mono). t ∈ f) (panel-equation rs i (ltb-true i 6 e)) h)
+    go : Tested (ltb i width) → Stated rs i t
+    go (passed e) = equation-out rs i t (subst (λ (f : Poly Mono). t ∈ f) (panel-equation rs i (ltb-true i width e)) h)
     go (failed e) =
-        let n : length (system rs) ≡ 6 = system-length rs in
-        let k : 6 ≤ i = ltb-false i 6 e in
+        let n : length (system rs) ≡ width = system-length rs in
+        let k : width ≤ i = ltb-false i width e in
         absurd (List·Memᴰ·not-nil (subst (λ (f : Poly Mono). t ∈ f) (List·getD-eq-default (system rs) [] {n = i} (omega arith)) h))
 
 -- an exponent that is not 0
@@ -242,16 +242,16 @@ module _ {M : Type 0} (k : Kind M) (o : Order (k .same) (k .before)) (h : Mono �
   parts-none z i (suc n) = rw (part-none i z) (parts-none z (suc i) n)
 
   -- the records may be gone through in their own order: what they add is the coefficient
-  pub adds-up : (rs : List Record) (z m : M) → ((r : Record) → r ∈ rs → (1 ≤ r .equation) × (r .equation ≤ 6))
+  pub adds-up : (rs : List Record) (z m : M) → ((r : Record) → r ∈ rs → (1 ≤ r .equation) × (r .equation ≤ width))
       → addedUp rs z m ≡ coeff k (derivative k (map (carry h) (system rs)) z) m
   unfolding addedUp coeff derivative system
-  adds-up rs z m b = go rs b ∙ sym (ap (λ (fs : List (Poly M)). coeff k (partsFrom k 0 z fs) m) (map-map (carry h) (equation rs) (below 6) ∙ run-below (read rs) 6))
+  adds-up rs z m b = go rs b ∙ sym (ap (λ (fs : List (Poly M)). coeff k (partsFrom k 0 z fs) m) (map-map (carry h) (equation rs) (below width) ∙ run-below (read rs) width))
     where
-      go : (qs : List Record) → ((r : Record) → r ∈ qs → (1 ≤ r .equation) × (r .equation ≤ 6)) → addedUp qs z m ≡ coeff k (parts qs z 0 6) m
-      go [] b = rw (parts-none z 0 6)
+      go : (qs : List Record) → ((r : Record) → r ∈ qs → (1 ≤ r .equation) × (r .equation ≤ width)) → addedUp qs z m ≡ coeff k (parts qs z 0 width) m
+      go [] b = rw (parts-none z 0 width)
       go (r ∷ qs) b =
           ap (λ (y : ℤ). adds r z m +ℤ y) (go qs (λ q n. b q (there n)))
-          ∙ sym (parts-more r qs z m 0 6 (b r here .0) (let high : r .equation ≤ 6 = b r here .1 in omega arith))
+          ∙ sym (parts-more r qs z m 0 width (b r here .0) (let high : r .equation ≤ width = b r here .1 in omega arith))
 
 -- ---- of plain monomials
 abbrev pub contribution : Record → Mono → Mono → ℤ
@@ -264,6 +264,6 @@ carry-same : (fs : List (Poly Mono)) → map (carry (λ m. m)) fs ≡ fs
 carry-same [] = refl
 carry-same (f ∷ fs) = ap₂ _∷_ (map-id f) (carry-same fs)
 
-pub exchange : (rs : List Record) (z m : Mono) → ((r : Record) → r ∈ rs → (1 ≤ r .equation) × (r .equation ≤ 6))
+pub exchange : (rs : List Record) (z m : Mono) → ((r : Record) → r ∈ rs → (1 ≤ r .equation) × (r .equation ≤ width))
     → summed rs z m ≡ coeff plain (derivative plain (system rs) z) m
 exchange rs z m b = adds-up plain mono-order (λ m. m) rs z m b ∙ ap (λ (fs : List (Poly Mono)). coeff plain (derivative plain fs z) m) (carry-same (system rs))

@@ -9,6 +9,7 @@ use native.Mathlib.Omega.{arith}
 use lib.IntN.{ℤ, pos, natAbs, _+ℤ_}
 use lib.ListN.{length, getD, set, replicate, length-set, length-replicate}
 use lib.Seq.{getD-set-same, getD-set-other, set-set, set-getD}
+use Rattle.monomial.specs.Monomial.{width}
 use Rattle.monomial.specs.Lists.{pairwise, dictionary, pointwise}
 use Rattle.monomial.proofs.Members.{fill-at}
 use Rattle.monomial.proofs.Loops.{pointwise-length, pointwise-comm, pointwise-assoc, pointwise-unit, pointwise-cancel}

@@ -16,6 +16,7 @@ use Rattle.monomial.specs.Lists.{any, place}
 use Rattle.monomial.proofs.Tests.{Tested, passed, failed, test, T→is, is→T, nT→is, is→nT, and-l, and-r, and-i}
 use Rattle.monomial.proofs.Members.{any-in}
 use Rattle.monomial.proofs.Counting.{place-lt, place-passes, at-in}
+use Rattle.wiring.specs.Panel.{termBytes, termsBytes, mostCoefficient, termExponent}
 use Rattle.wiring.specs.Coefficient.{isZero}
 use Rattle.wiring.specs.Terms.{Record, lengthRight, coefficientRight, termRight, alike, fault}
 use Rattle.wiring.specs.declared.terms.Fault.the-variants.{Clean, Wrong, Repeated}
@@ -24,19 +25,19 @@ use Rattle.wiring.proofs.terms.Laws.{wrong-clean, repeated-clean, expon
 
 -- ---- the length
 pub record Measured (bytes : List ℕ) : Type 0 where
-  pub divided : length bytes % 12 ≡ 0
-  pub limited : length bytes ≤ 384
+  pub divided : length bytes % termBytes ≡ 0
+  pub limited : length bytes ≤ termsBytes
 
 pub length-exact : (bytes : List ℕ) → (lengthRight bytes ≡ true) ↔ Measured bytes
 unfolding lengthRight
-length-exact bytes = (out, λ m. rw (eq-eqb (length bytes % 12) 0 (m .divided), le-leb (length bytes) 384 (m .limited)))
+length-exact bytes = (out, λ m. rw (eq-eqb (length bytes % termBytes) 0 (m .divided), le-leb (length bytes) termsBytes (m .limited)))
   where
-    out : (eqb (length bytes % 12) 0 && leb (length bytes) 384) ≡ true → Measured bytes
+    out : (eqb (length bytes % termBytes) 0 && leb (length bytes) termsBytes) ≡ true → Measured bytes
     out e =
-        let t = is→T (eqb (length bytes % 12) 0 && leb (length bytes) 384) e in
+        let t = is→T (eqb (length bytes % termBytes) 0 && leb (length bytes) termsBytes) e in
         record {
-          divided = eqb→eq (length bytes % 12) 0 (and-l (eqb (length bytes % 12) 0) (leb (length bytes) 384) t);
-          limited = leb→le (length bytes) 384 (and-r (eqb (length bytes % 12) 0) (leb (length bytes) 384) t);
+          divided = eqb→eq (length bytes % termBytes) 0 (and-l (eqb (length bytes % termBytes) 0) (leb (length bytes) termsBytes) t);
+          limited = leb→le (length bytes) termsBytes (and-r (eqb (length bytes % termBytes) 0) (leb (length bytes) termsBytes) t);
         }
 
 -- ---- a record's rule, field by field
@@ -44,21 +45,21 @@ pub record Keeps (n : ℕ) (r : Record) : Type 0 where
   pub low : 1 ≤ r .equation
   pub high : r .equation ≤ n
   pub blank : r .blank ≡ 0
-  pub small : (i : ℕ) → getD (r .monomial) i 0 ≤ 9
+  pub small : (i : ℕ) → getD (r .monomial) i 0 ≤ termExponent
   pub beyond : (i : ℕ) → n ≤ i → getD (r .monomial) i 0 ≡ 0
   pub nonzero : r .coefficient ≡ pos 0 → ⊥
-  pub limited : natAbs (r .coefficient) ≤ 1000000
+  pub limited : natAbs (r .coefficient) ≤ mostCoefficient
 
-pub coefficient-exact : (c : ℤ) → T (coefficientRight c) ↔ ((c ≡ pos 0 → ⊥) × (natAbs c ≤ 1000000))
+pub coefficient-exact : (c : ℤ) → T (coefficientRight c) ↔ ((c ≡ pos 0 → ⊥) × (natAbs c ≤ mostCoefficient))
 unfolding coefficientRight
 coefficient-exact c = (
-  (λ t. ((λ e. T-not (isZero c) (and-l (not (isZero c)) (leb (natAbs c) 1000000) t) (is-zero c e)), leb→le (natAbs c) 1000000 (and-r (not (isZero c)) (leb (natAbs c) 1000000) t))),
-  (λ h. and-i (not (isZero c)) (leb (natAbs c) 1000000) (not-T (isZero c) (λ t. h .0 (zero-is c t))) (le→leb (natAbs c) 1000000 (h .1))),
+  (λ t. ((λ e. T-not (isZero c) (and-l (not (isZero c)) (leb (natAbs c) mostCoefficient) t) (is-zero c e)), leb→le (natAbs c) mostCoefficient (and-r (not (isZero c)) (leb (natAbs c) mostCoefficient) t))),
+  (λ h. and-i (not (isZero c)) (leb (natAbs c) mostCoefficient) (not-T (isZero c) (λ t. h .0 (zero-is c t))) (le→leb (natAbs c) mostCoefficient (h .1))),
 )
 
 keeps-out : (n : ℕ) (r : Record) → Fields n r → Keeps n r
 keeps-out n r f =
-    let fit = exponents-everywhere 9 n (r .monomial) (f .exponents) in
+    let fit = exponents-everywhere termExponent n (r .monomial) (f .exponents) in
     let range = coefficient-exact (r .coefficient) .0 (f .coefficient) in
     record { low = f .low; high = f .high; blank = f .blank; small = λ i. fit i .small; beyond = λ i h. fit i .zero h; nonzero = range .0; limited = range .1 }
 
@@ -67,7 +68,7 @@ keeps-in n r k = record {
   low = k .low;
   high = k .high;
   blank = k .blank;
-  exponents = exponents-in 9 n (r .monomial) (λ i h. record { small = k .small i; zero = k .beyond i });
+  exponents = exponents-in termExponent n (r .monomial) (λ i h. record { small = k .small i; zero = k .beyond i });
   coefficient = coefficient-exact (r .coefficient) .1 (k .nonzero, k .limited);
 }
 

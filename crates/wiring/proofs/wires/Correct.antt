@@ -12,6 +12,7 @@ use Rattle.monomial.specs.Product.{AtMost}
 use Rattle.monomial.proofs.Members.{gather-same, fill-at}
 use Rattle.monomial.proofs.Counting.{below-out}
 use Rattle.monomial.proofs.product.Laws.{atMost-at}
+use Rattle.wiring.specs.Panel.{wireBytes}
 use Rattle.wiring.specs.Coefficient.{word, signed}
 use Rattle.wiring.specs.Poly.{Kind, Poly}
 use Rattle.wiring.specs.Wires.{Wire, signal, row, wiring, wireRecord, wireList, Met}
@@ -42,7 +43,7 @@ module _ {M : Type 0} (k : Kind M) (v : List M) (d : M → Poly M) where
 
 -- ---- the bytes of a record
 pub record Decodes (x : Wire) (bytes : List ℕ) : Type 0 where
-  pub long : length bytes ≡ 8
+  pub long : length bytes ≡ wireBytes
   pub each : (k : ℕ) → getD bytes k 0 < 256
   pub left-is : getD bytes 0 0 ≡ x .left
   pub a-is : getD bytes 1 0 ≡ x .a
@@ -66,16 +67,16 @@ wire-decodes x l a b c = record {
     small = (omega arith, (omega arith, (omega arith, (omega arith, (omega arith, (omega arith, (omega arith, (omega arith, tt))))))))
 
 -- ---- a buffer that begins with the list
-pub list-at : (list : List Wire) (tail : List ℕ) (j : ℕ) (none : Wire) → j < length list → take 8 (drop (8 * j) (wireList list ++ tail)) ≡ wireRecord (getD list j none)
+pub list-at : (list : List Wire) (tail : List ℕ) (j : ℕ) (none : Wire) → j < length list → take wireBytes (drop (wireBytes * j) (wireList list ++ tail)) ≡ wireRecord (getD list j none)
 unfolding gather
 list-at [] tail j none h = let z : ⊥ = omega arith in absurd z
-list-at (x ∷ l) tail zero none h = ap (take 8) (append-assoc (wireRecord x) (wireList l) tail) ∙ take-at (wireRecord x) (wireList l ++ tail) 8 (record-length x)
+list-at (x ∷ l) tail zero none h = ap (take wireBytes) (append-assoc (wireRecord x) (wireList l) tail) ∙ take-at (wireRecord x) (wireList l ++ tail) wireBytes (record-length x)
 list-at (x ∷ l) tail (suc j) none h =
-    let skip : 8 * suc j ≡ length (wireRecord x) + 8 * j = omega (arith, record-length x) in
-    rw (append-assoc (wireRecord x) (wireList l) tail, skip, drop-append-add (wireRecord x) (wireList l ++ tail) (8 * j)) (list-at l tail j none (omega arith))
+    let skip : wireBytes * suc j ≡ length (wireRecord x) + wireBytes * j = omega (arith, record-length x) in
+    rw (append-assoc (wireRecord x) (wireList l) tail, skip, drop-append-add (wireRecord x) (wireList l ++ tail) (wireBytes * j)) (list-at l tail j none (omega arith))
 
-pub list-rest : (list : List Wire) (m k : ℕ) → 8 * length list ≤ k → getD (wireList list ++ replicate m 0) k 0 ≡ 0
+pub list-rest : (list : List Wire) (m k : ℕ) → wireBytes * length list ≤ k → getD (wireList list ++ replicate m 0) k 0 ≡ 0
 list-rest list m k h =
-    let front : length (wireList list) ≡ 8 * length list = list-length list in
+    let front : length (wireList list) ≡ wireBytes * length list = list-length list in
     let e : length (wireList list) + (k - length (wireList list)) ≡ k = omega arith in
     rw (sym e) (getD-append-add (wireList list) (replicate m 0) (k - length (wireList list)) 0 ∙ fill-at 0 m (k - length (wireList list)))

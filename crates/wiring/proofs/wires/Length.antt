@@ -10,14 +10,14 @@ use lib.Dec.{T, T-not, not-T, eqb, ltb, eqb→eq, ltb→lt}
 use lib.IntN.{pos, _*ℤ_}
 use lib.ListN.{length, getD, take, drop, length-map, length-append, take-append-drop}
 use Rattle.monomial.specs.Lists.{keep, arrangeBy, below}
-use Rattle.monomial.specs.Monomial.{Mono, one, vars, constants}
+use Rattle.monomial.specs.Monomial.{Mono, one, vars, constants, width}
 use Rattle.monomial.specs.Order.{same, before}
 use Rattle.monomial.specs.Product.{mul}
 use Rattle.monomial.proofs.Tests.{cond-cases, Tested, passed, failed, test}
 use Rattle.monomial.proofs.Members.{_∈_, keep-none, keep-no, keep-append, keep-map, keep-length, fill-at}
 use Rattle.monomial.proofs.Counting.{below-asc}
 use Rattle.monomial.proofs.order.Ascending.{Ascending, head-first, tail-asc, arrange-length}
-use Rattle.wiring.specs.Panel.{width, cards, mostTerms}
+use Rattle.wiring.specs.Panel.{cards, mostTerms, mostWires}
 use Rattle.wiring.specs.Coefficient.{isZero}
 use Rattle.wiring.specs.Poly.{Kind, Term, Poly, plain, coeff, monos, support, times}
 use Rattle.wiring.specs.Derivative.{part, partsFrom, derivative}
@@ -222,8 +222,8 @@ wiring-records n rs s =
 
 -- with 32 records and six monomials
 pub wiring-most : (n : ℕ) (rs : List Record) (s : List Mono) → length rs ≤ mostTerms → length s ≤ cards
-    → length (wiring plain (signals width n s) (derivative plain (system rs))) ≤ 224
+    → length (wiring plain (signals width n s) (derivative plain (system rs))) ≤ mostWires
 wiring-most n rs s h k =
     let a : length (wiring plain (signals width n s) (derivative plain (system rs))) ≤ suc (length s) * length rs = wiring-records n rs s in
-    let b : suc (length s) * length rs ≤ 7 * length rs = mul-le-mul-right (length rs) (omega arith) in
+    let b : suc (length s) * length rs ≤ suc cards * length rs = mul-le-mul-right (length rs) (omega arith) in
     omega arith

@@ -5,6 +5,7 @@ use lib.ListN.{length}
 use Rattle.wiring.proofs.signals.Laws.{array-length}
 use Rattle.walk.proofs.children.Offers.{same-child, made-own, child-none, child-second, child-first, child-both, set-lacks, first-lacks, both-lack}
 use borrow.Author.Needs.{needs}
+use Rattle.wiring.specs.Panel.{cards}
 use Rattle.walk.proofs.children.offer.Statement.{statement}
 use Rattle.walk.proofs.children.offer.Tie as tie
 
@@ -17,7 +18,7 @@ is-met-requires c κs = search needs
 returns : tie.Need-returns
 returns c =
     let s = c .before .before .before .before in
-    let room : length (s .args .set .m) ≡ 6 = search (needs, array-length) in
+    let room : length (s .args .set .m) ≡ cards = search (needs, array-length) in
     let has = sym (c .before .before .before .is-signal .ensures) ∙ c .if2 .taken in
     let met = sym (c .before .before .is-met .ensures) ∙ c .before .if1 .taken in
     λ n e. same-child (child-none n _ _ e _ _ (s .pre .1 .1 .1) has met) (made-own _ _ refl (omega arith) (omega arith))

@@ -6,6 +6,7 @@ use lib.ListN.{length}
 use Rattle.wiring.proofs.signals.Laws.{array-length}
 use Rattle.walk.proofs.children.Offers.{Inserting, inserting-start, inserting-on, inserting-first, inserting-behind}
 use borrow.Author.Needs.{needs}
+use Rattle.wiring.specs.Panel.{cards}
 use Rattle.walk.proofs.children.with.Statement.{statement}
 use Rattle.walk.proofs.children.with.Tie as tie
 
@@ -17,7 +18,7 @@ abbrev μ-loop : tie.MeasureT-loop
 
 loop-holds : tie.Need-loop-holds Inv-loop μ-loop
 loop-holds c =
-    let l : length (c .args .set .m) ≡ 6 = search (needs, array-length) in
+    let l : length (c .args .set .m) ≡ cards = search (needs, array-length) in
     inserting-start _ _ _ (c .pre) l
 
 sub-x : tie.Need-sub-x Inv-loop μ-loop

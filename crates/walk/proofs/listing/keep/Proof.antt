@@ -6,6 +6,7 @@ use lib.ListN.{length}
 use Rattle.wiring.specs.Sets.{monomialsOf}
 use Rattle.walk.proofs.listing.Finds.{shown-more, keeps-old, keeps-none, keeps-new}
 use borrow.Author.Needs.{needs}
+use Rattle.wiring.specs.Panel.{setBytes}
 use Rattle.walk.proofs.listing.keep.Statement.{statement}
 use Rattle.walk.proofs.listing.keep.Tie as tie
 
@@ -24,7 +25,7 @@ returns c =
     let start = c .before .before .before .before .before in
     let x = monomialsOf (start .args .set) in
     let listed = sym (c .before .is-listed .ensures finds x s (start .pre .0) (c .before .before .before .record-of .ensures)) ∙ c .if1 .taken in
-    keeps-old s x taken (length (start .args .out .now) / 36) listed
+    keeps-old s x taken (length (start .args .out .now) / setBytes) listed
 
 same-length-2 : tie.Need-same-length-2
 same-length-2 c = search needs
@@ -35,7 +36,7 @@ returns-2 c =
     let start = c .before .before .before .before .before .before in
     let x = monomialsOf (start .args .set) in
     let new = sym (c .before .before .is-listed .ensures finds x s (start .pre .0) (c .before .before .before .before .record-of .ensures)) ∙ c .before .if1 .left in
-    keeps-none s x taken (length (start .args .out .now) / 36) new (c .if2 .taken)
+    keeps-none s x taken (length (start .args .out .now) / setBytes) new (c .if2 .taken)
 
 place-of-requires : tie.Need-place-of-requires
 place-of-requires c κs = search needs
@@ -73,7 +74,7 @@ returns-3 c =
     let move = c .before .before .before .before .before .before .move-up in
     let write = c .before .before .put in
     let more = shown-more s x ok new (omega arith) p _ _ _ (place .0) (place .1 finds x s ok own) own (move .ensures) (write .ensures) (write .kept .0 ∙ move .kept .0) in
-    keeps-new s x taken (length (start .args .out .now) / 36) new (omega arith) _ more
+    keeps-new s x taken (length (start .args .out .now) / setBytes) new (omega arith) _ more
 
 pub keep-spec : {M : Type 1} → statement M
 keep-spec =

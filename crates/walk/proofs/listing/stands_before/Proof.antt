@@ -6,14 +6,15 @@ use Rattle.monomial.specs.Order.{before}
 use Rattle.monomial.proofs.Loops.{Comparing, comparing-start}
 use Rattle.monomial.proofs.order.Laws.{ℕ-order, not-ltb, dictionary-before, dictionary-behind, dictionary-on, dictionary-ends}
 use borrow.Author.Needs.{needs}
+use Rattle.wiring.specs.Panel.{setBytes}
 use Rattle.walk.proofs.listing.stands_before.Statement.{statement}
 use Rattle.walk.proofs.listing.stands_before.Tie as tie
 
 abbrev Inv-loop : tie.InvT-loop
-Inv-loop s b i₀ i = Comparing 36 before s b i
+Inv-loop s b i₀ i = Comparing setBytes before s b i
 
 abbrev μ-loop : tie.MeasureT-loop
-μ-loop s b i₀ i = 36 - i
+μ-loop s b i₀ i = setBytes - i
 
 loop-holds : tie.Need-loop-holds Inv-loop μ-loop
 loop-holds c = comparing-start (c .before .pre) (search needs)

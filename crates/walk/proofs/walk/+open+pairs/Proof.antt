@@ -38,6 +38,7 @@ use Rattle.walk.proofs.walk.+open+pairs.Lts-pairs as runner-lts
 use Rattle.monomial.proofs.Monomial.leads.Reads as leads-reads
 use Rattle.monomial.proofs.Monomial.next_divisor.Reads as next-divisor-reads
 use Rattle.monomial.proofs.Monomial.over.Reads as over-reads
+use Rattle.wiring.specs.Panel.{setBytes}
 use Rattle.walk.proofs.children.offer.Reads as offer-reads
 use Rattle.walk.proofs.walk.take_step.Reads as take-step-reads
 use Rattle.wiring.proofs.signals.signals_of.Reads as signals-of-reads
@@ -197,7 +198,7 @@ module _ (t : ℕ) (c : Offered t) where
     told-of turn size s out' =
         (d : ℕ) (finds : Finds) → begun .args .f .level - c .offer .result .set .len < d → Shown finds (reached .count) sheet
         → Tells turn out'
-        (run (begun .args .f .limit) (size / 36) (opened bare (begun .args .f .n) (system (records (begun .args .terms .now))) (begun .args .f .level) d s) (reached .steps + 1) finds)
+        (run (begun .args .f .limit) (size / setBytes) (opened bare (begun .args .f .n) (system (records (begun .args .terms .now))) (begun .args .f .level) d s) (reached .steps + 1) finds)
 
     offered-told : (turn turn' : Turn) (out' : List ℕ) → turn ≡ turn' → told-of turn (length sheet) (monomialsOf (c .offer .result .set)) out'
         → told-of turn' (length (begun .args .out .now)) offspring out'

@@ -8,6 +8,7 @@ use Prim.Native.Nat.{_/_}
 use lib.ListN.{length}
 use borrow.Author.Needs.{needs}
 use borrow.Author.Needs.{needs}
+use Rattle.wiring.specs.Panel.{setBytes}
 use Rattle.walk.proofs.walk.found.Statement.{statement}
 use Rattle.walk.proofs.walk.found.Tie as tie
 
@@ -30,7 +31,7 @@ returns c =
     λ finds sh.
     let a = c .before .before .before .before .before .before .before .before .args in
     let k = c .before .before .before .before .before .keep in
-    let outcome : Run = kept (length (a .out .now) / 36) (monomialsOf (a .set)) (a .st .steps) finds in
+    let outcome : Run = kept (length (a .out .now) / setBytes) (monomialsOf (a .set)) (a .st .steps) finds in
     let held = subst (λ (r : Kept). KeptAs r (a .st .steps) (k .last .0) outcome) (c .before .count .given .1) (k .ensures finds (a .st .steps) sh) in
     record { finds = held .0; shown = held .1; is = held .2 }
 
@@ -42,7 +43,7 @@ returns-2 c =
     λ finds sh.
     let a = c .before .before .before .before .before .before .before .args in
     let k = c .before .before .before .before .keep in
-    let outcome : Run = kept (length (a .out .now) / 36) (monomialsOf (a .set)) (a .st .steps) finds in
+    let outcome : Run = kept (length (a .out .now) / setBytes) (monomialsOf (a .set)) (a .st .steps) finds in
     subst (λ (r : Kept). KeptAs r (a .st .steps) (k .last .0) outcome) (c .enum-told .given .1) (k .ensures finds (a .st .steps) sh)
 
 pub found-spec : {M : Type 1} → statement M

@@ -22,6 +22,7 @@ use Rattle.walk.specs.Turns.{Tells}
 use Rattle.walk.proofs.Rules.{at-its-level, bare-goes-on}
 use Rattle.walk.proofs.walk.Laws.{open-spent, open-none, open-stops, picked-choice, signals-fit}
 use borrow.Author.Needs.{needs}
+use Rattle.wiring.specs.Panel.{setBytes, setExponent}
 use Rattle.walk.proofs.walk.take_step.Statement.{statement}
 use Rattle.walk.proofs.walk.take_step.Tie as tie
 
@@ -29,7 +30,7 @@ returns : tie.Need-returns
 returns c =
     λ d finds p sh.
     let a = c .before .before .before .before .args in
-    open-spent bare (a .f .n) (system (records (a .terms .now))) (a .f .level) (a .f .limit) (length (a .out .now) / 36) (a .st .steps) finds (monomialsOf (a .set)) d p (omega arith)
+    open-spent bare (a .f .n) (system (records (a .terms .now))) (a .f .level) (a .f .limit) (length (a .out .now) / setBytes) (a .st .steps) finds (monomialsOf (a .set)) d p (omega arith)
 
 add-t17 : tie.Need-add-t17
 add-t17 c = search needs
@@ -64,7 +65,7 @@ first-unmet-requires c κs =
       s .pre .clean,
       (
         omega (arith, s .pre .within, s .pre .low, s .pre .few),
-        (omega arith, (signals-fit 72 (s .args .f .n) _ _ (omega arith) (v .0) (s .pre .walked), sq .0)),
+        (omega arith, (signals-fit setExponent (s .args .f .n) _ _ (omega arith) (v .0) (s .pre .walked), sq .0)),
       ),
     )
 
@@ -89,7 +90,7 @@ returns-2 c =
     let at = c .before .before .before .before .before .before .first-unmet .result in
     let first = first-as (a .f .n) fs m _ at (v .0) (c .before .before .before .before .before .before .first-unmet .ensures) in
     let none = first-none (a .f .n) fs m at first (omega arith) in
-    let told = open-none bare (a .f .n) fs (a .f .level) (a .f .limit) (length (a .out .now) / 36) (a .st .steps) finds m d p (omega arith) none in
+    let told = open-none bare (a .f .n) fs (a .f .level) (a .f .limit) (length (a .out .now) / setBytes) (a .st .steps) finds m d p (omega arith) none in
     subst (Tells (c .before .before .found .result) (c .before .before .found .last .0)) (sym told) (c .before .before .found .ensures finds sh)
 
 returns-3 : tie.Need-returns-3
@@ -109,7 +110,7 @@ returns-3 c =
     record {
       finds = finds;
       shown = sh;
-      is = open-stops bare (a .f .n) fs (a .f .level) (a .f .limit) (length (a .out .now) / 36) (a .st .steps) finds m d p (omega arith) some last;
+      is = open-stops bare (a .f .n) fs (a .f .level) (a .f .limit) (length (a .out .now) / setBytes) (a .st .steps) finds m d p (omega arith) some last;
     }
 
 array-share-prefix-table-2 : tie.Need-array-share-prefix-table-2
@@ -130,7 +131,7 @@ choose-requires c κs =
       s .pre .clean,
       (
         omega (arith, s .pre .within, s .pre .low, s .pre .few),
-        (signals-fit 72 (s .args .f .n) _ _ (omega arith) (v .0) (s .pre .walked), sq .0),
+        (signals-fit setExponent (s .args .f .n) _ _ (omega arith) (v .0) (s .pre .walked), sq .0),
       ),
     )
 

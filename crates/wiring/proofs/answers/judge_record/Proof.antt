@@ -2,6 +2,7 @@
 use mathlib.Core.Path.{sym, ap, _∙_, subst}
 use borrow.Author.Tests.{not-true, not-false}
 use Rattle.monomial.proofs.Tests.{is→T}
+use Rattle.wiring.specs.Panel.{setExponent}
 use Rattle.wiring.specs.Signals.{Fitting}
 use Rattle.wiring.specs.Sets.{setRight}
 use Rattle.wiring.specs.Terms.{records, system}
@@ -27,7 +28,7 @@ judge-requires c κs =
     let r = c .before .before .read-set .ensures in
     let good = not-false _ (c .if1 .left) in
     let right = is→T (setRight (a .n) (a .set .now)) (sym (r .right) ∙ good) in
-    let fits = subst (Fitting 54) (sym (r .holds good)) (right-fits (a .n) (a .set .now) (s .pre .1 .1) right) in
+    let fits = subst (Fitting setExponent) (sym (r .holds good)) (right-fits (a .n) (a .set .now) (s .pre .1 .1) right) in
     (s .pre .0, (s .pre .1 .0, (r .fits, fits)))
 
 returns-2 : tie.Need-returns-2

@@ -10,6 +10,8 @@ use Rattle.wiring.proofs.terms.Laws.{clean-at}
 use Rattle.wiring.proofs.derivative.Records.{image-made}
 use Rattle.wiring.proofs.derivative.Bounds.{image-fits}
 use borrow.Author.Needs.{needs}
+use Rattle.monomial.specs.Monomial.{width}
+use Rattle.wiring.specs.Panel.{termExponent}
 use Rattle.wiring.proofs.derivative.image.Statement.{statement}
 use Rattle.wiring.proofs.derivative.image.Tie as tie
 
@@ -61,8 +63,8 @@ times-requires c κs =
     let z = s .args .z .e in
     let h = clean-at (s .args .terms .now) (s .pre .0) (s .args .t) (omega arith) in
     let made = image-made r z _ _ _ (c .before .before .before .wide .ensures .0) (c .before .of .ensures) (c .read .ensures) in
-    let six : length z ≡ 6 = search needs in
-    let fits = image-fits r 9 200 z (h .long) (h .small) six (s .pre .1 .1 .1) .1 in
+    let six : length z ≡ width = search needs in
+    let fits = image-fits r termExponent 200 z (h .long) (h .small) six (s .pre .1 .1 .1) .1 in
     subst FitsBytes (sym made) (atMost-weaken (image r z) (omega arith) fits)
 
 returns : tie.Need-returns

@@ -15,11 +15,12 @@ use Rattle.wiring.specs.Choice.{cheaper}
 use Rattle.wiring.proofs.choice.Laws.{cheap-order}
 use Rattle.wiring.proofs.quadratic.Records.{outside, passing-unmet, at-record, Meeting, meeting-start, meeting-same, meeting-more, meeting-ends}
 use borrow.Author.Needs.{needs}
+use Rattle.wiring.specs.Panel.{termBytes}
 use Rattle.wiring.proofs.quadratic.choose_in.Statement.{statement}
 use Rattle.wiring.proofs.quadratic.choose_in.Tie as tie
 
 abbrev Inv-loop : tie.InvT-loop
-Inv-loop terms z sq count best₀ t₀ best t = (count ≡ length terms / 12) × Meeting (outside (tabled sq)) (records terms) (z .e) cheap-order best₀ t best
+Inv-loop terms z sq count best₀ t₀ best t = (count ≡ length terms / termBytes) × Meeting (outside (tabled sq)) (records terms) (z .e) cheap-order best₀ t best
 
 abbrev μ-loop : tie.MeasureT-loop
 μ-loop terms z sq count best₀ t₀ best t = count - t

@@ -10,11 +10,12 @@ use Rattle.wiring.specs.Terms.{recordAt, records, system}
 use Rattle.wiring.proofs.terms.Laws.{records-length}
 use Rattle.wiring.proofs.quadratic.Records.{outside, found-unmet, at-record}
 use borrow.Author.Needs.{needs}
+use Rattle.wiring.specs.Panel.{termBytes}
 use Rattle.wiring.proofs.quadratic.has_nonsquare.Statement.{statement}
 use Rattle.wiring.proofs.quadratic.has_nonsquare.Tie as tie
 
 abbrev Inv-loop : tie.InvT-loop
-Inv-loop terms z sq count t₀ t = (count ≡ length terms / 12) × Seeking (offers (outside (tabled sq)) (system (records terms)) (z .e)) (records terms) t
+Inv-loop terms z sq count t₀ t = (count ≡ length terms / termBytes) × Seeking (offers (outside (tabled sq)) (system (records terms)) (z .e)) (records terms) t
 
 abbrev μ-loop : tie.MeasureT-loop
 μ-loop terms z sq count t₀ t = count - t

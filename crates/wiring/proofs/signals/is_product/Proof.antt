@@ -8,11 +8,12 @@ use Rattle.monomial.proofs.Loops.{Seeking, seeking-start}
 use Rattle.wiring.specs.Signals.{tabled}
 use Rattle.wiring.proofs.signals.Laws.{tabled-found, tabled-on, tabled-ends}
 use borrow.Author.Needs.{needs}
+use Rattle.monomial.specs.Monomial.{width}
 use Rattle.wiring.proofs.signals.is_product.Statement.{statement}
 use Rattle.wiring.proofs.signals.is_product.Tie as tie
 
 abbrev Inv-loop : tie.InvT-loop
-Inv-loop table m count i₀ i = (count ≡ length table / 6) × Seeking (same (m .e)) (tabled table) i
+Inv-loop table m count i₀ i = (count ≡ length table / width) × Seeking (same (m .e)) (tabled table) i
 
 abbrev μ-loop : tie.MeasureT-loop
 μ-loop table m count i₀ i = count - i

@@ -8,6 +8,7 @@ use Rattle.monomial.proofs.Tests.{is→nT}
 use Rattle.wiring.specs.Terms.{recordAt, exponentsRight, coefficientRight}
 use Rattle.wiring.proofs.terms.Laws.{right-fails, right-last}
 use borrow.Author.Needs.{needs}
+use Rattle.wiring.specs.Panel.{termExponent}
 use Rattle.wiring.proofs.terms.term_right.Statement.{statement}
 use Rattle.wiring.proofs.terms.term_right.Tie as tie
 
@@ -53,9 +54,9 @@ exponents-right-requires c κs = search needs
 returns-4 : tie.Need-returns-4
 returns-4 c =
     let a = c .before .before .before .before .before .before .before .before .before .before .args in
-    let m = ap (exponentsRight 9 (a .n)) (c .before .before .read .ensures) in
+    let m = ap (exponentsRight termExponent (a .n)) (c .before .before .read .ensures) in
     let no = sym m ∙ sym (c .before .exponents-right .ensures) ∙ not-true _ (c .if4 .taken) in
-    right-fails (a .n) (recordAt (a .terms .now) (a .t)) (λ f. is→nT (exponentsRight 9 (a .n) (recordAt (a .terms .now) (a .t) .monomial)) no (f .exponents))
+    right-fails (a .n) (recordAt (a .terms .now) (a .t)) (λ f. is→nT (exponentsRight termExponent (a .n) (recordAt (a .terms .now) (a .t) .monomial)) no (f .exponents))
 
 add-decode : tie.Need-add-decode
 add-decode c = search needs
@@ -71,7 +72,7 @@ returns-5 c =
     let k = c .before .before .before .before .before in
     let w = k .before .before .before .before in
     let a = w .before .before .before .args in
-    let yes = sym (ap (exponentsRight 9 (a .n)) (c .before .before .before .before .read .ensures)) ∙ sym
+    let yes = sym (ap (exponentsRight termExponent (a .n)) (c .before .before .before .before .read .ensures)) ∙ sym
     (c .before .before .before .exponents-right .ensures) ∙ not-false _ (c .before .before .if4 .left) in
     let whole = right-last (a .n) (recordAt (a .terms .now) (a .t)) _ (w .wide .ensures .0) (k .before .before .before .if1 .left) (k .before .before .if2 .left) (k .if3 .left) yes in
     c .coefficient-right .ensures ∙ ap coefficientRight (toZ-ofZ w32 _ (record { sfits = c .before .decode .ok }) ∙ c .before .decode .ensures) ∙ whole

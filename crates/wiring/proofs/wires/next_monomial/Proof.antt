@@ -11,11 +11,12 @@ use Rattle.monomial.proofs.order.Laws.{mono-order}
 use Rattle.wiring.specs.Choice.{beyond}
 use Rattle.wiring.proofs.quadratic.Records.{at-record, Meeting, meeting-start, meeting-same, meeting-more, meeting-heads}
 use borrow.Author.Needs.{needs}
+use Rattle.wiring.specs.Panel.{termBytes}
 use Rattle.wiring.proofs.wires.next_monomial.Statement.{statement}
 use Rattle.wiring.proofs.wires.next_monomial.Tie as tie
 
 abbrev Inv-loop : tie.InvT-loop
-Inv-loop terms z last count best₀ t₀ best t = (count ≡ length terms / 12) × Meeting (beyond last) (records terms) (z .e) mono-order best₀ t best
+Inv-loop terms z last count best₀ t₀ best t = (count ≡ length terms / termBytes) × Meeting (beyond last) (records terms) (z .e) mono-order best₀ t best
 
 abbrev μ-loop : tie.MeasureT-loop
 μ-loop terms z last count best₀ t₀ best t = count - t
