@@ -77,7 +77,8 @@ module _ (r : Rules) (o : Orderly r) (n : ℕ) (fs : List (Poly Mono)) (k : ℕ)
       go (m ∷ l) e = split m l e (test (ends r n k s (m ∷ l)))
 
   -- and the steps below a child that is opened are steps of the set
-  pub below-in : (d : ℕ) (s : List Mono) (p : Mono × Mono) (x : Step) → Parted r n fs k s p → x ∈ opened r n fs k d (child n s p) → x ∈ opened r n fs k (suc d) s
+  pub below-in : (d : ℕ) (s : List Mono) (p : Mono × Mono) (x : Step) → Parted r n fs k s p → x ∈ opened r n fs k d (child n s p)
+      → x ∈ opened r n fs k (suc d) s
   below-in d s p x q h =
       let m : Mono = chosen (q .first) (q .others) in
       let two : List (Mono × Mono) = r .tries (signals width n s) m in
@@ -134,7 +135,8 @@ module _ (r : Rules) (o : Orderly r) (n : ℕ) (fs : List (Poly Mono)) (k : ℕ)
       go (m ∷ l) e = split m l e (test (ends r n k s (m ∷ l)))
 
   -- what is opened below a child that is opened is opened
-  below-opened : (d : ℕ) (s : List Mono) (p : Mono × Mono) → Parted r n fs k s p → openings (opened r n fs k d (child n s p)) ⊆ openings (opened r n fs k (suc d) s)
+  below-opened : (d : ℕ) (s : List Mono) (p : Mono × Mono) → Parted r n fs k s p
+      → openings (opened r n fs k d (child n s p)) ⊆ openings (opened r n fs k (suc d) s)
   below-opened d s p q t h =
       let es : List Step = opened r n fs k d (child n s p) in
       let g : Gathered openedBy t es = gather-out openedBy es h in

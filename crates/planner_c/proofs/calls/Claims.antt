@@ -59,7 +59,8 @@ module _ (n cap limit : ℕ) (terms : List ℕ) (size : ℕ) where
   plan-means (NotQuadratic o p) bytes e = plan-exact n cap limit terms size (NotQuadratic o p) bytes .0 e .0
 
   -- a meaning that brings back what the reply says and leaves is had exactly where C gets the reply's numbers
-  exactly : (r : Reply) (bytes : List ℕ) → (PlanMeans n cap limit terms size r bytes → PlanSays n cap limit terms size r × (bytes ≡ leaves n cap limit terms size r))
+  exactly : (r : Reply) (bytes : List ℕ)
+      → (PlanMeans n cap limit terms size r bytes → PlanSays n cap limit terms size r × (bytes ≡ leaves n cap limit terms size r))
       → (answer (inOrder (numbers r)) bytes ≡ given (planned n cap limit terms size)) ↔ PlanMeans n cap limit terms size r bytes
   exactly r bytes back = (
     (λ e. plan-means r bytes (given-exact r bytes (planned n cap limit terms size) .0 e)),
@@ -67,7 +68,8 @@ module _ (n cap limit : ℕ) (terms : List ℕ) (size : ℕ) where
   )
 
   -- whatever C gets is of one reply, and means what that reply says
-  pub siragumon-plan-means : (five bytes : List ℕ) → answer five bytes ≡ given (planned n cap limit terms size) → Heard (λ r. PlanMeans n cap limit terms size r bytes) five
+  pub siragumon-plan-means : (five bytes : List ℕ) → answer five bytes ≡ given (planned n cap limit terms size)
+      → Heard (λ r. PlanMeans n cap limit terms size r bytes) five
   siragumon-plan-means five bytes e =
       let some = plan-replies n cap limit terms size in
       heard (planned n cap limit terms size) (some .0) _ (some .1) (PlanMeans n cap limit terms size) plan-means five bytes e
