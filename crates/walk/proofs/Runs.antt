@@ -24,7 +24,7 @@ use Rattle.walk.proofs.Steps.{run-stops, run-other, run-found}
 -- ---- the sets that steps find, ascending, each once
 -- with one step more
 unfoldable pub noted : Step → Finds → Finds
-noted other finds = finds
+noted (other t) finds = finds
 noted (found s) finds = cond (any (sameSet s) finds) finds (insertBy sameSet beforeSet s finds)
 
 -- with those found before
@@ -38,7 +38,7 @@ distinct es = listed [] es
 -- a step finds one set or none
 noted-length : (e : Step) (finds : Finds) → (length finds ≤ length (noted e finds)) × (length (noted e finds) ≤ suc (length finds))
 unfolding noted
-noted-length other finds = (omega arith, omega arith)
+noted-length (other t) finds = (omega arith, omega arith)
 noted-length (found s) finds = go (test (any (sameSet s) finds))
   where
     go : Tested (any (sameSet s) finds) → (length finds ≤ length (noted (found s) finds)) × (length (noted (found s) finds) ≤ suc (length finds))
@@ -69,13 +69,13 @@ listed-more (e ∷ es) finds (suc a) (suc b) h = listed-more es (noted e finds) 
 -- they ascend, those found before stay, and each is one of these or a find of the steps
 noted-asc : (e : Step) (finds : Finds) → Ascending beforeSet finds → Ascending beforeSet (noted e finds)
 unfolding noted
-noted-asc other finds a = a
+noted-asc (other t) finds a = a
 noted-asc (found s) finds a =
     cond-cases (Ascending beforeSet) (any (sameSet s) finds) finds (insertBy sameSet beforeSet s finds) (λ t. a) (λ f. insert-asc set-order s finds a)
 
 noted-keeps : (e : Step) (finds : Finds) → finds ⊆ noted e finds
 unfolding noted
-noted-keeps other finds x h = h
+noted-keeps (other t) finds x h = h
 noted-keeps (found s) finds x h =
     cond-cases (λ r. x ∈ r) (any (sameSet s) finds) finds (insertBy sameSet beforeSet s finds) (λ t. h) (λ f. insert-old set-order s finds h)
 
@@ -87,7 +87,7 @@ noted-new s finds =
 
 noted-out : (e : Step) (finds : Finds) (x : List Mono) → x ∈ noted e finds → (x ∈ finds) ⊎ (found x ≡ e)
 unfolding noted
-noted-out other finds x = λ h. inl h
+noted-out (other t) finds x = λ h. inl h
 noted-out (found s) finds x =
     cond-cases (λ r. x ∈ r → (x ∈ finds) ⊎ (found x ≡ found s)) (any (sameSet s) finds) finds (insertBy sameSet beforeSet s finds)
     (λ t h. inl h)
@@ -136,7 +136,7 @@ module _ (limit room : ℕ) where
   step-on : (e : Step) (es : List Step) (taken : ℕ) (finds : Finds) → taken < limit → length finds ≤ room → length (noted e finds) ≤ room
       → run limit room (e ∷ es) taken finds ≡ run limit room es (suc taken) (noted e finds)
   unfolding noted kept onward
-  step-on other es taken finds h r f = run-other limit room es taken finds h
+  step-on (other t) es taken finds h r f = run-other limit room es taken finds t h
   step-on (found s) es taken finds h r f = run-found limit room es taken finds s h ∙ go (test (any (sameSet s) finds))
     where
       go : Tested (any (sameSet s) finds) → onward (kept room s (suc taken) finds) (run limit room es) ≡ run limit room es (suc taken) (noted (found s) finds)
@@ -151,7 +151,7 @@ module _ (limit room : ℕ) where
   step-full : (e : Step) (es : List Step) (taken : ℕ) (finds : Finds) → taken < limit → length finds ≤ room → room < length (noted e finds)
       → run limit room (e ∷ es) taken finds ≡ full (suc taken)
   unfolding noted kept onward
-  step-full other es taken finds h r f = let z : ⊥ = omega arith in absurd z
+  step-full (other t) es taken finds h r f = let z : ⊥ = omega arith in absurd z
   step-full (found s) es taken finds h r f = run-found limit room es taken finds s h ∙ go (test (any (sameSet s) finds))
     where
       go : Tested (any (sameSet s) finds) → onward (kept room s (suc taken) finds) (run limit room es) ≡ full (suc taken)

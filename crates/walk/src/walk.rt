@@ -15,7 +15,7 @@ ghost use Rattle.wiring.specs.Terms.{records, system};
 ghost use Rattle.wiring.specs.Sets.{monomialsOf};
 ghost use Rattle.walk.specs.Walk.{Finds, bare, opened, triedAll, run, kept};
 ghost use Rattle.walk.specs.Listing.{Shown};
-ghost use Rattle.walk.specs.Turns.{Tells, Ready, Splits, Found, Judged};
+ghost use Rattle.walk.specs.Turns.{Tells, Ready, Splits, Found, Stepped};
 
 // What stays the same through a level.
 pub struct Frame {
@@ -58,9 +58,9 @@ fn found(out: &mut [u8], set: Set, st: State) -> Turn
 }
 
 // Takes the step of opening a set, and says what follows.
-fn judge(terms: &[u8], out: &mut [u8], f: Frame, set: Set, st: State) -> Opened
+fn take_step(terms: &[u8], out: &mut [u8], f: Frame, set: Set, st: State) -> Opened
     requires { ⌜ Ready (f .n) (now terms) (f .level) set (st .count) (now out) ⌝ }
-    ensures { λ r. ⌜ Judged bare (f .n) (now (terms .entry)) (f .level) (f .limit) set st (now (out .entry)) r (now (out .exit)) ⌝ }
+    ensures { λ r. ⌜ Stepped bare (f .n) (now (terms .entry)) (f .level) (f .limit) set st (now (out .entry)) r (now (out .exit)) ⌝ }
 {
     let taken = st.steps;
     if f.limit <= taken {
@@ -107,7 +107,7 @@ pub(crate) fn open(terms: &[u8], out: &mut [u8], f: Frame, set: Set, st: State) 
         Tells r (now (out .exit))
         (run (f .limit) (length (now (out .entry)) / setBytes) (opened bare (f .n) (system (records (now (terms .entry)))) (f .level) d (monomialsOf set)) (st .steps) finds)) ⌝ }
 {
-    let o = judge(terms, out, f, set, st);
+    let o = take_step(terms, out, f, set, st);
     if !o.split {
         return o.turn;
     }

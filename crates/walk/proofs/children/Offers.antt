@@ -133,15 +133,15 @@ module _ {A : Type 0} {ahead : A → A → Bool} {m : A} {s u : List A} where
             behind o y m (w .later y k) (λ t. new (Memᴰ·cast (sym (o .same-eq y m t)) inside))
 
 -- ---- the same in an array of six monomials, of which the first len are those of u
-pub record Moving (m : Mono) (len : ℕ) (u now : List Monomial) (i : ℕ) : Type 0 where
+pub record Inserting (m : Mono) (len : ℕ) (u now : List Monomial) (i : ℕ) : Type 0 where
   pub few : len < cards
   pub source : length u ≡ cards
   pub long : length now ≡ cards
   pub within : i ≤ len
   pub shifting : Shifting before m (front len u) (front (len + 1) now) i
 
-pub moving-start : (m : Mono) (len : ℕ) (u : List Monomial) → len < cards → length u ≡ cards → Moving m len u u len
-moving-start m len u h l =
+pub inserting-start : (m : Mono) (len : ℕ) (u : List Monomial) → len < cards → length u ≡ cards → Inserting m len u u len
+inserting-start m len u h l =
     let s : List Mono = front len u in
     let size : length s ≡ len = front-length len u (omega arith) in
     let more : length (front (len + 1) u) ≡ len + 1 = front-length (len + 1) u (omega arith) in
@@ -155,7 +155,7 @@ moving-start m len u h l =
       shifting = subst (λ (k : ℕ). Shifting before m s (front (len + 1) u) k) size (shifting-start (omega arith) same-front);
     }
 
-module _ {m : Mono} {len : ℕ} {u now : List Monomial} {i : ℕ} (w : Moving m len u now i) where
+module _ {m : Mono} {len : ℕ} {u now : List Monomial} {i : ℕ} (w : Inserting m len u now i) where
   size : length (front len u) ≡ len
   size = front-length len u (omega (arith, w .few, w .source))
 
@@ -166,8 +166,8 @@ module _ {m : Mono} {len : ℕ} {u now : List Monomial} {i : ℕ} (w : Moving m 
   at-first : 0 < i → getD (front len u) (i - 1) [] ≡ entry now (i - 1)
   at-first h = sym (shifting-at (w .shifting) (i - 1) [] (omega arith)) ∙ at-now h
 
-  pub moving-on : (x : Monomial) → 0 < i → x .e ≡ entry now (i - 1) → before (x .e) m ≡ false → Moving m len u (set now i x) (i - 1)
-  moving-on x h e f =
+  pub inserting-on : (x : Monomial) → 0 < i → x .e ≡ entry now (i - 1) → before (x .e) m ≡ false → Inserting m len u (set now i x) (i - 1)
+  inserting-on x h e f =
       let named : getD (front (len + 1) now) (i - 1) [] ≡ x .e = at-now h ∙ sym e in
       let next : Shifting before m (front len u) (set (front (len + 1) now) i (getD (front (len + 1) now) (i - 1) [])) (i - 1) =
       shifting-on (w .shifting) (i - 1) [] (omega arith) (ap (λ (z : Mono). before z m) named ∙ f) in
@@ -189,11 +189,11 @@ module _ {m : Mono} {len : ℕ} {u now : List Monomial} {i : ℕ} (w : Moving m 
         ∙ shifting-end (w .shifting) mono-order (λ k. is→nT (any (same m) (front len u)) f (among-in mono-order k)) h
 
     -- the loop ends at the first place, or at an entry that stands before m
-    pub moving-first : i ≡ 0 → front (len + 1) (set now i x) ≡ insertBy same before m (front len u)
-    moving-first z = placed (λ y k. absurd (List·Memᴰ·not-nil (subst (λ (n : ℕ). y ∈ take n (front len u)) z k)))
+    pub inserting-first : i ≡ 0 → front (len + 1) (set now i x) ≡ insertBy same before m (front len u)
+    inserting-first z = placed (λ y k. absurd (List·Memᴰ·not-nil (subst (λ (n : ℕ). y ∈ take n (front len u)) z k)))
 
-    pub moving-behind : 0 < i → before (entry now (i - 1)) m ≡ true → front (len + 1) (set now i x) ≡ insertBy same before m (front len u)
-    moving-behind h t =
+    pub inserting-behind : 0 < i → before (entry now (i - 1)) m ≡ true → front (len + 1) (set now i x) ≡ insertBy same before m (front len u)
+    inserting-behind h t =
         let s : List Mono = front len u in
         let q : i ≡ suc (i - 1) = omega arith in
         let last : T (before (getD s (i - 1) []) m) = is→T (before (getD s (i - 1) []) m) (ap (λ (z : Mono). before z m) (at-first h) ∙ t) in

@@ -179,6 +179,10 @@ module _ (n cap limit : ℕ) (terms : List ℕ) (size : ℕ) where
           let q : told .reply ≡ r = told-reply r bytes e in
           (subst PlanSays q (told .holds), ap (λ (x : Outcome). x .bytes) (e ∙ planned-told) ∙ ap leaves q)
 
+  -- some reply is always given
+  pub plan-replies : (r : Reply) × (outcome r (leaves r) ≡ planned n cap limit terms size)
+  plan-replies = (told .reply, sym planned-told)
+
   -- two replies that keep it are equal, and so are their buffers
   pub plan-determined : (r r' : Reply) (bytes bytes' : List ℕ) → outcome r bytes ≡ planned n cap limit terms size → outcome r' bytes' ≡ planned n cap limit terms size
       → (r ≡ r') × (bytes ≡ bytes')

@@ -29,7 +29,7 @@ use Rattle.walk.specs.declared.walk.State.{State}
 use Rattle.walk.specs.declared.walk.Turn.{Turn}
 use Rattle.walk.specs.Walk.{Finds, Rules, child, Step, triedAll, opened, run}
 use Rattle.walk.specs.Listing.{Shown}
-use Rattle.walk.specs.Turns.{Child, Tells, Sheet, Ready, Split, Splits}
+use Rattle.walk.specs.Turns.{Child, Tells, Showing, Ready, PairsFollow, Splits}
 use Rattle.walk.proofs.Rules.{below-its-level}
 use Rattle.walk.proofs.children.Laws.{not-both, split-longer, nonsquare-fits, child-walked}
 use Rattle.walk.proofs.walk.Laws.{open-tells, choice-member}
@@ -75,8 +75,8 @@ module _ (n : ℕ) (terms : List ℕ) (level : ℕ) (set : Set) (m : Mono) (coun
         let h = leb-true (length (child n (monomialsOf set) (a, quo m a))) level (sym (c .go) ∙ go) in
         omega arith
 
-    pub child-ready : (count' : ℕ) (out : List ℕ) → Sheet count' out → Ready n terms level (r .set) count' out
-    child-ready count' out sheet =
+    pub child-ready : (count' : ℕ) (out : List ℕ) → Showing count' out → Ready n terms level (r .set) count' out
+    child-ready count' out showing =
         let e : r .set .len ≡ length (child n (monomialsOf set) (a, quo m a)) = c .size go in
         let h : r .set .len ≤ level = child-within in
         let few : length (child n (monomialsOf set) (a, quo m a)) ≤ cards = omega (arith, ready .low) in
@@ -88,7 +88,7 @@ module _ (n : ℕ) (terms : List ℕ) (level : ℕ) (set : Set) (m : Mono) (coun
           few = ready .few;
           clean = ready .clean;
           walked = rw (c .is go) w;
-          sheet = sheet;
+          showing = showing;
         }
 
 -- what the opener says of the child, in the words of the runner
@@ -106,7 +106,7 @@ told-as r n terms level limit steps count t s out₀ out out' turn turn' e k sam
 
 -- what the runner says of the pairs, in the words of the opener
 module _ (r : Rules) (n : ℕ) (terms : List ℕ) (level limit : ℕ) (set : Set) (st : State) (out₀ : List ℕ) (ready : Ready n terms level set (st .count) out₀)
-    (m : Mono) (out : List ℕ) (sp : Split r n terms level limit set st out₀ m out) where
+    (m : Mono) (out : List ℕ) (sp : PairsFollow r n terms level limit set st out₀ m out) where
   pub split-member : Splits n terms level set m
   split-member = record {
     below = omega (arith, ready .size, below-its-level r n level (monomialsOf set) (sp .first ∷ sp .others) (sp .on));

@@ -110,6 +110,10 @@ module _ (n : ℕ) (terms set : List ℕ) (size : ℕ) where
           let one : r ≡ told .reply = same-reply r (told .reply) (ap (λ (x : Outcome). x .said) both) in
           (subst (WireSays n terms set size) (sym one) (told .holds), ap (λ (x : Outcome). x .bytes) both ∙ ap (wireLeaves n terms set size) (sym one))
 
+  -- some reply is always given
+  pub wire-replies : (r : Reply) × (outcome r (leaves r) ≡ wired n terms set size)
+  wire-replies = (told .reply, says (told .reply) (told .holds))
+
   -- full: the list is longer than the buffer holds
   pub wire-full : (o k : ℕ) (bytes : List ℕ) → (outcome (Full o k) bytes ≡ wired n terms set size)
       ↔ ((WellFormed n terms set × Quadratic plain (signalsIn n set) (derivativeIn terms)

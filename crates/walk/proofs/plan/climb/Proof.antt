@@ -35,7 +35,7 @@ open-requires c κs =
       few = p .0;
       clean = p .1 .1 .0;
       walked = empty-walked;
-      sheet = record { finds = []; shown = shown-none (k .out) (k .inv .blank) };
+      showing = record { finds = []; shown = shown-none (k .out) (k .inv .blank) };
     }
 
 enum-known-s : tie.Need-enum-known-s Inv-loop μ-loop

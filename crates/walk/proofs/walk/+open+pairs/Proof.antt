@@ -26,7 +26,7 @@ use Rattle.walk.specs.declared.walk.State.{State}
 use Rattle.walk.specs.declared.walk.Turn.{Turn}
 use Rattle.walk.specs.declared.walk.Turn.the-variants.{Going, Spent, Full}
 use Rattle.walk.proofs.Rules.{bare-opens}
-use Rattle.walk.proofs.walk.Laws.{judged-closed, judged-split, Running, running-start, running-sheet, running-end, running-spent, running-shut, running-going, running-child-spent, running-child-full}
+use Rattle.walk.proofs.walk.Laws.{nothing-follows, pairs-follow, Running, running-start, running-showing, running-end, running-spent, running-shut, running-going, running-child-spent, running-child-full}
 use Rattle.walk.proofs.walk.Runner.{fewer-left, gap-wide, gap-proper, child-more, child-within, child-ready, told-as, split-member, split-ready, split-tells}
 use Rattle.walk.proofs.walk.open.Reads as opener
 use Rattle.walk.proofs.walk.open.Kinds as opener-kinds
@@ -39,7 +39,7 @@ use Rattle.monomial.proofs.Monomial.next_divisor.Reads as next-divisor-reads
 use Rattle.monomial.proofs.Monomial.over.Reads as over-reads
 use Rattle.wiring.specs.Panel.{setBytes}
 use Rattle.walk.proofs.children.offer.Reads as offer-reads
-use Rattle.walk.proofs.walk.judge.Reads as judge-reads
+use Rattle.walk.proofs.walk.take_step.Reads as take-step-reads
 use Rattle.wiring.proofs.signals.signals_of.Reads as signals-of-reads
 use Rattle.walk.proofs.walk.+open+pairs.{statement}
 use Rattle.walk.proofs.walk.+open+pairs.Tie.{close}
@@ -64,27 +64,27 @@ runner-below t = and 2 runner-kinds.ps (falls 2 runner-kinds.ps _<_ μ-runner t)
 
 -- ---- the opener
 abbrev opener-claims : ℕ → opener-lts.Claims
-opener-claims t = (judge-reads.Asked, judge-reads.Learnt, runner-below t, runner.Post)
+opener-claims t = (take-step-reads.Asked, take-step-reads.Learnt, runner-below t, runner.Post)
 
-opener-judge-requires : (t : ℕ) → opener-lts.Need-judge-requires (opener-claims t) (opener-at t) opener.Post
-opener-judge-requires t c κs = c .before .before .before .pre .1
+opener-take-step-requires : (t : ℕ) → opener-lts.Need-take-step-requires (opener-claims t) (opener-at t) opener.Post
+opener-take-step-requires t c κs = c .before .before .before .pre .1
 
 opener-same-length : (t : ℕ) → opener-lts.Need-same-length (opener-claims t) (opener-at t) opener.Post
-opener-same-length t c = c .before .before .before .before .judge .kept .1 .0
+opener-same-length t c = c .before .before .before .before .take-step .kept .1 .0
 
 opener-returns : (t : ℕ) → opener-lts.Need-returns (opener-claims t) (opener-at t) opener.Post
 opener-returns t c =
     λ d finds h sh.
     let a = c .before .before .before .before .before .before .before .before .args in
-    let j = c .before .before .before .before .judge in
-    judged-closed bare (a .f .n) (a .terms .now) (a .f .level) (a .f .limit) (a .set) (a .st) (a .out .now) (j .result) (j .last .1 .0)
+    let j = c .before .before .before .before .take-step in
+    nothing-follows bare (a .f .n) (a .terms .now) (a .f .level) (a .f .limit) (a .set) (a .st) (a .out .now) (j .result) (j .last .1 .0)
     (not-true _ (c .if1 .taken)) (j .ensures) d finds (omega arith) sh
 
 opener-add-t12 : (t : ℕ) → opener-lts.Need-add-t12 (opener-claims t) (opener-at t) opener.Post
 opener-add-t12 t c =
     let a = c .before .before .before .before .before .before .before .before .before .before .args in
-    let j = c .before .before .before .before .before .before .judge in
-    let sp = judged-split bare (a .f .n) (a .terms .now) (a .f .level) (a .f .limit) (a .set) (a .st) (a .out .now) (j .result) (j .last .1 .0)
+    let j = c .before .before .before .before .before .before .take-step in
+    let sp = pairs-follow bare (a .f .n) (a .terms .now) (a .f .level) (a .f .limit) (a .set) (a .st) (a .out .now) (j .result) (j .last .1 .0)
     (not-false _ (c .before .before .if1 .left)) (j .ensures) in
     search (needs, sp .taken, c .before .before .before .before .before .before .before .before .before .before .good)
 
@@ -92,8 +92,8 @@ opener-pairs-requires : (t : ℕ) → opener-lts.Need-pairs-requires (opener-cla
 opener-pairs-requires t c κs =
     let s = c .before .before .before .before .before .before .before .before .before .before .before in
     let a = s .args in
-    let j = c .before .before .before .before .before .before .before .judge in
-    let sp = judged-split bare (a .f .n) (a .terms .now) (a .f .level) (a .f .limit) (a .set) (a .st) (a .out .now) (j .result) (j .last .1 .0)
+    let j = c .before .before .before .before .before .before .before .take-step in
+    let sp = pairs-follow bare (a .f .n) (a .terms .now) (a .f .level) (a .f .limit) (a .set) (a .st) (a .out .now) (j .result) (j .last .1 .0)
     (not-false _ (c .before .before .before .if1 .left)) (j .ensures) in
     let step : 2 * (a .f .level - a .set .len) < t = omega (arith, s .pre .0) in
     let ready = split-ready bare (a .f .n) (a .terms .now) (a .f .level) (a .f .limit) (a .set) (a .st) (a .out .now) (s .pre .1) _ _ sp in
@@ -102,16 +102,16 @@ opener-pairs-requires t c κs =
 
 opener-same-length-2 : (t : ℕ) → opener-lts.Need-same-length-2 (opener-claims t) (opener-at t) opener.Post
 opener-same-length-2 t c =
-    c .before .before .pairs .kept .1 .0 ∙ c .before .before .before .before .before .before .before .before .before .before .judge .kept .1 .0
+    c .before .before .pairs .kept .1 .0 ∙ c .before .before .before .before .before .before .before .before .before .before .take-step .kept .1 .0
 
 opener-returns-2 : (t : ℕ) → opener-lts.Need-returns-2 (opener-claims t) (opener-at t) opener.Post
 opener-returns-2 t c =
     λ d finds h sh.
     let s = c .before .before .before .before .before .before .before .before .before .before .before .before .before .before in
     let a = s .args in
-    let j = c .before .before .before .before .before .before .before .before .before .before .judge in
+    let j = c .before .before .before .before .before .before .before .before .before .before .take-step in
     let r = c .before .before .pairs in
-    let sp = judged-split bare (a .f .n) (a .terms .now) (a .f .level) (a .f .limit) (a .set) (a .st) (a .out .now) (j .result) (j .last .1 .0)
+    let sp = pairs-follow bare (a .f .n) (a .terms .now) (a .f .level) (a .f .limit) (a .set) (a .st) (a .out .now) (j .result) (j .last .1 .0)
     (not-false _ (c .before .before .before .before .before .before .if1 .left)) (j .ensures) in
     split-tells bare (a .f .n) (a .terms .now) (a .f .level) (a .f .limit) (a .set) (a .st) (a .out .now) (s .pre .1) _ _ sp (r .result) (r .last .1 .0) (r .ensures) d finds h sh
 
@@ -254,10 +254,10 @@ runner-open-requires t c κs =
     let k = c .before .before .before .before .before .before .before .before .before .loop in
     let o = c .before .before .before in
     let go = c .before .before .if3 .taken in
-    let sheet = running-sheet bare (a .f .n) (a .terms .now) (a .f .level) (a .f .limit) (a .set) (a .m .e) (a .st) (a .out .now) (k .a .e) (k .cur)
-    (k .out) (k .inv) (s .pre .1 .0 .sheet) in
+    let showing = running-showing bare (a .f .n) (a .terms .now) (a .f .level) (a .f .limit) (a .set) (a .m .e) (a .st) (a .out .now) (k .a .e) (k .cur)
+    (k .out) (k .inv) (s .pre .1 .0 .showing) in
     let ready = child-ready (a .f .n) (a .terms .now) (a .f .level) (a .set) (a .m .e) (a .st .count) (a .out .now) (s .pre .1 .0) (s .pre .1 .1)
-    (k .a .e) (k .inv .divisor) (offered-lead t o) (o .offer .result) (offered-child t o) go (k .cur .count) (k .out) sheet in
+    (k .a .e) (k .inv .divisor) (offered-lead t o) (o .offer .result) (offered-child t o) go (k .cur .count) (k .out) showing in
     let more = offered-more t o go in
     let within = offered-within t o go in
     let step : 2 * (a .f .level - o .offer .result .set .len) + 1 < t = omega (arith, s .pre .0) in
@@ -362,7 +362,7 @@ pub +open+pairs-spec : {M : Type 1} → statement M
 +open+pairs-spec =
     close μ-opener μ-runner
     (λ t. opener-lts.spec (opener-claims t) (opener-at t) opener.Post
-    (opener-judge-requires t)
+    (opener-take-step-requires t)
     (opener-same-length t)
     (opener-returns t)
     (opener-add-t12 t)

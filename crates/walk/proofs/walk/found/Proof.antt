@@ -15,7 +15,7 @@ use Rattle.walk.proofs.walk.found.Tie as tie
 keep-requires : tie.Need-keep-requires
 keep-requires c κs =
     let p = c .before .before .pre in
-    (p .recorded, p .sheet .shown .room)
+    (p .recorded, p .showing .shown .room)
 
 enum-known-count : tie.Need-enum-known-count
 enum-known-count c = search needs

@@ -1,4 +1,4 @@
--- `judge` meets its contract: spent, found, at the level's end, or to be split. Assumes nothing.
+-- `take_step` meets its contract: spent, found, at the level's end, or to be split. Assumes nothing.
 use mathlib.Core.Path.{refl, sym, subst}
 use mathlib.Core.List.{List, _∷_}
 use Prim.Native.Nat.{_/_}
@@ -23,8 +23,8 @@ use Rattle.walk.proofs.Rules.{at-its-level, bare-goes-on}
 use Rattle.walk.proofs.walk.Laws.{open-spent, open-none, open-stops, picked-choice, signals-fit}
 use borrow.Author.Needs.{needs}
 use Rattle.wiring.specs.Panel.{setBytes, setExponent}
-use Rattle.walk.proofs.walk.judge.Statement.{statement}
-use Rattle.walk.proofs.walk.judge.Tie as tie
+use Rattle.walk.proofs.walk.take_step.Statement.{statement}
+use Rattle.walk.proofs.walk.take_step.Tie as tie
 
 returns : tie.Need-returns
 returns c =
@@ -72,7 +72,7 @@ first-unmet-requires c κs =
 found-requires : tie.Need-found-requires
 found-requires c κs =
     let p = c .before .before .before .before .before .before .before .before .before .before .before .before .before .pre in
-    record { recorded = p .walked .recorded; sheet = p .sheet }
+    record { recorded = p .walked .recorded; showing = p .showing }
 
 same-length : tie.Need-same-length
 same-length c = c .before .before .found .kept .0
@@ -160,8 +160,8 @@ returns-4 c =
       kept = refl;
     }
 
-pub judge-spec : {M : Type 1} → statement M
-judge-spec =
+pub take-step-spec : {M : Type 1} → statement M
+take-step-spec =
     tie.close
     (tie.spec
     returns
