@@ -181,3 +181,10 @@ pub take-in : {A : Type 0} (n : ℕ) (l : List A) {x : A} → x ∈ take n l →
 take-in zero l h = absurd (List·Memᴰ·not-nil h)
 take-in (suc n) [] h = h
 take-in (suc n) (y ∷ l) h = ⊎-elim (λ e. List·Memᴰ·head e) (λ k. there (take-in n l k)) (List·Memᴰ·cases-cons h)
+
+-- the first entries are among more of them
+pub take-more : {A : Type 0} (a b : ℕ) (l : List A) → a ≤ b → {x : A} → x ∈ take a l → x ∈ take b l
+take-more zero b l h k = absurd (List·Memᴰ·not-nil k)
+take-more (suc a) zero l h k = let z : ⊥ = omega arith in absurd z
+take-more (suc a) (suc b) [] h k = k
+take-more (suc a) (suc b) (y ∷ l) h k = ⊎-elim (λ e. List·Memᴰ·head e) (λ j. there (take-more a b l (omega arith) j)) (List·Memᴰ·cases-cons k)

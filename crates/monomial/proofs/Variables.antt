@@ -1,5 +1,5 @@
 -- 1 and the variables, of any width: how many there are, what each is, and how large their exponents are. Assumes nothing.
-use mathlib.Core.Path.{_≡_, refl, sym, ap, _∙_}
+use mathlib.Core.Path.{_≡_, refl, sym, ap, _∙_, subst}
 use mathlib.Core.Logic.{⊎-elim}
 use mathlib.Core.Bool.{Bool}
 use mathlib.Core.List.{[], _∷_, map, List·Memᴰ·cases-cons, List·Memᴰ·not-nil, Memᴰ·of-map}
@@ -68,3 +68,27 @@ vars-one (suc w) (suc j) f h =
     let k : length (keep f (map (_∷_ 0) (vars w))) ≡ length (keep (λ x. f (0 ∷ x)) (vars w)) = ap length e ∙ length-map (keep (λ x. f (0 ∷ x)) (vars w)) (_∷_ 0) in
     let off : T (f (1 ∷ one w)) → ⊥ = λ t. let b : 0 < getD (one w) j 0 = h (1 ∷ one w) t in let z : getD (one w) j 0 ≡ 0 = fill-at 0 w j in omega arith in
     rw (keep-no f (1 ∷ one w) (map (_∷_ 0) (vars w)) off) (omega arith)
+
+-- 1 and the variables, divided by a variable that they hold, are 1
+one-quo : (w i : ℕ) → 0 < getD (one w) i 0 → ⊥
+one-quo w i h = let e : getD (one w) i 0 ≡ 0 = fill-at 0 w i in omega arith
+
+vars-quo : (w i : ℕ) (z : Mono) → z ∈ vars w → 0 < getD z i 0 → AtMost 0 (set z i (getD z i 0 - 1))
+unfolding vars
+vars-quo zero i z h k = absurd (List·Memᴰ·not-nil h)
+vars-quo (suc w) i z h k = ⊎-elim (λ e. first i (subst (λ (y : Mono). 0 < getD y i 0) e k) e) (later i (vars-quo w) k) (List·Memᴰ·cases-cons h)
+  where
+    first : (j : ℕ) → 0 < getD (1 ∷ one w) j 0 → z ≡ 1 ∷ one w → AtMost 0 (set z j (getD z j 0 - 1))
+    first zero g e = rw e (omega arith, one-fits 0 w)
+    first (suc j) g e = absurd (one-quo w j g)
+
+    later : (j : ℕ) → ((i : ℕ) (y : Mono) → y ∈ vars w → 0 < getD y i 0 → AtMost 0 (set y i (getD y i 0 - 1)))
+        → 0 < getD z j 0 → z ∈ map (_∷_ 0) (vars w) → AtMost 0 (set z j (getD z j 0 - 1))
+    later j ih g l = tail j (Memᴰ·of-map (_∷_ 0) (vars w) l) g
+      where
+        tail : (j : ℕ) → (y : Mono) × (y ∈ vars w) × (0 ∷ y ≡ z) → 0 < getD z j 0 → AtMost 0 (set z j (getD z j 0 - 1))
+        tail zero q g = let b : 0 < 0 = rw (sym (q .2)) at g in let x : ⊥ = omega arith in absurd x
+        tail (suc j) q g = rw (sym (q .2)) (omega arith, ih j (q .0) (q .1) (rw (sym (q .2)) at g))
+
+pub constants-quo : (w i : ℕ) (z : Mono) → z ∈ constants w → 0 < getD z i 0 → AtMost 0 (set z i (getD z i 0 - 1))
+constants-quo w i z h k = ⊎-elim (λ e. absurd (one-quo w i (subst (λ (y : Mono). 0 < getD y i 0) e k))) (λ j. vars-quo w i z j k) (List·Memᴰ·cases-cons h)

@@ -2,12 +2,13 @@
 use mathlib.Core.Path.{_≡_}
 use mathlib.Core.Bool.{Bool, not}
 use mathlib.Core.List.{List, [], _∷_, _++_, map, List·Memᴰ}
+use Prim.Native.Nat.{ℕ, zero, suc}
 use lib.Dec.{T}
 use lib.ListN.{length}
 use Rattle.monomial.specs.Lists.{keep}
 use Rattle.monomial.specs.Monomial.{Mono}
 use Rattle.monomial.specs.Order.{before}
-use Rattle.monomial.specs.Product.{mul}
+use Rattle.monomial.specs.Product.{mul, AtMost}
 use Rattle.monomial.specs.Quotient.{quo}
 use Rattle.monomial.specs.Divisors.{divisors, leads}
 
@@ -50,6 +51,12 @@ pub record Order {A : Type 0} (same before : A → A → Bool) : Type 0 where
 -- the entries of a list from x on
 abbrev pub from : {A : Type 0} → (A → A → Bool) → A → List A → List A
 from before x l = keep (λ y. not (before y x)) l
+
+-- ---- variables beyond xn: no exponent from number n on
+abbrev pub Within : ℕ → Mono → Type 0
+Within zero m = AtMost 0 m
+Within (suc n) [] = Unit {0}
+Within (suc n) (e ∷ m) = Within n m
 
 -- ---- factor pairs
 abbrev pub Pair : Type 0

@@ -10,8 +10,7 @@ use Rattle.wiring.specs.declared.reply.Reply.{Reply}
 use Rattle.wiring.specs.declared.reply.Reply.the-variants.{Done, Setting, Length, Term, Twice, Nothing, Full, Spent, BadSet, NotQuadratic}
 use Rattle.wiring.specs.Claims.{WireSays, Patch}
 use Rattle.walk.specs.Walk.{bare}
-use Rattle.walk.proofs.Stops.{Lacks, Fills, Spends}
-use Rattle.walk.proofs.plan.Exact.{Accepted, PlanSays, NoneBelow, Planned}
+use Rattle.walk.specs.Claims.{Lacks, Fills, Spends, Accepted, PlanSays, NoneBelow, Planned}
 
 -- the reply of which these are the five numbers, and what it means
 pub record Heard (Means : Reply → Type 0) (five : List ℕ) : Type 0 where
@@ -22,9 +21,9 @@ pub record Heard (Means : Reply → Type 0) (five : List ℕ) : Type 0 where
 module _ (n cap limit : ℕ) (terms : List ℕ) (size : ℕ) where
   -- planning ended without sets: `how` says exactly where, by the order and the steps
   pub record Stopped (how : ℕ → ℕ → Type 0) (order steps : ℕ) (bytes : List ℕ) : Type 0 where
-    pub accepted : Accepted n cap limit terms size
+    pub accepted : Accepted n cap limit terms
     -- no quadratic list of monomials, of any powers, has fewer members than the order
-    pub none-below : NoneBelow n cap limit terms size order
+    pub none-below : NoneBelow n terms order
     pub exact : how order steps
     pub zeros : bytes ≡ replicate size 0
 

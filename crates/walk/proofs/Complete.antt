@@ -23,12 +23,14 @@ use Rattle.wiring.specs.Quadratic.{inV2}
 use Rattle.wiring.specs.Signals.{signals}
 use Rattle.wiring.specs.Choice.{chosen}
 use Rattle.wiring.specs.Answers.{missing}
+use Rattle.wiring.specs.Claims.{Wide}
 use Rattle.wiring.proofs.quadratic.Laws.{Factors, inV2-in, inV2-out, unmet-in, unmet-out, Nonsquare, nonsquares-in, nonsquares-out}
 use Rattle.wiring.proofs.quadratic.Definition1.{no-members}
 use Rattle.wiring.proofs.signals.Laws.{base-in, signals-cases}
 use Rattle.walk.specs.Walk.{Rules, child, found, ends, opened}
 use Rattle.walk.specs.Openings.{Parted}
-use Rattle.walk.proofs.Rules.{Wide, Orderly, Extends, extends-self, extends-on, extends-lower, extends-upper, opens-is, goes-on, Sparing}
+use Rattle.walk.specs.Claims.{Orderly, Extends, Sparing, Reached}
+use Rattle.walk.proofs.Rules.{extends-self, extends-on, extends-lower, extends-upper, opens-is, goes-on}
 use Rattle.walk.proofs.Openings.{below-in, find-in}
 use Rattle.walk.proofs.children.Laws.{chosen-in, signals-grow, signals-wide, Grown, old, left, right, child-sub, child-out, child-asc, split-longer}
 
@@ -115,21 +117,12 @@ module _ (r : Rules) (n : ℕ) (fs : List (Poly Mono)) (spares : Sparing r n fs)
       (λ x. shut (T→is (r .closed (k - length s) (signals width n s) (missing n fs s)) (subst (λ u. T (r .closed (k - length s) (signals width n s) u)) (sym e) x))))
 
 module _ (r : Rules) (o : Orderly r) (n : ℕ) (fs : List (Poly Mono)) (spares : Sparing r n fs) (k : ℕ) where
-  -- a quadratic set inside t that is found below s
-  pub record Reached (t : List Mono) (d : ℕ) (s : List Mono) : Type 0 where
-    pub set : List Mono
-    pub ascending : Ascending before set
-    pub extends : Extends r s set
-    pub within : set ⊆ t
-    pub quadratic : missing n fs set ≡ []
-    pub listed : found set ∈ opened r n fs k d s
-
   pub reached : (t : List Mono) → Ascending before t → Wide t → missing n fs t ≡ [] → length t ≤ k
-      → (d : ℕ) (s : List Mono) → Ascending before s → Extends r s t → k < length s + d → Reached t d s
+      → (d : ℕ) (s : List Mono) → Ascending before s → Extends r s t → k < length s + d → Reached r n fs k t d s
   reached t at wide q ht zero s a ext h = let i : length s ≤ length t = sub-length mono-order s t a at (ext .holds) in let z : ⊥ = omega arith in absurd z
   reached t at wide q ht (suc d) s a ext h = go (missing n fs s) refl (reached t at wide q ht d)
     where
-      go : (l : List Mono) → missing n fs s ≡ l → ((c : List Mono) → Ascending before c → Extends r c t → k < length c + d → Reached t d c) → Reached t (suc d) s
+      go : (l : List Mono) → missing n fs s ≡ l → ((c : List Mono) → Ascending before c → Extends r c t → k < length c + d → Reached r n fs k t d c) → Reached r n fs k t (suc d) s
       go [] e ih = record { set = s; ascending = a; extends = extends-self r s; within = ext .holds; quadratic = e; listed = find-in r n fs k d s e }
       go (m ∷ l) e ih =
           let gap : chosen m l ∈ missing n fs s = subst (λ u. chosen m l ∈ u) (sym e) (chosen-in m l) in
@@ -140,7 +133,7 @@ module _ (r : Rules) (o : Orderly r) (n : ℕ) (fs : List (Poly Mono)) (spares :
           let lc : length c ≤ length t = sub-length mono-order c t ac at (w .within) in
           let lw : length s < length c = w .longer in
           let own : Extends r s c = extends-lower r s c t ext up (w .within) in
-          let x : Reached t d c = ih c ac (extends-upper r s c t ext up (w .within)) (omega arith) in
+          let x : Reached r n fs k t d c = ih c ac (extends-upper r s c t ext up (w .within)) (omega arith) in
           let on : ends r n k s (m ∷ l) ≡ false = not-closed r n fs spares k s t (m ∷ l) a at wide ext q ht e (omega arith) in
           let parted : Parted r n fs k s (w .pair) =
           record { first = m; others = l; are = e; on = on; listed = w .listed; taken = opens-is r n k s (w .pair) own (omega arith) } in
@@ -158,6 +151,6 @@ module _ (r : Rules) (o : Orderly r) (n : ℕ) (fs : List (Poly Mono)) (spares :
       → (d : ℕ) (s : List Mono) → ((u : List Mono) → Ascending before u → Extends r s u → u ⊆ t → missing n fs u ≡ [] → length t ≤ length u)
       → Ascending before s → Extends r s t → k < length s + d → found t ∈ opened r n fs k d s
   complete t at wide q ht d s least a ext h =
-      let x : Reached t d s = reached t at wide q ht d s a ext h in
+      let x : Reached r n fs k t d s = reached t at wide q ht d s a ext h in
       let e : x .set ≡ t = sub-equal mono-order (x .set) t (x .ascending) at (x .within) (least (x .set) (x .ascending) (x .extends) (x .within) (x .quadratic)) in
       subst (λ (u : List Mono). found u ∈ opened r n fs k d s) e (x .listed)

@@ -24,7 +24,8 @@ use Rattle.wiring.proofs.derivative.Bounds.{sum-fits, total-fits}
 use Rattle.walk.specs.Walk.{Rules, level}
 use Rattle.walk.specs.Openings.{openings}
 use Rattle.walk.specs.Turns.{Walked}
-use Rattle.walk.proofs.Rules.{Orderly, opens-fits}
+use Rattle.walk.specs.Claims.{Orderly}
+use Rattle.walk.proofs.Rules.{opens-fits}
 use Rattle.walk.proofs.Openings.{Inherited, opened-keep}
 use Rattle.walk.proofs.children.Laws.{nonsquare-fits, child-walked, walked-54}
 

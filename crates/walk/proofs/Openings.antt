@@ -21,7 +21,8 @@ use Rattle.wiring.specs.Signals.{signals}
 use Rattle.wiring.specs.Answers.{missing}
 use Rattle.walk.specs.Walk.{Finds, Rules, child, pair, opening, Step, found, other, opens, ends, tried, triedAll, opened, level}
 use Rattle.walk.specs.Openings.{openedBy, openings, Parted, ChildOf}
-use Rattle.walk.proofs.Rules.{Orderly, tries-in, tries-out, opens-fits}
+use Rattle.walk.specs.Claims.{Orderly}
+use Rattle.walk.proofs.Rules.{tries-in, tries-out, opens-fits}
 use Rattle.walk.proofs.Steps.{opened-found, opened-ends, opened-split, tried-open, tried-shut, level-opens, level-out}
 use Rattle.walk.proofs.children.Laws.{chosen-in, child-asc, split-longer}
 

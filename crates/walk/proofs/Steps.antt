@@ -19,7 +19,8 @@ use Rattle.wiring.specs.Signals.{signals}
 use Rattle.wiring.specs.Choice.{chosen}
 use Rattle.wiring.specs.Answers.{missing}
 use Rattle.walk.specs.Walk.{Finds, Rules, child, Taken, pair, opening, Step, found, other, opens, ends, tried, triedAll, after, opened, level, Run, ended, spent, full, kept, onward, run}
-use Rattle.walk.proofs.Rules.{Orderly, tries-out, opens-fits}
+use Rattle.walk.specs.Claims.{Orderly}
+use Rattle.walk.proofs.Rules.{tries-out, opens-fits}
 use Rattle.walk.proofs.children.Laws.{chosen-in, child-asc, split-longer}
 
 -- ---- runs one after the other

@@ -3,25 +3,26 @@
 use mathlib.Core.Path.{_≡_, refl, sym, ap, _∙_, subst}
 use mathlib.Core.Logic.{⊎-elim}
 use mathlib.Core.Bool.{cond}
-use mathlib.Core.List.{List, [], _∷_, List·Memᴰ·head, List·Memᴰ·cases-cons, List·Memᴰ·not-nil, Memᴰ·of-map}
-use Prim.Native.Nat.{ℕ, zero, suc, _-_, _/_, _<_, _≤_}
+use mathlib.Core.List.{List, [], _∷_, List·Memᴰ·not-nil}
+use Prim.Native.Nat.{ℕ, zero, suc, _-_, _/_, _≤_}
 use native.Mathlib.Omega.{arith}
 use lib.Dec.{T, leb}
-use lib.ListN.{length, getD, take}
+use lib.ListN.{length, getD}
 use Rattle.monomial.specs.Lists.{any}
-use Rattle.monomial.specs.Monomial.{Mono, vars, constants, width}
+use Rattle.monomial.specs.Monomial.{Mono, constants, width}
 use Rattle.monomial.specs.Order.{same}
 use Rattle.monomial.specs.Product.{mul}
 use Rattle.monomial.specs.Quotient.{divides}
 use Rattle.monomial.specs.Divisors.{pairs}
-use Rattle.monomial.specs.Claims.{_∈_, _⊆_, IsPair}
+use Rattle.monomial.specs.Claims.{_∈_, _⊆_, IsPair, Within}
 use Rattle.monomial.proofs.Tests.{is→T, same-test}
-use Rattle.monomial.proofs.Members.{there, take-in}
+use Rattle.monomial.proofs.Members.{take-in, take-more}
 use Rattle.monomial.proofs.order.Laws.{mono-order}
 use Rattle.monomial.proofs.order.Ascending.{sub-length, sub-equal, among-in, among-out}
 use Rattle.monomial.proofs.product.Laws.{mul-comm}
 use Rattle.monomial.proofs.quotient.Laws.{factor-divides}
 use Rattle.monomial.proofs.divisors.Pairs.{pairs-out}
+use Rattle.monomial.proofs.Within.{within-divides, constant-within}
 use Rattle.wiring.specs.Panel.{setBytes}
 use Rattle.wiring.specs.Poly.{Poly, plain, support}
 use Rattle.wiring.specs.Quadratic.{inV2}
@@ -31,43 +32,21 @@ use Rattle.wiring.specs.Choice.{chosen}
 use Rattle.wiring.specs.Terms.{Record, records, fault, system, CleanTerms}
 use Rattle.wiring.specs.Answers.{missing}
 use Rattle.wiring.specs.declared.terms.Fault.the-variants.{Clean}
-use Rattle.wiring.specs.Claims.{Keeps, Alike, Flawless, beyond}
+use Rattle.wiring.specs.Claims.{Keeps, Alike, Flawless, beyond, base, Wide}
 use Rattle.wiring.proofs.quadratic.Laws.{Factors, inV2-in, inV2-out, unmet-in, unmet-out, Nonsquare, nonsquares-in, nonsquares-out, nonsquares-asc}
 use Rattle.wiring.proofs.Poly.{support-out}
 use Rattle.wiring.proofs.derivative.Records.{Derived, derived}
 use Rattle.wiring.proofs.terms.Exact.{clean-exact}
 use Rattle.wiring.proofs.answers.Exact.{count-in}
 use Rattle.wiring.proofs.terms.Laws.{Fields, fields-out, clean-right, clean-widens}
-use Rattle.wiring.proofs.signals.Laws.{base, base-in, set-in, signals-cases}
+use Rattle.wiring.proofs.signals.Laws.{base-in, set-in, signals-cases}
 use Rattle.walk.specs.Walk.{Rules, bare, added, child, Step, opens, ends, tried, after, opened, level, Run, ended, spent, full, run}
 use Rattle.walk.specs.Plan.{Ending, settled, levels, plan, settingsRight, planned}
+use Rattle.walk.specs.Claims.{Orderly, Proper, Heedless}
 use Rattle.walk.proofs.children.Laws.{chosen-in, signals-wide, Grown, old, left, right, child-out, nonsquare-wide}
 use Rattle.walk.proofs.Steps.{tried-alike, after-alike}
-use Rattle.walk.proofs.Rules.{Wide, Orderly, tries-out, bare-orderly}
-use Rattle.walk.proofs.Sound.{Within, one-within, within-divides, within-base, Proper, empty-proper, gap-within, keeps-proper}
-
--- the first entries are among more of them
-take-more : {A : Type 0} (a b : ℕ) (l : List A) → a ≤ b → {x : A} → x ∈ take a l → x ∈ take b l
-take-more zero b l h k = absurd (List·Memᴰ·not-nil k)
-take-more (suc a) zero l h k = let z : ⊥ = omega arith in absurd z
-take-more (suc a) (suc b) [] h k = k
-take-more (suc a) (suc b) (y ∷ l) h k = ⊎-elim (λ e. List·Memᴰ·head e) (λ j. there (take-more a b l (omega arith) j)) (List·Memᴰ·cases-cons k)
-
--- a constant that holds one of the first n variables holds no other
-raised-within : (n w i : ℕ) (z : Mono) → z ∈ vars w → i < n → 0 < getD z i 0 → Within n z
-unfolding vars
-raised-within n zero i z h k r = absurd (List·Memᴰ·not-nil h)
-raised-within zero (suc w) i z h k r = let x : ⊥ = omega arith in absurd x
-raised-within (suc n) (suc w) i z h k r =
-    ⊎-elim (λ e. rw e (one-within n w)) (λ j. later i (raised-within n w) (Memᴰ·of-map (_∷_ 0) (vars w) j) k r) (List·Memᴰ·cases-cons h)
-  where
-    later : (i : ℕ) → ((i : ℕ) (y : Mono) → y ∈ vars w → i < n → 0 < getD y i 0 → Within n y)
-        → (y : Mono) × (y ∈ vars w) × (0 ∷ y ≡ z) → i < suc n → 0 < getD z i 0 → Within (suc n) z
-    later zero ih q l g = let b : 0 < 0 = rw (sym (q .2)) at g in let x : ⊥ = omega arith in absurd x
-    later (suc i) ih q l g = rw (sym (q .2)) (ih i (q .0) (q .1) (omega arith) (rw (sym (q .2)) at g))
-
-constant-within : (n i : ℕ) (z : Mono) → z ∈ constants width → i < n → 0 < getD z i 0 → Within n z
-constant-within n i z h k r = ⊎-elim (λ e. rw e (one-within n width)) (λ j. raised-within n width i z j k r) (List·Memᴰ·cases-cons h)
+use Rattle.walk.proofs.Rules.{tries-out, bare-orderly}
+use Rattle.walk.proofs.Sound.{within-base, empty-proper, gap-within, keeps-proper}
 
 -- V has more in it, but nothing more that says nothing of the further variables
 module _ (n b : ℕ) (more : n ≤ b) (s : List Mono) where
@@ -118,7 +97,7 @@ module _ (n b : ℕ) (terms : List ℕ) (more : n ≤ b) (few : b ≤ width) (cl
         constant j =
             let low : 1 ≤ from .by .equation = own .low in
             let high : from .by .equation ≤ n = own .high in
-            constant-within n (from .by .equation - 1) z (take-in (suc b) (constants width) j) (omega arith) (from .raised)
+            constant-within n width (from .by .equation - 1) z (take-in (suc b) (constants width) j) (omega arith) (from .raised)
 
     gaps-grow : missing n fs s ⊆ missing b fs s
     gaps-grow m h =
@@ -180,13 +159,6 @@ settled-same limit k f g spent e = refl
 settled-same limit k f g (full t) e = refl
 
 -- ---- rules that heed no unused variable: of a set and nonsquares that hold none they say the same for n and for b variables
-pub record Heedless (r : Rules) (n b : ℕ) : Type 0 where
-  pub proper : Proper n (r .start)
-  pub wide : Wide (r .start)
-  pub closing : (room : ℕ) (s ns : List Mono) → Proper n s → Wide s → ((m : Mono) → m ∈ ns → Within n m) → Wide ns
-      → r .closed room (signals width n s) ns ≡ r .closed room (signals width b s) ns
-  pub trying : (s : List Mono) (m : Mono) → Proper n s → Wide s → Within n m → length m ≡ width → r .tries (signals width n s) m ≡ r .tries (signals width b s) m
-
 pub bare-heedless : (n b : ℕ) → Heedless bare n b
 bare-heedless n b = record {
   proper = empty-proper n;

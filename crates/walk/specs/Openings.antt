@@ -1,11 +1,12 @@
 -- The sets that steps open, found or not; and which child of a set is opened at a level. Assumes nothing.
 use mathlib.Core.Path.{_≡_}
 use mathlib.Core.Bool.{true, false}
-use mathlib.Core.List.{List, [], _∷_, List·Memᴰ}
+use mathlib.Core.List.{List, [], _∷_}
 use Prim.Native.Nat.{ℕ}
 use Rattle.monomial.specs.Lists.{gather}
 use Rattle.monomial.specs.Monomial.{Mono}
 use Rattle.monomial.specs.Divisors.{pairs}
+use Rattle.monomial.specs.Claims.{_∈_}
 use Rattle.wiring.specs.Poly.{Poly}
 use Rattle.wiring.specs.Choice.{chosen}
 use Rattle.wiring.specs.Answers.{missing}
@@ -28,13 +29,13 @@ module _ (r : Rules) (n : ℕ) (fs : List (Poly Mono)) (k : ℕ) where
     pub others : List Mono
     pub are : missing n fs s ≡ first ∷ others
     pub on : ends r n k s (first ∷ others) ≡ false
-    pub listed : List·Memᴰ p (pairs (chosen first others))
+    pub listed : p ∈ pairs (chosen first others)
     pub taken : opens r n k s p ≡ true
 
   -- t is the child of one of these sets by such a pair
   pub record ChildOf (sets : Finds) (t : List Mono) : Type 0 where
     pub of : List Mono
-    pub of-in : List·Memᴰ of sets
+    pub of-in : of ∈ sets
     pub by : Mono × Mono
     pub parted : Parted of by
     pub is : t ≡ child n of by

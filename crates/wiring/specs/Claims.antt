@@ -107,7 +107,15 @@ pub record Sized (w c : ℕ) (rs : List Record) : Type 0 where
   pub limited : (r : Record) → r ∈ rs → natAbs (r .coefficient) ≤ c
   pub unlike : Unlike rs
 
--- ---- set records
+-- ---- sets
+-- monomials of the panel's width
+abbrev pub Wide : List Mono → Type 0
+Wide l = (m : Mono) → m ∈ l → length m ≡ width
+
+-- V of the empty set: 1 and the first n variables
+abbrev pub base : ℕ → List Mono
+base n = take (suc n) (constants width)
+
 -- what a set may hold: its monomials ascend strictly, none is 1 or a single variable, no exponent is too large, and those beyond xn are 0
 pub record Permitted (n : ℕ) (s : List Mono) : Type 0 where
   pub ascends : Ascending before s

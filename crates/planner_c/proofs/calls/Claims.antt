@@ -20,8 +20,8 @@ use Rattle.wiring.proofs.answers.Exact.{verdict-says, check-exact}
 use Rattle.wiring.proofs.answers.Wired.{wire-exact, wire-replies, wire-done}
 use Rattle.walk.specs.Walk.{bare}
 use Rattle.walk.specs.Plan.{planned}
-use Rattle.walk.proofs.Stops.{Lacks, Fills, Spends}
-use Rattle.walk.proofs.plan.Exact.{Planned, PlanSays, leaves, plan-exact, plan-replies, plan-finds, plan-lacks, plan-fills, plan-spends}
+use Rattle.walk.specs.Claims.{Lacks, Fills, Spends, Planned, PlanSays, planLeaves}
+use Rattle.walk.proofs.plan.Exact.{plan-exact, plan-replies, plan-finds, plan-lacks, plan-fills, plan-spends}
 use Rattle.planner_c.specs.Calls.{Answer, answer, given}
 use Rattle.planner_c.specs.Claims.{Heard, Stopped, PlanMeans, WireMeans}
 use Rattle.planner_c.proofs.calls.Exact.{in-order-one, given-exact}
@@ -61,7 +61,7 @@ module _ (n cap limit : ℕ) (terms : List ℕ) (size : ℕ) where
 
   -- a meaning that brings back what the reply says and leaves is had exactly where C gets the reply's numbers
   exactly : (r : Reply) (bytes : List ℕ)
-      → (PlanMeans n cap limit terms size r bytes → PlanSays n cap limit terms size r × (bytes ≡ leaves n cap limit terms size r))
+      → (PlanMeans n cap limit terms size r bytes → PlanSays n cap limit terms size r × (bytes ≡ planLeaves n terms size r))
       → (answer (inOrder (numbers r)) bytes ≡ given (planned n cap limit terms size)) ↔ PlanMeans n cap limit terms size r bytes
   exactly r bytes back = (
     (λ e. plan-means r bytes (given-exact r bytes (planned n cap limit terms size) .0 e)),

@@ -2,28 +2,28 @@
 -- of the walk, so that exponents of sets stay at or below 54 and those of nonsquares at or below 63. Assumes nothing.
 use mathlib.Core.Path.{_≡_, sym, ap, _∙_, subst}
 use mathlib.Core.Logic.{_⊎_, inl, inr, ⊎-elim}
-use mathlib.Core.List.{List, [], _∷_, map, List·Memᴰ·head, List·Memᴰ·cases-cons, List·Memᴰ·not-nil, Memᴰ·cast, Memᴰ·of-map}
-use Prim.Native.Nat.{ℕ, zero, suc, _+_, _*_, _-_, _<_, _≤_}
+use mathlib.Core.List.{List, [], _∷_, List·Memᴰ·head, List·Memᴰ·not-nil, Memᴰ·cast}
+use Prim.Native.Nat.{ℕ, suc, _+_, _*_, _-_, _<_, _≤_}
 use native.Mathlib.Nat.{mul-le-mul-left}
 use native.Mathlib.Omega.{arith}
 use lib.Dec.{T}
-use lib.ListN.{length, getD, set, length-set}
+use lib.ListN.{length, set, length-set}
 use Rattle.monomial.specs.Lists.{any, insertBy}
-use Rattle.monomial.specs.Monomial.{Mono, one, vars, constants, width}
+use Rattle.monomial.specs.Monomial.{Mono, one, constants, width}
 use Rattle.monomial.specs.Order.{same, before}
 use Rattle.monomial.specs.Product.{mul, AtMost}
 use Rattle.monomial.specs.Divisors.{pairs}
 use Rattle.monomial.specs.Quotient.{divides}
 use Rattle.monomial.specs.Claims.{_∈_, _⊆_, Ascending, empty, IsPair}
 use Rattle.monomial.proofs.Tests.{cond-cases}
-use Rattle.monomial.proofs.Members.{take-in, fill-at}
+use Rattle.monomial.proofs.Members.{take-in}
 use Rattle.monomial.proofs.Loops.{pointwise-length}
 use Rattle.monomial.proofs.order.Laws.{mono-order}
 use Rattle.monomial.proofs.order.Ascending.{insert-out, insert-new, insert-old, insert-asc, insert-length, sub-length, among-in, among-out}
-use Rattle.monomial.proofs.product.Laws.{mul-comm, atMost-weaken, atMost-mul, atMost-set, atMost-at}
+use Rattle.monomial.proofs.product.Laws.{mul-comm, atMost-weaken, atMost-mul, quo-small}
 use Rattle.monomial.proofs.quotient.Laws.{factor-divides, atMost-divides}
 use Rattle.monomial.proofs.divisors.Pairs.{pairs-out}
-use Rattle.monomial.proofs.Variables.{constants-fit}
+use Rattle.monomial.proofs.Variables.{constants-fit, constants-quo}
 use Rattle.wiring.specs.Panel.{cards, setExponent, derivedExponent, termExponent}
 use Rattle.wiring.specs.Poly.{Poly, plain}
 use Rattle.wiring.specs.Derivative.{derivative, power}
@@ -31,9 +31,10 @@ use Rattle.wiring.specs.Signals.{signals}
 use Rattle.wiring.specs.Choice.{chosen}
 use Rattle.wiring.specs.Terms.{Record, records, system, CleanTerms}
 use Rattle.wiring.specs.Answers.{missing}
+use Rattle.wiring.specs.Claims.{base}
 use Rattle.wiring.proofs.Poly.{support-out}
 use Rattle.wiring.proofs.quadratic.Laws.{Factors, inV2-in, unmet-out, Nonsquare, nonsquares-out}
-use Rattle.wiring.proofs.signals.Laws.{base, base-in, set-in, signals-cases}
+use Rattle.wiring.proofs.signals.Laws.{base-in, set-in, signals-cases}
 use Rattle.wiring.proofs.terms.Laws.{Rightful, clean-in}
 use Rattle.wiring.proofs.derivative.Records.{Derived, derived}
 use Rattle.wiring.proofs.choice.Laws.{chosen-best}
@@ -154,38 +155,6 @@ module _ (n : ℕ) (fs : List (Poly Mono)) (s : List Mono) (m : Mono) where
   split-longer a h p k = child-longer n s p a (not-both h p (pairs-out p m k .product))
 
 -- ---- how large exponents grow
--- 1 and the variables, divided by a variable that they hold, are 1
-one-quo : (w i : ℕ) → 0 < getD (one w) i 0 → ⊥
-one-quo w i h = let e : getD (one w) i 0 ≡ 0 = fill-at 0 w i in omega arith
-
-one-flat : (w : ℕ) → AtMost 0 (one w)
-one-flat zero = tt
-one-flat (suc w) = (omega arith, one-flat w)
-
-vars-quo : (w i : ℕ) (z : Mono) → z ∈ vars w → 0 < getD z i 0 → AtMost 0 (set z i (getD z i 0 - 1))
-unfolding vars
-vars-quo zero i z h k = absurd (List·Memᴰ·not-nil h)
-vars-quo (suc w) i z h k = ⊎-elim (λ e. first i (subst (λ (y : Mono). 0 < getD y i 0) e k) e) (later i (vars-quo w) k) (List·Memᴰ·cases-cons h)
-  where
-    first : (j : ℕ) → 0 < getD (1 ∷ one w) j 0 → z ≡ 1 ∷ one w → AtMost 0 (set z j (getD z j 0 - 1))
-    first zero g e = rw e (omega arith, one-flat w)
-    first (suc j) g e = absurd (one-quo w j g)
-
-    later : (j : ℕ) → ((i : ℕ) (y : Mono) → y ∈ vars w → 0 < getD y i 0 → AtMost 0 (set y i (getD y i 0 - 1)))
-        → 0 < getD z j 0 → z ∈ map (_∷_ 0) (vars w) → AtMost 0 (set z j (getD z j 0 - 1))
-    later j ih g l = tail j (Memᴰ·of-map (_∷_ 0) (vars w) l) g
-      where
-        tail : (j : ℕ) → (y : Mono) × (y ∈ vars w) × (0 ∷ y ≡ z) → 0 < getD z j 0 → AtMost 0 (set z j (getD z j 0 - 1))
-        tail zero q g = let b : 0 < 0 = rw (sym (q .2)) at g in let x : ⊥ = omega arith in absurd x
-        tail (suc j) q g = rw (sym (q .2)) (omega arith, ih j (q .0) (q .1) (rw (sym (q .2)) at g))
-
-constants-quo : (w i : ℕ) (z : Mono) → z ∈ constants w → 0 < getD z i 0 → AtMost 0 (set z i (getD z i 0 - 1))
-constants-quo w i z h k = ⊎-elim (λ e. absurd (one-quo w i (subst (λ (y : Mono). 0 < getD y i 0) e k))) (λ j. vars-quo w i z j k) (List·Memᴰ·cases-cons h)
-
--- a monomial with at most b per place, divided by a variable that it holds
-quo-small : (b i : ℕ) (z : Mono) → AtMost b z → AtMost b (set z i (getD z i 0 - 1))
-quo-small b i z a = let h : getD z i 0 ≤ b = atMost-at b z i a in atMost-set b z i (getD z i 0 - 1) (omega arith) a
-
 module _ (terms : List ℕ) (clean : CleanTerms terms) (n : ℕ) (s : List Mono) where
   abbrev gaps : List Mono
   gaps = missing n (system (records terms)) s

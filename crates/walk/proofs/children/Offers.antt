@@ -4,7 +4,7 @@ use mathlib.Core.Path.{_≡_, refl, sym, ap, ap₂, _∙_, subst}
 use mathlib.Core.Logic.{⊎-elim}
 use mathlib.Core.Bool.{Bool, true, false, _||_}
 use mathlib.Core.List.{List, [], _∷_, _++_, map, List·Memᴰ·cases-cons, List·Memᴰ·not-nil, Memᴰ·append-right, Memᴰ·cast}
-use Prim.Native.Nat.{ℕ, zero, suc, _+_, _-_, _<_, _≤_}
+use Prim.Native.Nat.{ℕ, suc, _+_, _-_, _<_, _≤_}
 use native.Mathlib.Omega.{arith}
 use lib.Dec.{T}
 use lib.ListN.{length, getD, take, drop, set, length-set, take-append-drop, drop-of-length-le}
@@ -14,12 +14,11 @@ use Rattle.monomial.specs.Lists.{any, insertBy}
 use Rattle.monomial.specs.Monomial.{Mono, width}
 use Rattle.monomial.specs.Order.{same, before}
 use Rattle.monomial.specs.declared.Monomial.{Monomial}
-use Rattle.monomial.specs.Claims.{_∈_, _⊆_, Ascending, Order}
+use Rattle.monomial.specs.Claims.{_∈_, Ascending, Order}
 use Rattle.monomial.proofs.Tests.{Tested, passed, failed, test, T→is, is→T, nT→is, is→nT, or-l, or-r, or-e}
-use Rattle.monomial.proofs.Members.{here, there}
-use Rattle.monomial.proofs.Counting.{at-in}
-use Rattle.monomial.proofs.order.Laws.{not-both, not-same, same-flip, behind, mono-order}
-use Rattle.monomial.proofs.order.Ascending.{head-first, tail-asc, insert-out, insert-new, insert-old, insert-asc, insert-length, sub-length, sub-equal, among-in, among-out}
+use Rattle.monomial.proofs.order.Laws.{behind, mono-order}
+use Rattle.monomial.proofs.order.Ascending.{insert-out, insert-new, insert-asc, insert-length, among-in, among-out}
+use Rattle.monomial.proofs.order.Inserting.{insert-between, insert-same, front-before}
 use Rattle.wiring.specs.Panel.{cards}
 use Rattle.wiring.specs.Signals.{signals, front}
 use Rattle.wiring.specs.Sets.{monomialsOf}
@@ -29,39 +28,6 @@ use Rattle.walk.specs.declared.children.Tried.{Tried}
 use Rattle.walk.specs.Walk.{added, child}
 use Rattle.walk.specs.Turns.{Child}
 use Rattle.walk.proofs.children.Laws.{added-asc}
-
--- ---- where an insertion puts its entry
-module _ {A : Type 0} {alike ahead : A → A → Bool} (o : Order alike ahead) where
-  -- between those before it and those behind it
-  pub insert-between : (m : A) (p q : List A) → ((x : A) → x ∈ p → T (ahead x m)) → ((y : A) → y ∈ q → T (ahead m y))
-      → insertBy alike ahead m (p ++ q) ≡ p ++ (m ∷ q)
-  unfolding insertBy
-  insert-between m [] [] h k = refl
-  insert-between m [] (y ∷ q) h k =
-      let t : T (ahead m y) = k y here in
-      rw (nT→is (alike m y) (not-same o m y t), T→is (ahead m y) t)
-  insert-between m (x ∷ p) q h k =
-      let t : T (ahead x m) = h x here in
-      let ih : insertBy alike ahead m (p ++ q) ≡ p ++ (m ∷ q) = insert-between m p q (λ z j. h z (there j)) k in
-      rw (nT→is (alike m x) (λ s. not-same o x m t (same-flip o m x s)), nT→is (ahead m x) (not-both o x m t)) (ap (_∷_ x) ih)
-
-  -- nowhere, where the entry is there already
-  pub insert-same : (m : A) (s : List A) → Ascending ahead s → m ∈ s → insertBy alike ahead m s ≡ s
-  insert-same m s a h =
-      let more : List A = insertBy alike ahead m s in
-      let up : Ascending ahead more = insert-asc o m s a in
-      let sub : more ⊆ s = λ y k. ⊎-elim (λ e. Memᴰ·cast e h) (λ j. j) (insert-out o m s k) in
-      sub-equal o more s up a sub (sub-length o s more a up (λ y k. insert-old o m s k))
-
-  -- of an ascending list, all up to an entry that stands before m stand before m
-  pub front-before : (m : A) (s : List A) (j : ℕ) (d : A) → Ascending ahead s → j < length s → T (ahead (getD s j d) m)
-      → (x : A) → x ∈ take (suc j) s → T (ahead x m)
-  front-before m [] j d a h t x k = let z : ⊥ = omega arith in absurd z
-  front-before m (y ∷ s) zero d a h t x k =
-      ⊎-elim (λ e. subst (λ z. T (ahead z m)) (sym e) t) (λ n. absurd (List·Memᴰ·not-nil n)) (List·Memᴰ·cases-cons k)
-  front-before m (y ∷ s) (suc j) d a h t x k =
-      let u : T (ahead y m) = o .trans y (getD s j d) m (head-first a (getD s j d) (at-in s j d (omega arith))) t in
-      ⊎-elim (λ e. subst (λ z. T (ahead z m)) (sym e) u) (front-before m s j d (tail-asc a) (omega arith) t x) (List·Memᴰ·cases-cons k)
 
 -- ---- a loop that moves up the entries of s from its end on, in the list u of one more place, and has come to place i: what is behind i is moved,
 -- and none of it stands before m

@@ -17,6 +17,7 @@ use Rattle.monomial.proofs.Strips.{strip-at}
 use Rattle.monomial.proofs.Counting.{at-in}
 use Rattle.monomial.proofs.order.Laws.{set-order}
 use Rattle.monomial.proofs.order.Ascending.{insert-out, insert-asc, insert-length, among-in}
+use Rattle.monomial.proofs.order.Inserting.{insert-place}
 use Rattle.wiring.specs.Panel.{setBytes}
 use Rattle.wiring.specs.Sets.{setRecord}
 use Rattle.wiring.proofs.sets.Exact.{record-length}
@@ -24,7 +25,7 @@ use Rattle.walk.specs.Walk.{Finds, kept}
 use Rattle.walk.specs.Plan.{setsBytes}
 use Rattle.walk.specs.Listing.{Recorded, Shown, KeptAs}
 use Rattle.walk.specs.declared.listing.Kept.the-variants.{Held, NoRoom}
-use Rattle.walk.proofs.listing.Laws.{gather-more, insert-place}
+use Rattle.walk.proofs.listing.Laws.{gather-more}
 use Rattle.walk.proofs.listing.Records.{record-before, record-same}
 
 recorded-length : (s : List Mono) → Recorded s → length (setRecord s) ≡ setBytes

@@ -1,27 +1,27 @@
 -- Set records: one is made monomial by monomial, and the order of their bytes is the order of their sets. Assumes nothing.
 use mathlib.Core.Path.{_≡_, refl, sym, ap, ap₂, subst, _∙_}
 use mathlib.Core.Logic.{_⊎_, ⊎-elim}
-use mathlib.Core.Bool.{Bool}
 use mathlib.Core.List.{List, [], _∷_, _++_, map, append-nil, append-assoc}
 use Prim.Native.Nat.{ℕ, zero, suc, _+_, _*_, _-_, _<_, _≤_}
 use native.Mathlib.Omega.{arith}
 use native.Mathlib.Numerals.{add-one}
-use lib.Dec.{T, lt→ltb}
+use lib.Dec.{T}
 use lib.ListN.{length, getD, take, length-take, length-map, replicate, length-append, replicate-append-replicate}
 use lib.Seq.{paste, length-paste, getD-take, take-suc, take-all, length-take-le}
-use Rattle.monomial.specs.Lists.{gather, dictionary}
+use Rattle.monomial.specs.Lists.{gather}
 use Rattle.monomial.specs.Monomial.{Mono, one, width}
 use Rattle.monomial.specs.Order.{same, before, sameSet, beforeSet}
 use Rattle.monomial.specs.declared.Monomial.{Monomial}
-use Rattle.monomial.specs.Claims.{_∈_, Order, Compared, less, equal, more}
+use Rattle.monomial.specs.Claims.{_∈_, Compared, less, equal, more}
 use Rattle.monomial.proofs.Tests.{same-test}
 use Rattle.monomial.proofs.Members.{here, there, take-in, gather-append}
 use Rattle.monomial.proofs.Counting.{at-in}
-use Rattle.monomial.proofs.order.Laws.{not-both, Ahead, smaller, tied, ahead, ahead-is, ℕ-order, mono-order, set-order}
+use Rattle.monomial.proofs.order.Laws.{not-both, Ahead, smaller, tied, ahead, ℕ-order, mono-order, set-order, before-append, append-before, one-before, not-before-empty}
 use Rattle.wiring.specs.Panel.{cards, setBytes}
 use Rattle.wiring.specs.Signals.{front, flat}
 use Rattle.wiring.specs.Sets.{setRecord, setOf}
-use Rattle.wiring.proofs.signals.Laws.{Wide, entry, front-at}
+use Rattle.wiring.specs.Claims.{Wide}
+use Rattle.wiring.proofs.signals.Laws.{entry, front-at}
 use Rattle.wiring.proofs.sets.Exact.{record-is, record-holds}
 use Rattle.walk.specs.Listing.{Recorded}
 use Rattle.walk.proofs.listing.Laws.{gather-last}
@@ -85,32 +85,6 @@ module _ (len : ℕ) (m : List Monomial) (i : ℕ) (six : length m ≡ width) wh
       let all = length-map m (λ (x : Monomial). x .e) in
       ⊎-elim (λ k. omega arith) (λ k. omega arith) h
 
--- ---- the order of lists that go on
-module _ {A : Type 0} {same before : A → A → Bool} (o : Order same before) where
-  before-append : (a b u v : List A) → length a ≡ length b → T (dictionary same before a b) → T (dictionary same before (a ++ u) (b ++ v))
-  unfolding dictionary
-  before-append [] [] u v e t = absurd t
-  before-append [] (y ∷ b) u v e t = let z : ⊥ = omega arith in absurd z
-  before-append (x ∷ a) [] u v e t = absurd t
-  before-append (x ∷ a) (y ∷ b) u v e t = go (ahead o x y a b t) (before-append a b u v (omega arith))
-    where
-      go : Ahead o x y a b → (T (dictionary same before a b) → T (dictionary same before (a ++ u) (b ++ v))) → T (dictionary same before (x ∷ (a ++ u)) (y ∷ (b ++ v)))
-      go (smaller h) ih = ahead-is o x y (a ++ u) (b ++ v) (smaller h)
-      go (tied d s) ih = ahead-is o x y (a ++ u) (b ++ v) (tied d (ih s))
-
-  append-before : (a u v : List A) → T (dictionary same before u v) → T (dictionary same before (a ++ u) (a ++ v))
-  append-before [] u v t = t
-  append-before (x ∷ a) u v t = ahead-is o x x (a ++ u) (a ++ v) (tied (o .same-refl x) (append-before a u v t))
-
--- 1 stands before every other monomial
-one-before : (w : ℕ) (m : Mono) → length m ≡ w → (m ≡ one w → ⊥) → T (before (one w) m)
-one-before zero [] e n = absurd (n refl)
-one-before zero (x ∷ m) e n = let z : ⊥ = omega arith in absurd z
-one-before (suc w) [] e n = let z : ⊥ = omega arith in absurd z
-one-before (suc w) (zero ∷ m) e n =
-    ahead-is ℕ-order 0 0 (one w) m (tied tt (one-before w m (omega arith) (λ d. n (ap (λ (l : Mono). 0 ∷ l) d))))
-one-before (suc w) (suc x ∷ m) e n = ahead-is ℕ-order 0 (suc x) (one w) m (smaller (lt→ltb 0 (suc x) (omega arith)))
-
 -- ---- a record, place by place: the monomials of the set, then 1 in the unused places
 padded : ℕ → List Mono → List ℕ
 padded zero s = []
@@ -130,9 +104,9 @@ padded-is (suc n) (m ∷ s) h =
     rw e (append-assoc m (flat s) (zeros (width * n - width * length s)) ∙ ap (λ (l : List ℕ). m ++ l) (padded-is n s (omega arith)))
 
 padded-before : (n : ℕ) (x y : List Mono) → length y ≤ n → Wide x → Wide y → ((m : Mono) → m ∈ y → m ≡ one width → ⊥) → T (beforeSet x y) → T (before (padded n x) (padded n y))
-unfolding padded dictionary
-padded-before n [] [] h wx wy proper t = absurd t
-padded-before n (a ∷ x) [] h wx wy proper t = absurd t
+unfolding padded
+padded-before n [] [] h wx wy proper t = absurd (not-before-empty mono-order [] t)
+padded-before n (a ∷ x) [] h wx wy proper t = absurd (not-before-empty mono-order (a ∷ x) t)
 padded-before zero [] (b ∷ y) h wx wy proper t = let z : ⊥ = omega arith in absurd z
 padded-before zero (a ∷ x) (b ∷ y) h wx wy proper t = let z : ⊥ = omega arith in absurd z
 padded-before (suc n) [] (b ∷ y) h wx wy proper t =

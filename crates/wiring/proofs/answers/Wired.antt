@@ -44,7 +44,6 @@ module _ (n : ℕ) (terms set : List ℕ) (size : ℕ) where
   abbrev list : List Wire
   list = listIn n terms set
 
-  -- ---- what each reply of wiring says: a refusal of checking, or whether the list fits
   -- ---- what holds is said
   refuses : (r : Reply) → CheckSays n terms set r → (numbers r .code ≡ 0 → ⊥) → outcome r (replicate size 0) ≡ wired n terms set size
   refuses r h f = sym (wired-refused n terms set size r (verdict-exact n terms set r .1 h) f)
@@ -111,7 +110,7 @@ module _ (n : ℕ) (terms set : List ℕ) (size : ℕ) where
           (subst (WireSays n terms set size) (sym one) (told .holds), ap (λ (x : Outcome). x .bytes) both ∙ ap (wireLeaves n terms set size) (sym one))
 
   -- some reply is always given
-  pub wire-replies : (r : Reply) × (outcome r (leaves r) ≡ wired n terms set size)
+  pub wire-replies : (r : Reply) × (outcome r (wireLeaves n terms set size r) ≡ wired n terms set size)
   wire-replies = (told .reply, says (told .reply) (told .holds))
 
   -- full: the list is longer than the buffer holds

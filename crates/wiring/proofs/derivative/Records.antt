@@ -31,23 +31,23 @@ use Rattle.wiring.proofs.derivative.Terms.{derives}
 
 -- ---- the equations by their numbers
 -- what f gives for i, i + 1, .., k of them
-unfoldable pub run : {A : Type 0} → (ℕ → A) → ℕ → ℕ → List A
-run f i zero = []
-run f i (suc k) = f i ∷ run f (suc i) k
+unfoldable pub span : {A : Type 0} → (ℕ → A) → ℕ → ℕ → List A
+span f i zero = []
+span f i (suc k) = f i ∷ span f (suc i) k
 
-run-suc : {A : Type 0} (f : ℕ → A) (i k : ℕ) → run (λ j. f (suc j)) i k ≡ run f (suc i) k
-unfolding run
-run-suc f i zero = refl
-run-suc f i (suc k) = ap (_∷_ (f (suc i))) (run-suc f (suc i) k)
+span-suc : {A : Type 0} (f : ℕ → A) (i k : ℕ) → span (λ j. f (suc j)) i k ≡ span f (suc i) k
+unfolding span
+span-suc f i zero = refl
+span-suc f i (suc k) = ap (_∷_ (f (suc i))) (span-suc f (suc i) k)
 
 map-suc : {A : Type 0} (f : ℕ → A) (l : List ℕ) → map f (map suc l) ≡ map (λ j. f (suc j)) l
 map-suc f [] = refl
 map-suc f (x ∷ l) = ap (_∷_ (f (suc x))) (map-suc f l)
 
-pub run-below : {A : Type 0} (f : ℕ → A) (k : ℕ) → map f (below k) ≡ run f 0 k
-unfolding run below
-run-below f zero = refl
-run-below f (suc k) = ap (_∷_ (f 0)) (map-suc f (below k) ∙ run-below (λ j. f (suc j)) k ∙ run-suc f 0 k)
+pub span-below : {A : Type 0} (f : ℕ → A) (k : ℕ) → map f (below k) ≡ span f 0 k
+unfolding span below
+span-below f zero = refl
+span-below f (suc k) = ap (_∷_ (f 0)) (map-suc f (below k) ∙ span-below (λ j. f (suc j)) k ∙ span-suc f 0 k)
 
 -- ---- m comes from a record
 pub record Derived (rs : List Record) (z m : Mono) : Type 0 where
@@ -168,12 +168,12 @@ module _ {M : Type 0} (k : Kind M) (o : Order (k .same) (k .before)) (h : Mono �
   read rs i = carry h (equation rs i)
 
   abbrev parts : List Record → M → ℕ → ℕ → Poly M
-  parts rs z i n = partsFrom k i z (run (read rs) i n)
+  parts rs z i n = partsFrom k i z (span (read rs) i n)
 
-  run-others : (r : Record) (rs : List Record) (i n : ℕ) → r .equation ≤ i → run (read (r ∷ rs)) i n ≡ run (read rs) i n
-  unfolding run
-  run-others r rs i zero b = refl
-  run-others r rs i (suc n) b = rw (equation-other r rs i (λ e. omega arith), run-others r rs (suc i) n (omega arith))
+  span-others : (r : Record) (rs : List Record) (i n : ℕ) → r .equation ≤ i → span (read (r ∷ rs)) i n ≡ span (read rs) i n
+  unfolding span
+  span-others r rs i zero b = refl
+  span-others r rs i (suc n) b = rw (equation-other r rs i (λ e. omega arith), span-others r rs (suc i) n (omega arith))
 
   part-more : (r : Record) (f : Poly M) (z m : M) (i : ℕ) → r .equation ≡ suc i
       → coeff k (part k i z ((r .coefficient, h (r .monomial)) ∷ f)) m ≡ adds k h r z m +ℤ coeff k (part k i z f) m
@@ -205,7 +205,7 @@ module _ {M : Type 0} (k : Kind M) (o : Order (k .same) (k .before)) (h : Mono �
 
   parts-more : (r : Record) (rs : List Record) (z m : M) (i n : ℕ) → i < r .equation → r .equation ≤ i + n
       → coeff k (parts (r ∷ rs) z i n) m ≡ adds k h r z m +ℤ coeff k (parts rs z i n) m
-  unfolding partsFrom run
+  unfolding partsFrom span
   parts-more r rs z m i zero a b = let x : ⊥ = omega arith in absurd x
   parts-more r rs z m i (suc n) a b = go (test (eqb (r .equation) (suc i))) (λ g. parts-more r rs z m (suc i) n g (omega arith))
     where
@@ -214,7 +214,7 @@ module _ {M : Type 0} (k : Kind M) (o : Order (k .same) (k .before)) (h : Mono �
           → coeff k (parts (r ∷ rs) z i (suc n)) m ≡ adds k h r z m +ℤ coeff k (parts rs z i (suc n)) m
       go (passed p) ih =
           let e : r .equation ≡ suc i = eqb-true (r .equation) (suc i) p in
-          rw (equation-own r rs i e, run-others r rs (suc i) n (omega arith))
+          rw (equation-own r rs i e, span-others r rs (suc i) n (omega arith))
           (more-first (part k i z ((r .coefficient, h (r .monomial)) ∷ read rs i)) (part k i z (read rs i)) (parts rs z (suc i) n) m
           (adds k h r z m) (part-more r (read rs i) z m i e))
       go (failed p) ih =
@@ -231,7 +231,7 @@ module _ {M : Type 0} (k : Kind M) (o : Order (k .same) (k .before)) (h : Mono �
       go (present n p) = p
 
   parts-none : (z : M) (i n : ℕ) → parts [] z i n ≡ []
-  unfolding partsFrom run equation keep
+  unfolding partsFrom span equation keep
   parts-none z i zero = refl
   parts-none z i (suc n) = rw (part-none i z) (parts-none z (suc i) n)
 
@@ -239,7 +239,7 @@ module _ {M : Type 0} (k : Kind M) (o : Order (k .same) (k .before)) (h : Mono �
   pub adds-up : (rs : List Record) (z m : M) → ((r : Record) → r ∈ rs → (1 ≤ r .equation) × (r .equation ≤ width))
       → addedUp k h rs z m ≡ coeff k (derivative k (map (carry h) (system rs)) z) m
   unfolding addedUp coeff derivative system
-  adds-up rs z m b = go rs b ∙ sym (ap (λ (fs : List (Poly M)). coeff k (partsFrom k 0 z fs) m) (map-map (carry h) (equation rs) (below width) ∙ run-below (read rs) width))
+  adds-up rs z m b = go rs b ∙ sym (ap (λ (fs : List (Poly M)). coeff k (partsFrom k 0 z fs) m) (map-map (carry h) (equation rs) (below width) ∙ span-below (read rs) width))
     where
       go : (qs : List Record) → ((r : Record) → r ∈ qs → (1 ≤ r .equation) × (r .equation ≤ width)) → addedUp k h qs z m ≡ coeff k (parts qs z 0 width) m
       go [] b = rw (parts-none z 0 width)

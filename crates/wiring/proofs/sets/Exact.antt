@@ -23,8 +23,7 @@ use Rattle.wiring.specs.Panel.{cards, setBytes, setExponent}
 use Rattle.wiring.specs.Signals.{flat}
 use Rattle.wiring.specs.Terms.{exponentsRight}
 use Rattle.wiring.specs.Sets.{places, sizeOf, setOf, ascending, monomialRight, setRight, setRecord}
-use Rattle.wiring.specs.Claims.{Permitted, RightRecord, Recordable}
-use Rattle.wiring.proofs.signals.Laws.{Wide}
+use Rattle.wiring.specs.Claims.{Permitted, RightRecord, Recordable, Wide}
 use Rattle.wiring.proofs.terms.Laws.{Fit, exponents-in, exponents-everywhere}
 use Rattle.wiring.proofs.sets.Laws.{placeAt, places-length, places-at, places-width, used-length, used-at, ascending-in, ascending-out}
 

@@ -24,6 +24,7 @@ use Rattle.wiring.specs.Panel.{cards, mostSignals, tableBytes, mostProdu
 use Rattle.wiring.specs.Poly.{Kind, plain}
 use Rattle.wiring.specs.Quadratic.{products}
 use Rattle.wiring.specs.Signals.{signals, front, flat, tabled, Fitting}
+use Rattle.wiring.specs.Claims.{base, Wide}
 
 -- ---- an array and its first places
 -- what owning an array of monomials tells of its length: `search (needs, array-length)`
@@ -145,10 +146,6 @@ signals-new n s j d h =
     let front-is : length (take (suc n) (constants width)) ≡ n + 1 = length-take-le (suc n) (constants width) (omega (arith, vars-length width)) ∙ sym (add-one n) in
     ap (λ (k : ℕ). getD (signals width n s) (k + j) d) (sym front-is) ∙ getD-append-add (take (suc n) (constants width)) s j d
 
--- 1 and the variables are in V of every set, and so are the set's own monomials
-abbrev pub base : ℕ → List Mono
-base n = take (suc n) (constants width)
-
 module _ (n : ℕ) where
   pub base-in : (s : List Mono) {x : Mono} → x ∈ base n → x ∈ signals width n s
   unfolding signals
@@ -244,10 +241,6 @@ module _ {M : Type 0} (k : Kind M) where
       (List·Memᴰ·append-cases (map (k .mul x) (x ∷ v)) i)
 
 -- ---- monomials side by side in bytes
--- each has six exponents
-abbrev pub Wide : List Mono → Type 0
-Wide l = (m : Mono) → m ∈ l → length m ≡ width
-
 pub tabled-length : (bytes : List ℕ) → length (tabled bytes) ≡ length bytes / width
 unfolding tabled
 tabled-length bytes = length-map (below (length bytes / width)) (λ i. take width (drop (width * i) bytes)) ∙ below-length (length bytes / width)

@@ -50,9 +50,10 @@ loop-less c = search needs
 
 loop-again : tie.Need-loop-again Inv-loop μ-loop
 loop-again c =
-    let start = c .before .before .before .before .before .before .before in
+    let at-loop = c .before .before .before .before .before .before in
+    let start = at-loop .before in
     let set = start .args .t1 in
-    let k = c .before .before .before .before .before .before .loop in
+    let k = at-loop .loop in
     let six : length (set .m) ≡ cards = search (needs, array-length) in
     let below = used-below (set .len) (set .m) (k .i) six (omega arith) (omega arith) in
     let next = making-next (k .inv .1) _ (start .pre) below (used-at (set .len) (set .m) (k .i) six (omega arith) (omega arith)) in

@@ -35,7 +35,9 @@ shared-slice-read-if2 : tie.Need-shared-slice-read-if2 Inv-loop μ-loop
 shared-slice-read-if2 c = search needs
 
 returns-2 : tie.Need-returns-2 Inv-loop μ-loop
-returns-2 c = dictionary-behind ℕ-order 0 (c .before .before .before .before .before .loop .inv) (omega arith) (lt→ltb _ _ (c .if2 .taken))
+returns-2 c =
+    let at-loop = c .before .before .before .before .before in
+    dictionary-behind ℕ-order 0 (at-loop .loop .inv) (omega arith) (lt→ltb _ _ (c .if2 .taken))
 
 add-i : tie.Need-add-i Inv-loop μ-loop
 add-i c = search needs
@@ -45,9 +47,10 @@ loop-less c = search needs
 
 loop-again : tie.Need-loop-again Inv-loop μ-loop
 loop-again c =
+    let at-loop = c .before .before .before .before .before in
     let not-less = not-ltb _ _ (c .before .before .if1 .left) in
     let not-more = not-ltb _ _ (c .if2 .left) in
-    dictionary-on ℕ-order 0 (c .before .before .before .before .before .loop .inv) (omega arith) not-less not-more
+    dictionary-on ℕ-order 0 (at-loop .loop .inv) (omega arith) not-less not-more
 
 returns-3 : tie.Need-returns-3 Inv-loop μ-loop
 returns-3 c = dictionary-ends ℕ-order 0 (c .before .loop .inv) (omega arith)

@@ -24,13 +24,17 @@ enum-told : tie.Need-enum-told
 enum-told c = search needs
 
 same-length : tie.Need-same-length
-same-length c = c .before .before .before .before .before .keep .kept .0
+same-length c =
+    let at-keep = c .before .before .before .before .before in
+    at-keep .keep .kept .0
 
 returns : tie.Need-returns
 returns c =
     λ finds sh.
-    let a = c .before .before .before .before .before .before .before .before .args in
-    let k = c .before .before .before .before .before .keep in
+    let at-keep = c .before .before .before .before .before in
+    let start = at-keep .before .before .before in
+    let a = start .args in
+    let k = at-keep .keep in
     let outcome : Run = kept (length (a .out .now) / setBytes) (monomialsOf (a .set)) (a .st .steps) finds in
     let held = subst (λ (r : Kept). KeptAs r (a .st .steps) (k .last .0) outcome) (c .before .count .given .1) (k .ensures finds (a .st .steps) sh) in
     record { finds = held .0; shown = held .1; is = held .2 }
@@ -41,8 +45,10 @@ same-length-2 c = c .before .before .before .before .keep .kept .0
 returns-2 : tie.Need-returns-2
 returns-2 c =
     λ finds sh.
-    let a = c .before .before .before .before .before .before .before .args in
-    let k = c .before .before .before .before .keep in
+    let at-keep = c .before .before .before .before in
+    let start = at-keep .before .before .before in
+    let a = start .args in
+    let k = at-keep .keep in
     let outcome : Run = kept (length (a .out .now) / setBytes) (monomialsOf (a .set)) (a .st .steps) finds in
     subst (λ (r : Kept). KeptAs r (a .st .steps) (k .last .0) outcome) (c .enum-told .given .1) (k .ensures finds (a .st .steps) sh)
 

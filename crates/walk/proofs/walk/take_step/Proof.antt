@@ -59,8 +59,9 @@ slice-aggregate-first-unmet c =
 
 first-unmet-requires : tie.Need-first-unmet-requires
 first-unmet-requires c κs =
-    let s = c .before .before .before .before .before .before .before .before .before in
-    let v = c .before .before .before .before .signals-of .ensures in
+    let at-signals-of = c .before .before .before .before in
+    let s = at-signals-of .before .before .before .before .before in
+    let v = at-signals-of .signals-of .ensures in
     let sq = c .before .before .products-of .ensures in (
       s .pre .clean,
       (
@@ -71,7 +72,8 @@ first-unmet-requires c κs =
 
 found-requires : tie.Need-found-requires
 found-requires c κs =
-    let p = c .before .before .before .before .before .before .before .before .before .before .before .before .before .pre in
+    let start = c .before .before .before .before .before .before .before .before .before .before .before .before .before in
+    let p = start .pre in
     record { recorded = p .walked .recorded; showing = p .showing }
 
 same-length : tie.Need-same-length
@@ -80,15 +82,17 @@ same-length c = c .before .before .found .kept .0
 returns-2 : tie.Need-returns-2
 returns-2 c =
     λ d finds p sh.
-    let s = c .before .before .before .before .before .before .before .before .before .before .before .before .before .before .before .before in
+    let at-first-unmet = c .before .before .before .before .before .before in
+    let at-signals-of = at-first-unmet .before .before .before .before .before in
+    let s = at-signals-of .before .before .before .before .before in
     let a = s .args in
     let m = monomialsOf (a .set) in
     let fs = system (records (a .terms .now)) in
     let size = s .pre .size in
-    let v = c .before .before .before .before .before .before .before .before .before .before .before .signals-of .ensures in
+    let v = at-signals-of .signals-of .ensures in
     let long = signals-length (a .f .n) m (s .pre .few) in
-    let at = c .before .before .before .before .before .before .first-unmet .result in
-    let first = first-as (a .f .n) fs m _ at (v .0) (c .before .before .before .before .before .before .first-unmet .ensures) in
+    let at = at-first-unmet .first-unmet .result in
+    let first = first-as (a .f .n) fs m _ at (v .0) (at-first-unmet .first-unmet .ensures) in
     let none = first-none (a .f .n) fs m at first (omega arith) in
     let told = open-none bare (a .f .n) fs (a .f .level) (a .f .limit) (length (a .out .now) / setBytes) (a .st .steps) finds m d p (omega arith) none in
     subst (Tells (c .before .before .found .result) (c .before .before .found .last .0)) (sym told) (c .before .before .found .ensures finds sh)
@@ -96,15 +100,17 @@ returns-2 c =
 returns-3 : tie.Need-returns-3
 returns-3 c =
     λ d finds p sh.
-    let s = c .before .before .before .before .before .before .before .before .before .before .before .before .before .before .before in
+    let at-first-unmet = c .before .before .before .before .before in
+    let at-signals-of = at-first-unmet .before .before .before .before .before in
+    let s = at-signals-of .before .before .before .before .before in
     let a = s .args in
     let m = monomialsOf (a .set) in
     let fs = system (records (a .terms .now)) in
     let size = s .pre .size in
-    let v = c .before .before .before .before .before .before .before .before .before .before .signals-of .ensures in
+    let v = at-signals-of .signals-of .ensures in
     let long = signals-length (a .f .n) m (s .pre .few) in
-    let at = c .before .before .before .before .before .first-unmet .result in
-    let first = first-as (a .f .n) fs m _ at (v .0) (c .before .before .before .before .before .first-unmet .ensures) in
+    let at = at-first-unmet .first-unmet .result in
+    let first = first-as (a .f .n) fs m _ at (v .0) (at-first-unmet .first-unmet .ensures) in
     let some = first-some (a .f .n) fs m at first (omega arith) in
     let last = at-its-level bare (a .f .n) (a .f .level) m (missing (a .f .n) fs m) (omega arith) in
     record {
@@ -115,19 +121,23 @@ returns-3 c =
 
 array-share-prefix-table-2 : tie.Need-array-share-prefix-table-2
 array-share-prefix-table-2 c =
-    let made = c .before .before .before .before .before .before .before .before .products-of in
+    let at-products-of = c .before .before .before .before .before .before .before .before in
+    let made = at-products-of .products-of in
     omega (arith, made .kept .1 .0, made .ensures .1)
 
 slice-aggregate-choose : tie.Need-slice-aggregate-choose
 slice-aggregate-choose c =
-    let made = c .before .before .before .before .before .before .before .before .before .products-of in
+    let at-products-of = c .before .before .before .before .before .before .before .before .before in
+    let made = at-products-of .products-of in
     sym (length-take-le (made .result) (made .last .1 .0) (omega (arith, made .kept .1 .0, made .ensures .1)))
 
 choose-requires : tie.Need-choose-requires
 choose-requires c κs =
-    let s = c .before .before .before .before .before .before .before .before .before .before .before .before .before .before .before .before in
-    let v = c .before .before .before .before .before .before .before .before .before .before .before .signals-of .ensures in
-    let sq = c .before .before .before .before .before .before .before .before .before .products-of .ensures in (
+    let at-products-of = c .before .before .before .before .before .before .before .before .before in
+    let at-signals-of = at-products-of .before .before in
+    let s = at-signals-of .before .before .before .before .before in
+    let v = at-signals-of .signals-of .ensures in
+    let sq = at-products-of .products-of .ensures in (
       s .pre .clean,
       (
         omega (arith, s .pre .within, s .pre .low, s .pre .few),
@@ -137,25 +147,29 @@ choose-requires c κs =
 
 returns-4 : tie.Need-returns-4
 returns-4 c =
-    let s = c .before .before .before .before .before .before .before .before .before .before .before .before .before .before .before .before .before .before in
+    let at-if3 = c .before .before .before in
+    let at-first-unmet = at-if3 .before .before .before .before .before in
+    let at-signals-of = at-first-unmet .before .before .before .before .before in
+    let at-if1 = at-signals-of .before in
+    let s = at-if1 .before .before .before .before in
     let a = s .args in
     let m = monomialsOf (a .set) in
     let fs = system (records (a .terms .now)) in
     let size = s .pre .size in
-    let v = c .before .before .before .before .before .before .before .before .before .before .before .before .before .signals-of .ensures in
+    let v = at-signals-of .signals-of .ensures in
     let long = signals-length (a .f .n) m (s .pre .few) in
-    let at = c .before .before .before .before .before .before .before .before .first-unmet .result in
-    let first = first-as (a .f .n) fs m _ at (v .0) (c .before .before .before .before .before .before .before .before .first-unmet .ensures) in
+    let at = at-first-unmet .first-unmet .result in
+    let first = first-as (a .f .n) fs m _ at (v .0) (at-first-unmet .first-unmet .ensures) in
     let there = is→T (some (missing (a .f .n) fs m)) (first-some (a .f .n) fs m at first (omega arith)) in
     let p = c .before .choose .result in
     let picked = subst (λ (l : List Mono). Picked (nonsquares plain l (derivative plain fs)) p) (v .0) (c .before .choose .ensures) in
     let choice = picked-choice (missing (a .f .n) fs m) p there picked in
     record {
-      taken = omega (arith, c .before .before .before .before .before .before .before .before .before .before .before .before .before .before .if1 .left);
+      taken = omega (arith, at-if1 .if1 .left);
       first = choice .first;
       others = choice .others;
       are = choice .are;
-      on = bare-goes-on (a .f .n) (a .f .level) m (choice .first ∷ choice .others) (omega (arith, c .before .before .before .if3 .left));
+      on = bare-goes-on (a .f .n) (a .f .level) m (choice .first ∷ choice .others) (omega (arith, at-if3 .if3 .left));
       is = choice .is;
       kept = refl;
     }
