@@ -6,6 +6,7 @@ use native.Mathlib.Omega.{arith}
 use lib.Dec.{lit<}
 use lib.ListN.{length, take, drop, getD, length-map, length-take, List·getD-map}
 use lib.Seq.{drop-cons, getD-take}
+use Rattle.wiring.specs.Panel.{width, cards}
 use Rattle.wiring.specs.Sets.{places}
 use Rattle.wiring.proofs.sets.Laws.{places-length, places-at}
 use Rattle.lines.specs.Text.{space, decimal, joined}
@@ -31,11 +32,11 @@ module _ (bytes : List ℕ) (size : ℕ) where
   abbrev pub pieces : List (List ℕ)
   pieces = map exponents (take size (places bytes))
 
-  pub pieces-length : length pieces ≡ min size 6
+  pub pieces-length : length pieces ≡ min size cards
   pieces-length = length-map (take size (places bytes)) exponents ∙ length-take size (places bytes) ∙ ap (min size) (places-length bytes)
 
-  pub piece-at : (i : ℕ) → i < min size 6 → exponents (take 6 (drop (6 * i) bytes)) ≡ getD pieces i (exponents [])
+  pub piece-at : (i : ℕ) → i < min size cards → exponents (take width (drop (width * i) bytes)) ≡ getD pieces i (exponents [])
   piece-at i h =
-      let at : getD (take size (places bytes)) i [] ≡ take 6 (drop (6 * i) bytes) =
+      let at : getD (take size (places bytes)) i [] ≡ take width (drop (width * i) bytes) =
       getD-take size (places bytes) i [] (omega arith) ∙ places-at bytes i [] (omega arith) in
       sym (List·getD-map exponents (take size (places bytes)) i [] ∙ ap exponents at)

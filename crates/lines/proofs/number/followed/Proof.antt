@@ -2,10 +2,10 @@
 use mathlib.Core.Path.{sym, _∙_}
 use mathlib.Core.List.{[]}
 use native.Mathlib.Omega.{arith}
-use Rattle.asked.proofs.number.Laws.{longer, digit-low, digit-high, digit-is, from-other, from-digit, from-none, from-large}
+use Rattle.lines.proofs.number.Laws.{longer, digit-low, digit-high, digit-is, from-other, from-digit, from-none, from-large}
 use borrow.Author.Needs.{needs}
-use Rattle.asked.proofs.number.followed.Statement.{statement}
-use Rattle.asked.proofs.number.followed.Tie as tie
+use Rattle.lines.proofs.number.followed.Statement.{statement}
+use Rattle.lines.proofs.number.followed.Tie as tie
 
 returns : tie.Need-returns
 returns c = sym (from-other _ _ [] (digit-low _ (c .if1 .taken)))

@@ -12,10 +12,10 @@ use lib.ListN.{length, length-append}
 use Rattle.monomial.specs.Lists.{some, all}
 use Rattle.monomial.proofs.Members.{_∈_, all-in, all-out}
 use Rattle.monomial.proofs.Tests.{Tested, passed, failed, test, T→is, is→T, and-l, and-r, and-i}
 use Rattle.lines.specs.Text.{decimalWithin, decimal}
-use Rattle.asked.specs.Number.{isDigit, extended, numberFrom, numberOf}
-use Rattle.asked.specs.declared.number.Number.the-variants.{Of, Nothing}
-use Rattle.asked.proofs.number.Laws.{bound, longer, digit-is}
+use Rattle.lines.specs.Number.{isDigit, extended, numberFrom, numberOf}
+use Rattle.lines.specs.declared.number.Number.the-variants.{Of, Nothing}
+use Rattle.lines.proofs.number.Laws.{bound, longer, digit-is}
 
 pub record IsNumber (word : List ℕ) (v : ℕ) : Type 0 where
   pub one : 0 < length word

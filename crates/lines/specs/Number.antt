@@ -4,8 +4,8 @@ use mathlib.Core.List.{List, [], _∷_}
 use Prim.Native.Nat.{ℕ, _+_, _*_, _-_, _^_}
 use lib.Dec.{leb, ltb}
 use Rattle.monomial.specs.Lists.{some, all}
-use Rattle.asked.specs.declared.number.Number.{Number}
-use Rattle.asked.specs.declared.number.Number.the-variants.{Of, Nothing}
+use Rattle.lines.specs.declared.number.Number.{Number}
+use Rattle.lines.specs.declared.number.Number.the-variants.{Of, Nothing}
 
 -- the byte of a digit from 0 to 9
 abbrev pub isDigit : ℕ → Bool

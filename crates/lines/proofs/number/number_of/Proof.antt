@@ -4,9 +4,9 @@ use Prim.Native.Nat.{_-_}
 use native.Mathlib.Omega.{arith}
 use lib.ListN.{length}
 use borrow.Author.Needs.{needs}
-use Rattle.asked.proofs.number.Laws.{Reading, reading-start, reading-next, reading-stop, reading-end, empty-none}
-use Rattle.asked.proofs.number.number_of.Statement.{statement}
-use Rattle.asked.proofs.number.number_of.Tie as tie
+use Rattle.lines.proofs.number.Laws.{Reading, reading-start, reading-next, reading-stop, reading-end, empty-none}
+use Rattle.lines.proofs.number.number_of.Statement.{statement}
+use Rattle.lines.proofs.number.number_of.Tie as tie
 
 abbrev Inv-loop : tie.InvT-loop
 Inv-loop word v₀ i₀ v i = Reading word v i

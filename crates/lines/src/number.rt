@@ -1,8 +1,8 @@
 // Decimal words: which words are numbers of 64 bits, and which number each of them is.
-use lines::text;
+use super::text;
 ghost use mathlib.Core.Path.{_≡_};
 ghost use mathlib.Core.List.{[], _∷_};
-ghost use Rattle.asked.specs.Number.{numberFrom, numberOf};
+ghost use Rattle.lines.specs.Number.{numberFrom, numberOf};
 
 pub enum Number {
     Of(u64),

@@ -11,9 +11,9 @@ use lib.ListN.{length, getD, drop, drop-of-length-le}
 use lib.Seq.{drop-cons}
 use Rattle.monomial.specs.Lists.{some, all}
 use Rattle.monomial.proofs.Tests.{Tested, passed, failed, test}
-use Rattle.asked.specs.Number.{isDigit, extended, numberFrom, numberOf}
-use Rattle.asked.specs.declared.number.Number.{Number}
-use Rattle.asked.specs.declared.number.Number.the-variants.{Of, Nothing}
+use Rattle.lines.specs.Number.{isDigit, extended, numberFrom, numberOf}
+use Rattle.lines.specs.declared.number.Number.{Number}
+use Rattle.lines.specs.declared.number.Number.the-variants.{Of, Nothing}
 
 abbrev pub bound : ℕ
 bound = 18446744073709551616
