@@ -3,10 +3,8 @@ use super::prepare;
 use super::prepare::Prepared;
 use lines::answer;
 use lines::lengths::LINE_BYTES;
-use wiring::panel::MOST_WIRES;
 use wiring::panel::SET_BYTES;
 use wiring::panel::WIRE_BYTES;
-use wiring::panel::WIRES_BYTES;
 use wiring::reply;
 use wiring::reply::Reply;
 ghost use mathlib.Core.Path.{_≡_};
@@ -43,7 +41,7 @@ fn set_at(sets: &[u8], i: usize, size: usize, line: &mut [u8; LINE_BYTES]) -> us
 }
 
 // The line of wiring record number i.
-fn wire_at(wires: &[u8; WIRES_BYTES], i: usize, line: &mut [u8; LINE_BYTES]) -> usize
+fn wire_at(wires: &[u8], i: usize, line: &mut [u8; LINE_BYTES]) -> usize
     requires { ⌜ wireBytes * i + wireBytes ≤ length (now wires) ⌝ }
     ensures { λ r. ⌜ Stands (wireLine (slot wireBytes (now (wires .entry)) i)) r (now (line .entry)) (now (line .exit)) ⌝ }
 {
@@ -59,7 +57,7 @@ fn line_in(
     reply: Reply,
     count: u64,
     sets: &[u8],
-    wires: &[u8; WIRES_BYTES],
+    wires: &[u8],
     k: usize,
     line: &mut [u8; LINE_BYTES],
 ) -> usize
@@ -79,7 +77,7 @@ fn line_in(
         return set_at(sets, i, five[1] as usize, line);
     }
     let j = i - shown;
-    if j < held(count, MOST_WIRES) {
+    if j < held(count, wires.len() / WIRE_BYTES) {
         return wire_at(wires, j, line);
     }
     0
@@ -89,7 +87,7 @@ fn line_in(
 pub fn line_of(
     p: Prepared,
     sets: &[u8],
-    wires: &[u8; WIRES_BYTES],
+    wires: &[u8],
     k: usize,
     line: &mut [u8; LINE_BYTES],
 ) -> usize

@@ -1,0 +1,2 @@
+-- The laws of the module line.
+pub mod Laws
