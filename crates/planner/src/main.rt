@@ -7,7 +7,7 @@ use wiring::panel::TERMS_BYTES;
 use wiring::panel::WIRES_BYTES;
 
 // Writes line after line, until there is none.
-fn write_lines(p: Prepared, sets: &[u8], wires: &[u8]) {
+fn write_lines(p: Prepared, sets: &[u8; program::SETS_BYTES], wires: &[u8; WIRES_BYTES]) {
     let mut text = [0u8; LINE_BYTES];
     let mut k: usize = 0;
     loop {

@@ -1,16 +1,17 @@
--- The entries of a list one by one, and the pieces of a set's line. Assumes nothing.
+-- The entries of a list one by one, and the pieces of a set's line; and that no line is empty. Assumes nothing.
 use mathlib.Core.Path.{_≡_, refl, sym, ap, _∙_}
 use mathlib.Core.List.{List, [], _∷_, _++_, map}
 use Prim.Native.Nat.{ℕ, zero, suc, _+_, _*_, _≤_, _<_, min}
 use native.Mathlib.Omega.{arith}
 use lib.Dec.{lit<}
-use lib.ListN.{length, take, drop, getD, length-map, length-take, List·getD-map}
+use lib.ListN.{length, take, drop, getD, length-append, length-map, length-take, List·getD-map}
 use lib.Seq.{drop-cons, getD-take}
 use Rattle.wiring.specs.Panel.{width, cards}
+use Rattle.wiring.specs.Coefficient.{word, signed}
 use Rattle.wiring.specs.Sets.{places}
 use Rattle.wiring.proofs.sets.Laws.{places-length, places-at}
-use Rattle.lines.specs.Text.{space, decimal, joined}
-use Rattle.lines.specs.Answer.{exponents}
+use Rattle.lines.specs.Text.{space, decimal, signedText, joined}
+use Rattle.lines.specs.Answer.{lineOf, spaced, replyLine, exponents, setText, setLine, wireLine}
 use Rattle.lines.proofs.text.Laws.{joined-next}
 
 -- k entries from place i on
@@ -40,3 +41,18 @@ module _ (bytes : List ℕ) (size : ℕ) where
       let at : getD (take size (places bytes)) i [] ≡ take width (drop (width * i) bytes) =
       getD-take size (places bytes) i [] (omega arith) ∙ places-at bytes i [] (omega arith) in
       sym (List·getD-map exponents (take size (places bytes)) i [] ∙ ap exponents at)
+
+-- ---- no line is empty: each has its newline
+line-some : (text : List ℕ) → 0 < length (lineOf text)
+line-some text = simp length-append (omega arith)
+
+pub reply-some : (five : List ℕ) → 0 < length (replyLine five)
+unfolding replyLine
+reply-some five = line-some (spaced five)
+
+pub set-some : (bytes : List ℕ) (size : ℕ) → 0 < length (setLine bytes size)
+set-some bytes size = line-some (setText bytes size)
+
+pub wire-some : (bytes : List ℕ) → 0 < length (wireLine bytes)
+unfolding wireLine
+wire-some bytes = line-some (joined space (map decimal (take 3 bytes) ++ (signedText (signed (word bytes 4)) ∷ [])))

@@ -61,11 +61,11 @@ module _ (r : Results) where
   abbrev pub shownWires : ℕ
   shownWires = min (r .wiring .count) (length (r .wiring .bytes) / wireBytes)
 
-  sets-length : length (setLines (r .plan)) ≡ shownSets
+  pub sets-length : length (setLines (r .plan)) ≡ shownSets
   unfolding setLines
   sets-length = each-length (λ bytes. setLine bytes (r .plan .said .order)) setBytes (r .plan .said .count) (r .plan .bytes)
 
-  wires-length : length (wireLines (r .wiring)) ≡ shownWires
+  pub wires-length : length (wireLines (r .wiring)) ≡ shownWires
   unfolding wireLines
   wires-length = each-length wireLine wireBytes (r .wiring .count) (r .wiring .bytes)
 
