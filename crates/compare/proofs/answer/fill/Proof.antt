@@ -5,11 +5,12 @@ use native.Mathlib.Omega.{arith}
 use lib.ListN.{length, replicate, length-replicate, getD-replicate}
 use Rattle.monomial.proofs.Loops.{Filling, filling-start, filling-next, filling-end}
 use borrow.Author.Needs.{needs}
-use Rattle.compare.proofs.fill.Statement.{statement}
-use Rattle.compare.proofs.fill.Tie as tie
+use Rattle.compare.specs.Answer.{filler}
+use Rattle.compare.proofs.answer.fill.Statement.{statement}
+use Rattle.compare.proofs.answer.fill.Tie as tie
 
 abbrev Inv-loop : tie.InvT-loop
-Inv-loop buffer₀ i₀ buffer i = Filling 0 (length buffer₀) (replicate (length buffer₀) 165) buffer i
+Inv-loop buffer₀ i₀ buffer i = Filling 0 (length buffer₀) (replicate (length buffer₀) filler) buffer i
 
 abbrev μ-loop : tie.MeasureT-loop
 μ-loop buffer₀ i₀ buffer i = length buffer₀ - i
@@ -30,7 +31,7 @@ loop-again : tie.Need-loop-again Inv-loop μ-loop
 loop-again c =
     let l = length (c .before .before .args .buffer .now) in
     let k = c .before .loop in
-    filling-next 0 165 (k .inv) (omega arith) (length-replicate l 165) (sym (getD-replicate l (k .i) 165 0 (omega arith)))
+    filling-next 0 filler (k .inv) (omega arith) (length-replicate l filler) (sym (getD-replicate l (k .i) filler 0 (omega arith)))
 
 same-length : tie.Need-same-length Inv-loop μ-loop
 same-length c = c .before .loop .inv .long
@@ -38,7 +39,7 @@ same-length c = c .before .loop .inv .long
 returns : tie.Need-returns Inv-loop μ-loop
 returns c =
     let l = length (c .before .before .args .buffer .now) in
-    filling-end 0 (c .before .loop .inv) (omega arith) (length-replicate l 165)
+    filling-end 0 (c .before .loop .inv) (omega arith) (length-replicate l filler)
 
 pub fill-spec : {M : Type 1} → statement M
 fill-spec =
