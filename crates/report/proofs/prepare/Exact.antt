@@ -33,8 +33,7 @@ module _ (s : Settings) (terms : List ℕ) {p : Prepared} {sets after wires : Li
       let counts : p .wires ≡ q .wires = ap (λ (r : Results). r .wiring .count) both in
       let lent : p .lent ≡ q .lent = a .lent ∙ sym (c .lent) in
       let front : take (p .lent) after ≡ take (q .lent) b = ap (λ (r : Results). r .plan .bytes) both in
-      let rest : drop (p .lent) after ≡ drop (q .lent) b = a .rest ∙ rw lent (sym (c .rest)) in
-      (
+      let rest : drop (p .lent) after ≡ drop (q .lent) b = a .rest ∙ rw lent (sym (c .rest)) in (
         same p q replies lent counts,
         sym (take-append-drop (p .lent) after) ∙ rw (front, rest) (take-append-drop (q .lent) b),
         ap (λ (r : Results). r .wiring .bytes) both,
