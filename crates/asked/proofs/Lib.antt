@@ -1,2 +1,1 @@
--- Laws that belong to no module of src/. Those of a module stand under its name: number, settings.
-pub mod Samples
+-- Laws that belong to no module of src/. Those of a module stand under its name: settings, answer.

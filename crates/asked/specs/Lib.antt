@@ -1,3 +1,3 @@
--- What the contracts of the settings cite.
-pub mod Number
+-- What the contracts of the program cite.
 pub mod Settings
+pub mod Answer

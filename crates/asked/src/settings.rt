@@ -1,16 +1,12 @@
 // What is asked for: five numbers, each a word of the command line.
-use super::number;
-use super::number::Number;
+use lines::number;
+use lines::number::Number;
+use report::prepare::Settings;
 ghost use mathlib.Core.Path.{_≡_};
 ghost use Rattle.asked.specs.Settings.{asked, Roomy};
 
-pub struct Settings {
-    pub n: u64,
-    pub cap: u64,
-    pub limit: u64,
-    pub room: usize,
-    pub which: u64,
-}
+// The most sets that there is room for.
+pub(crate) const MOST_SETS: usize = 20000;
 
 pub enum Asked {
     Right(Settings),
@@ -36,7 +32,7 @@ fn settings_of(n: Number, cap: Number, limit: Number, sets: Number, which: Numbe
     let Number::Of(which) = which else {
         return Asked::Wrong;
     };
-    if 20000 < sets {
+    if (MOST_SETS as u64) < sets {
         return Asked::Wrong;
     }
     Asked::Right(Settings {

@@ -6,6 +6,19 @@ use lib.Dec.{leb}
 use lib.ListN.{getD}
 use Rattle.compare.specs.declared.head.Head.{Head}
 
+abbrev pub headBytes : ℕ
+headBytes = 32
+
+-- the longest set, terms and buffer that are answered
+abbrev pub longestSet : ℕ
+longestSet = 255
+
+abbrev pub longestTerms : ℕ
+longestTerms = 600
+
+abbrev pub longestBuffer : ℕ
+longestBuffer = 65536
+
 abbrev pub two : List ℕ → ℕ → ℕ
 two l at = getD l at 0 + 256 * getD l (at + 1) 0
 
@@ -28,4 +41,4 @@ headOf bytes = record {
 
 -- a known operation, and lengths within the limits
 unfoldable pub right : Head → Bool
-right h = leb 1 (h .operation) && leb (h .operation) 3 && leb (h .set) 255 && leb (h .terms) 600 && leb (h .size) 65536
+right h = leb 1 (h .operation) && leb (h .operation) 3 && leb (h .set) longestSet && leb (h .terms) longestTerms && leb (h .size) longestBuffer

@@ -1,2 +1,3 @@
--- What the contracts of the head cite.
+-- What the contracts of the head and of an answer cite.
 pub mod Head
+pub mod Answer

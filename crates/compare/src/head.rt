@@ -2,7 +2,16 @@
 use lines::text;
 ghost use mathlib.Core.Path.{_≡_};
 ghost use Prim.Native.Nat.{_+_, _≤_, _<_};
-ghost use Rattle.compare.specs.Head.{two, four, eight, headOf, right};
+ghost use Rattle.compare.specs.Head.{headBytes, two, four, eight, headOf, right};
+
+pub(crate) const HEAD_BYTES: usize = 32;
+
+// The longest set, terms and buffer that are answered.
+const LONGEST_SET: usize = 255;
+
+const LONGEST_TERMS: usize = 600;
+
+const LONGEST_BUFFER: usize = 65536;
 
 pub struct Head {
     pub operation: u64,
@@ -14,28 +23,28 @@ pub struct Head {
     pub limit: u64,
 }
 
-fn two_at(b: &[u8; 32], at: usize) -> u64
-    requires { ⌜ at + 2 ≤ 32 ⌝ }
+fn two_at(b: &[u8; HEAD_BYTES], at: usize) -> u64
+    requires { ⌜ at + 2 ≤ headBytes ⌝ }
     ensures { λ r. ⌜ (r ≡ two (now (b .entry)) at) × (r < 65536) ⌝ }
 {
     text::wide(b[at]) + 256 * text::wide(b[at + 1])
 }
 
-fn four_at(b: &[u8; 32], at: usize) -> u64
-    requires { ⌜ at + 4 ≤ 32 ⌝ }
+fn four_at(b: &[u8; HEAD_BYTES], at: usize) -> u64
+    requires { ⌜ at + 4 ≤ headBytes ⌝ }
     ensures { λ r. ⌜ (r ≡ four (now (b .entry)) at) × (r < 4294967296) ⌝ }
 {
     two_at(b, at) + 65536 * two_at(b, at + 2)
 }
 
-fn eight_at(b: &[u8; 32], at: usize) -> u64
-    requires { ⌜ at + 8 ≤ 32 ⌝ }
+fn eight_at(b: &[u8; HEAD_BYTES], at: usize) -> u64
+    requires { ⌜ at + 8 ≤ headBytes ⌝ }
     ensures { λ r. ⌜ r ≡ eight (now (b .entry)) at ⌝ }
 {
     four_at(b, at) + 4294967296 * four_at(b, at + 4)
 }
 
-pub fn read(b: &[u8; 32]) -> Head
+pub fn read(b: &[u8; HEAD_BYTES]) -> Head
     ensures { λ r. ⌜ r ≡ headOf (now (b .entry)) ⌝ }
 {
     Head {
@@ -59,11 +68,11 @@ pub fn is_right(h: Head) -> bool
     if 3 < h.operation {
         return false;
     }
-    if 255 < h.set {
+    if LONGEST_SET < h.set {
         return false;
     }
-    if 600 < h.terms {
+    if LONGEST_TERMS < h.terms {
         return false;
     }
-    h.size <= 65536
+    h.size <= LONGEST_BUFFER
 }

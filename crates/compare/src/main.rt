@@ -2,46 +2,19 @@
 //
 // A case is a head of 32 bytes, then term records, then a set record. The head: operation (1 plan, 2 check, 3 wire), length of the set (one byte),
 // of the terms (two), of the answer buffer (four), then n, cap and limit (eight each); low byte first.
+mod answer;
 mod head;
 
+use head::HEAD_BYTES;
 use head::Head;
-use lines::show;
-use walk::plan;
-use wiring::answers;
-use wiring::reply;
-ghost use mathlib.Core.Path.{_≡_};
+use lines::lengths::LINE_BYTES;
 ghost use Prim.Native.Nat.{_≤_};
-ghost use lib.ListN.{length, replicate};
+ghost use lib.ListN.{length};
 
 // A case that is itself broken ends the answers.
 fn broken() -> bool {
     io::write_all(1, b"broken batch\n");
     false
-}
-
-// Bytes that show where an operation leaves the buffer as it was.
-fn fill(buffer: &mut [u8])
-    ensures { λ _. ⌜ now (buffer .exit) ≡ replicate (length (now (buffer .entry))) 165 ⌝ }
-{
-    let mut i: usize = 0;
-    while i < buffer.len() {
-        buffer[i] = 165;
-        i += 1;
-    }
-}
-
-fn answer_case(h: Head, terms: &[u8], set: &[u8], buffer: &mut [u8]) {
-    fill(buffer);
-    let operation = h.operation;
-    if operation == 1 {
-        let planned = plan::plan(h.n, h.cap, h.limit, terms, buffer);
-        show::show_case(reply::numbers(planned), buffer);
-    } else if operation == 2 {
-        show::show_reply(reply::numbers(answers::check(h.n, terms, set)));
-    } else {
-        let wired = answers::wire(h.n, terms, set, buffer);
-        show::show_case(reply::numbers(wired), buffer);
-    }
 }
 
 // Reads n bytes to the start of a buffer; false where the input ends before.
@@ -64,12 +37,15 @@ fn answer_rest(h: Head, terms: &mut [u8], set: &mut [u8], buffer: &mut [u8]) -> 
         return broken();
     }
     let size = h.size;
-    answer_case(
+    let mut line = [0u8; LINE_BYTES];
+    let end = answer::answer_case(
         h,
         &terms[0..terms_length],
         &set[0..set_length],
         &mut buffer[0..size],
+        &mut line,
     );
+    io::write_all(1, &line[..end]);
     true
 }
 
@@ -86,12 +62,12 @@ fn answer_head(h: Head) -> bool {
 
 // Reads and answers the next case; false at the end of the input and after a broken case.
 fn answer_next() -> bool {
-    let mut bytes = [0u8; 32];
+    let mut bytes = [0u8; HEAD_BYTES];
     let got = io::read_full(0, &mut bytes);
     if got == 0 {
         return false;
     }
-    if got < 32 {
+    if got < HEAD_BYTES {
         return broken();
     }
     answer_head(head::read(&bytes))

@@ -18,11 +18,11 @@ use Rattle.lines.specs.Digest.{digestFrom, digest}
 use Rattle.lines.specs.Case.{hexText, bufferText, caseLine}
 
 -- the bytes of a text, and of a line
-written : String → List ℕ
+unfoldable pub written : String → List ℕ
 written nothing = []
 written (c then s) = code c ∷ written s
 
-line : String → List ℕ
+unfoldable pub line : String → List ℕ
 line s = written s ++ (newline ∷ [])
 
 record Row : Type 0 where

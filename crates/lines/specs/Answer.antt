@@ -7,15 +7,16 @@ use Rattle.wiring.specs.Coefficient.{word, signed}
 use Rattle.wiring.specs.Sets.{places}
 use Rattle.lines.specs.Text.{newline, space, dot, decimal, signedText, joined}
 
-abbrev pub ended : List ℕ → List ℕ
-ended text = text ++ (newline ∷ [])
+-- a text with the end of its line
+abbrev pub lineOf : List ℕ → List ℕ
+lineOf text = text ++ (newline ∷ [])
 
 -- numbers in decimal, one space between
 abbrev pub spaced : List ℕ → List ℕ
 spaced numbers = joined space (map decimal numbers)
 
 unfoldable pub replyLine : List ℕ → List ℕ
-replyLine five = ended (spaced five)
+replyLine five = lineOf (spaced five)
 
 -- a set of a size by its record: exponents joined by dots, monomials by a space; the empty set is an empty line
 unfoldable pub exponents : Mono → List ℕ
@@ -25,8 +26,8 @@ unfoldable pub setText : List ℕ → ℕ → List ℕ
 setText bytes size = joined space (map exponents (take size (places bytes)))
 
 abbrev pub setLine : List ℕ → ℕ → List ℕ
-setLine bytes size = ended (setText bytes size)
+setLine bytes size = lineOf (setText bytes size)
 
 -- left, a, b, coefficient
 unfoldable pub wireLine : List ℕ → List ℕ
-wireLine bytes = ended (joined space (map decimal (take 3 bytes) ++ (signedText (signed (word bytes 4)) ∷ [])))
+wireLine bytes = lineOf (joined space (map decimal (take 3 bytes) ++ (signedText (signed (word bytes 4)) ∷ [])))

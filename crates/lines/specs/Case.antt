@@ -6,11 +6,12 @@ use lib.Dec.{eqb, leb}
 use lib.ListN.{length}
 use Rattle.io.specs.Digits.{digits}
 use Rattle.monomial.specs.Lists.{gather}
+use Rattle.lines.specs.Lengths.{shownBytes}
 use Rattle.lines.specs.Text.{space, hash, minus}
-use Rattle.lines.specs.Answer.{ended, spaced}
+use Rattle.lines.specs.Answer.{lineOf, spaced}
 use Rattle.lines.specs.Digest.{digest}
 
--- a buffer of at most 72 bytes: two hexadecimal digits for each, "-" for none; a longer one: "#" and its digest
+-- a short buffer: two hexadecimal digits for each, "-" for none; a longer one: "#" and its digest
 unfoldable pub hexText : List ℕ → List ℕ
 hexText bytes = gather (digits 16 2) bytes
 
@@ -18,7 +19,7 @@ unfoldable pub bufferText : List ℕ → List ℕ
 bufferText bytes =
     let whole = hexText bytes in
     let short : List ℕ = hash ∷ digits 16 16 (digest bytes) in
-    cond (eqb (length bytes) 0) (minus ∷ []) (cond (leb (length bytes) 72) whole short)
+    cond (eqb (length bytes) 0) (minus ∷ []) (cond (leb (length bytes) shownBytes) whole short)
 
 unfoldable pub caseLine : List ℕ → List ℕ → List ℕ
-caseLine five buffer = ended (spaced five ++ (space ∷ bufferText buffer))
+caseLine five buffer = lineOf (spaced five ++ (space ∷ bufferText buffer))

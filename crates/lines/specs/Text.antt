@@ -6,6 +6,7 @@ use Prim.Native.Nat.{ℕ, zero, suc, _+_, _/_, _%_, _≤_}
 use lib.Dec.{ltb}
 use lib.IntN.{ℤ, pos, negsuc}
 use lib.ListN.{length, take, drop}
+use Rattle.io.specs.Counts.{Counts}
 use Rattle.monomial.specs.Lists.{gather}
 
 abbrev pub newline : ℕ
@@ -53,3 +54,7 @@ pub record Added (piece : List ℕ) (at end : ℕ) (line after : List ℕ) : Typ
   pub long : length after ≡ length line
   pub front : take end after ≡ take at line ++ piece
   pub rest : drop end after ≡ drop end line
+
+-- a text stands at the start of a line, up to `end`; no other byte was changed
+abbrev pub Stands : List ℕ → ℕ → List ℕ → List ℕ → Type 0
+Stands text end line after = Counts end after × Added text 0 end line after

@@ -1,12 +1,14 @@
 // The line of one case of a batch: the five numbers, and the answer buffer in full or by its digest.
 use super::digest;
+use super::lengths::LINE_BYTES;
+use super::lengths::SHOWN_BYTES;
 use super::text;
 ghost use mathlib.Core.Path.{_≡_};
 ghost use Prim.Native.Nat.{_+_, _*_, _^_, _≤_, _<_};
 ghost use lib.ListN.{length};
-ghost use Rattle.io.specs.Counts.{Counts};
 ghost use Rattle.io.specs.Digits.{digits};
-ghost use Rattle.lines.specs.Text.{Added};
+ghost use Rattle.lines.specs.Lengths.{hexBytes};
+ghost use Rattle.lines.specs.Text.{Added, Stands};
 ghost use Rattle.lines.specs.Case.{hexText, bufferText, caseLine};
 
 // A number below 16 to the power of `places` in so many hexadecimal digits.
@@ -35,13 +37,13 @@ fn put_bytes(s: &[u8], line: &mut [u8], at: usize) -> usize
 
 // The buffer in full, or its digest.
 fn put_buffer(s: &[u8], line: &mut [u8], at: usize) -> usize
-    requires { ⌜ at + 144 ≤ length (now line) ⌝ }
-    ensures { λ r. ⌜ Added (bufferText (now (s .entry))) at r (now (line .entry)) (now (line .exit)) × (r ≤ at + 144) ⌝ }
+    requires { ⌜ at + hexBytes ≤ length (now line) ⌝ }
+    ensures { λ r. ⌜ Added (bufferText (now (s .entry))) at r (now (line .entry)) (now (line .exit)) × (r ≤ at + hexBytes) ⌝ }
 {
     if s.len() == 0 {
         return text::put_text(b"-", line, at);
     }
-    if s.len() <= 72 {
+    if s.len() <= SHOWN_BYTES {
         return put_bytes(s, line, at);
     }
     let next = text::put_text(b"#", line, at);
@@ -49,9 +51,8 @@ fn put_buffer(s: &[u8], line: &mut [u8], at: usize) -> usize
 }
 
 // A reply, and the buffer that was lent.
-pub fn case_line(five: [u64; 5], buffer: &[u8], line: &mut [u8; 1024]) -> usize
-    ensures { λ r. ⌜ Counts r (now (line .exit)) ⌝ }
-    ensures { λ r. ⌜ Added (caseLine five (now (buffer .entry))) 0 r (now (line .entry)) (now (line .exit)) ⌝ }
+pub fn case_line(five: [u64; 5], buffer: &[u8], line: &mut [u8; LINE_BYTES]) -> usize
+    ensures { λ r. ⌜ Stands (caseLine five (now (buffer .entry))) r (now (line .entry)) (now (line .exit)) ⌝ }
 {
     let end = text::put_joined(&five, b' ', line, 0);
     let next = text::put_text(b" ", line, end);

@@ -22,7 +22,7 @@ fn multiply(h: u64) -> u64
     std::num::wrapping_add_u64(std::num::wrapping_add_u64(high, low), shifted)
 }
 
-pub fn digest(s: &[u8]) -> u64
+pub(crate) fn digest(s: &[u8]) -> u64
     ensures { λ r. ⌜ r ≡ Digest·digest (now (s .entry)) ⌝ }
 {
     let mut h: u64 = 14695981039346656037;

@@ -1,8 +1,10 @@
 // Pieces of text, put into a lent line one behind the other: each function says where the next piece goes.
+use super::lengths::NUMBER_BYTES;
 ghost use mathlib.Core.Path.{_≡_};
 ghost use mathlib.Core.List.{[], _∷_, map};
 ghost use Prim.Native.Nat.{_+_, _*_, _≤_, _<_};
 ghost use lib.ListN.{length};
+ghost use Rattle.lines.specs.Lengths.{numberBytes, pieceBytes};
 ghost use Rattle.lines.specs.Text.{decimal, signedText, joined, lead, Added};
 
 // A byte as a number.
@@ -13,7 +15,7 @@ pub fn wide(x: u8) -> u64
 }
 
 // Bytes as they are.
-pub fn put_text(s: &[u8], line: &mut [u8], at: usize) -> usize
+pub(crate) fn put_text(s: &[u8], line: &mut [u8], at: usize) -> usize
     requires { ⌜ at + length (now s) ≤ length (now line) ⌝ }
     ensures { λ r. ⌜ Added (now (s .entry)) at r (now (line .entry)) (now (line .exit)) ⌝ }
 {
@@ -25,19 +27,19 @@ pub fn put_text(s: &[u8], line: &mut [u8], at: usize) -> usize
     at + s.len()
 }
 
-// A number in decimal, of at most 20 digits.
-pub fn put_number(n: u64, line: &mut [u8], at: usize) -> usize
-    requires { ⌜ at + 20 ≤ length (now line) ⌝ }
+// A number in decimal.
+pub(crate) fn put_number(n: u64, line: &mut [u8], at: usize) -> usize
+    requires { ⌜ at + numberBytes ≤ length (now line) ⌝ }
     ensures { λ r. ⌜ Added (decimal n) at r (now (line .entry)) (now (line .exit)) × (r ≤ at + 20) ⌝ }
 {
-    let mut digits = [0u8; 20];
+    let mut digits = [0u8; NUMBER_BYTES];
     let k = io::decimal(n, &mut digits);
     put_text(&digits[..k], line, at)
 }
 
 // A signed number. The size of one below 0 is found by way of -1 - c, which fits for every c.
-pub fn put_signed(c: i32, line: &mut [u8], at: usize) -> usize
-    requires { ⌜ at + 21 ≤ length (now line) ⌝ }
+pub(crate) fn put_signed(c: i32, line: &mut [u8], at: usize) -> usize
+    requires { ⌜ at + pieceBytes ≤ length (now line) ⌝ }
     ensures { λ r. ⌜ Added (signedText c) at r (now (line .entry)) (now (line .exit)) × (r ≤ at + 21) ⌝ }
 {
     if 0 <= c {
@@ -49,7 +51,7 @@ pub fn put_signed(c: i32, line: &mut [u8], at: usize) -> usize
 }
 
 // What stands before piece number i: nothing before the first.
-pub fn put_lead(i: usize, between: u8, line: &mut [u8], at: usize) -> usize
+pub(crate) fn put_lead(i: usize, between: u8, line: &mut [u8], at: usize) -> usize
     requires { ⌜ at + 1 ≤ length (now line) ⌝ }
     ensures { λ r. ⌜ Added (lead i between) at r (now (line .entry)) (now (line .exit)) × (r ≤ at + 1) ⌝ }
 {
@@ -60,10 +62,10 @@ pub fn put_lead(i: usize, between: u8, line: &mut [u8], at: usize) -> usize
 }
 
 // Numbers in decimal with a byte between each two.
-pub fn put_joined(numbers: &[u64], between: u8, line: &mut [u8], at: usize) -> usize
-    requires { ⌜ at + 21 * length (now numbers) ≤ length (now line) ⌝ }
+pub(crate) fn put_joined(numbers: &[u64], between: u8, line: &mut [u8], at: usize) -> usize
+    requires { ⌜ at + pieceBytes * length (now numbers) ≤ length (now line) ⌝ }
     ensures { λ r. ⌜ Added (joined between (map decimal (now (numbers .entry)))) at r (now (line .entry)) (now (line .exit)) ×
-        (r ≤ at + 21 * length (now (numbers .entry))) ⌝ }
+        (r ≤ at + pieceBytes * length (now (numbers .entry))) ⌝ }
 {
     let mut end = at;
     let mut i: usize = 0;

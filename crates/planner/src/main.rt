@@ -1,21 +1,31 @@
-// Reads term records from standard input, plans, and writes the reply, the sets and the wiring of the first set.
-use lines::show;
-use walk::plan;
-use wiring::answers;
-use wiring::reply;
+// Document 01's program: reads term records from standard input, plans and wires once, and writes the lines of the report.
+use lines::lengths::LINE_BYTES;
+use report::line;
+use report::prepare::Prepared;
+use report::program;
+use wiring::panel::TERMS_BYTES;
+use wiring::panel::WIRES_BYTES;
+
+// Writes line after line, until there is none.
+fn write_lines(p: Prepared, sets: &[u8; program::SETS_BYTES], wires: &[u8; WIRES_BYTES]) {
+    let mut text = [0u8; LINE_BYTES];
+    let mut k: usize = 0;
+    loop {
+        let end = line::line_of(p, sets, wires, k, &mut text);
+        if end == 0 {
+            return;
+        }
+        io::write_all(1, &text[..end]);
+        k += 1;
+    }
+}
 
 fn main() {
-    // 384 bytes are the most that can be right; one more tells that there are more.
-    let mut input = [0u8; 385];
+    // One byte more than can be right tells that there are more.
+    let mut input = [0u8; TERMS_BYTES + 1];
     let n = io::read_full(0, &mut input);
-    let mut sets = [0u8; 36000];
-    let five = reply::numbers(plan::plan(6, 6, 1000000, &input[..n], &mut sets));
-    show::show_reply(five);
-    if five[0] != 0 {
-        return;
-    }
-    show::show_sets(&sets, five[2], five[1] as usize);
-    let mut wires = [0u8; 1792];
-    let wired = reply::numbers(answers::wire(6, &input[..n], &sets[0..36], &mut wires));
-    show::show_wires(&wires, wired[2]);
+    let mut sets = [0u8; program::SETS_BYTES];
+    let mut wires = [0u8; WIRES_BYTES];
+    let p = program::prepare_program(&input[..n], &mut sets, &mut wires);
+    write_lines(p, &sets, &wires);
 }

@@ -27,14 +27,14 @@ record Row : Type 0 where
   want : Outcome
 
 -- exponents that are not written are 0
-padded : List ℕ → List ℕ
+unfoldable pub padded : List ℕ → List ℕ
 padded m = m ++ replicate (6 - length m) 0
 
 -- a term record with coefficient 1, and with coefficient -1
-pub plus : ℕ → List ℕ → List ℕ
+unfoldable pub plus : ℕ → List ℕ → List ℕ
 plus equation m = equation ∷ 0 ∷ padded m ++ 1 ∷ 0 ∷ 0 ∷ 0 ∷ []
 
-minus : ℕ → List ℕ → List ℕ
+unfoldable pub minus : ℕ → List ℕ → List ℕ
 minus equation m = equation ∷ 0 ∷ padded m ++ 255 ∷ 255 ∷ 255 ∷ 255 ∷ []
 
 set : List (List ℕ) → List ℕ

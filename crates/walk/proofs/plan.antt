@@ -1,3 +1,4 @@
 -- Planning: what each reply says, and that it is the only one.
 pub mod Laws
 pub mod Exact
+pub mod Records

@@ -10,6 +10,7 @@ use lib.ListN.{length, take, getD}
 use lib.Seq.{take-all}
 use Rattle.io.specs.Digits.{digits, Fewest}
 use Rattle.monomial.specs.Lists.{gather}
+use Rattle.lines.specs.Lengths.{shownBytes}
 use Rattle.lines.specs.Text.{hash, minus, Added}
 use Rattle.lines.specs.Digest.{digest}
 use Rattle.lines.specs.Case.{hexText, bufferText}
@@ -52,10 +53,10 @@ module _ (s : List ℕ) where
   unfolding bufferText
   buffer-none h = rw (eq-eqb (length s) 0 h)
 
-  pub buffer-whole : (length s ≡ 0 → ⊥) → length s ≤ 72 → hexText s ≡ bufferText s
+  pub buffer-whole : (length s ≡ 0 → ⊥) → length s ≤ shownBytes → hexText s ≡ bufferText s
   unfolding bufferText
-  buffer-whole h k = rw (ne-eqb (length s) 0 h, le-leb (length s) 72 k)
+  buffer-whole h k = rw (ne-eqb (length s) 0 h, le-leb (length s) shownBytes k)
 
-  pub buffer-digest : (length s ≡ 0 → ⊥) → 72 < length s → hash ∷ digits 16 16 (digest s) ≡ bufferText s
+  pub buffer-digest : (length s ≡ 0 → ⊥) → shownBytes < length s → hash ∷ digits 16 16 (digest s) ≡ bufferText s
   unfolding bufferText
-  buffer-digest h k = rw (ne-eqb (length s) 0 h, lt-leb (length s) 72 k)
+  buffer-digest h k = rw (ne-eqb (length s) 0 h, lt-leb (length s) shownBytes k)

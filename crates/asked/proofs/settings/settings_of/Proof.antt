@@ -2,7 +2,7 @@
 use Prim.Native.Nat.{_≤_, _<_}
 use native.Mathlib.Omega.{arith}
 use borrow.Author.Tests.{le-leb, lt-leb}
-use Rattle.asked.specs.Settings.{asked}
+use Rattle.asked.specs.Settings.{mostSets, asked}
 use borrow.Author.Needs.{needs}
 use Rattle.asked.proofs.settings.settings_of.Statement.{statement}
 use Rattle.asked.proofs.settings.settings_of.Tie as tie
@@ -80,8 +80,8 @@ returns-6 c =
     let second = third .before .before .before in
     let first = second .before .before .before in
     let sets = fourth .sets .given .0 .0 in
-    let room : 20000 < sets = omega arith in
-    rw (first .n .given .1, second .cap .given .1, third .limit .given .1, fourth .sets .given .1, fifth .which .given .1, lt-leb sets 20000 room)
+    let room : mostSets < sets = omega arith in
+    rw (first .n .given .1, second .cap .given .1, third .limit .given .1, fourth .sets .given .1, fifth .which .given .1, lt-leb sets mostSets room)
 
 returns-7 : tie.Need-returns-7
 unfolding asked
@@ -92,8 +92,8 @@ returns-7 c =
     let second = third .before .before .before in
     let first = second .before .before .before in
     let sets = fourth .sets .given .0 .0 in
-    let room : sets ≤ 20000 = omega arith in
-    rw (first .n .given .1, second .cap .given .1, third .limit .given .1, fourth .sets .given .1, fifth .which .given .1, le-leb sets 20000 room)
+    let room : sets ≤ mostSets = omega arith in
+    rw (first .n .given .1, second .cap .given .1, third .limit .given .1, fourth .sets .given .1, fifth .which .given .1, le-leb sets mostSets room)
 
 pub settings-of-spec : {M : Type 1} → statement M
 settings-of-spec =

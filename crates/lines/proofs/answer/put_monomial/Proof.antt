@@ -8,6 +8,7 @@ use Rattle.lines.specs.Text.{decimal}
 use Rattle.lines.specs.Answer.{exponents}
 use Rattle.lines.proofs.answer.Laws.{entries-are}
 use borrow.Author.Needs.{needs}
+use Rattle.monomial.specs.Monomial.{width}
 use Rattle.lines.proofs.answer.put_monomial.Statement.{statement}
 use Rattle.lines.proofs.answer.put_monomial.Tie as tie
 
@@ -68,8 +69,8 @@ returns c =
     let high = c .before .before .before .before .before in
     let low = high .before .before .before in
     let read = low .before .before .before .before .read in
-    let six : length (read .result .e) ≡ 6 = search needs in
-    let all = entries-are 6 0 (read .result .e) (omega arith) ∙ take-all 6 (read .result .e) (omega arith) ∙ read .ensures in
+    let long : length (read .result .e) ≡ width = search needs in
+    let all = entries-are width 0 (read .result .e) (omega arith) ∙ take-all width (read .result .e) (omega arith) ∙ read .ensures in
     let put = c .before .before .put-joined .ensures in
     let half = rw (low .before .before .wide .ensures .0, low .before .wide2 .ensures .0, low .wide3 .ensures .0) at put in
     let whole = rw (high .before .before .wide4 .ensures .0, high .before .wide5 .ensures .0, high .wide6 .ensures .0) at half in

@@ -1,9 +1,11 @@
 -- `put_set` meets its contract: the loop puts monomial after monomial, each behind its lead (`Joining`). Assumes nothing.
 use mathlib.Core.Path.{_≡_}
 use mathlib.Core.List.{[]}
-use Prim.Native.Nat.{_+_, _*_, _-_, _≤_, _<_, min}
+use Prim.Native.Nat.{suc, _+_, _*_, _-_, _≤_, _<_, min}
 use native.Mathlib.Omega.{arith}
 use lib.ListN.{length}
+use Rattle.wiring.specs.Panel.{cards}
+use Rattle.lines.specs.Lengths.{powersBytes}
 use Rattle.lines.specs.Text.{space}
 use Rattle.lines.specs.Answer.{exponents, setText}
 use Rattle.lines.proofs.text.Laws.{Joining, joining-start, joining-next, joining-end}
@@ -14,7 +16,7 @@ use Rattle.lines.proofs.answer.put_set.Tie as tie
 
 abbrev Inv-loop : tie.InvT-loop
 Inv-loop bytes size line₀ at len end₀ i₀ line end i =
-    (len ≡ min size 6) × (end ≤ at + 127 * i) × Joining space (pieces bytes size) i at end line₀ line
+    (len ≡ min size cards) × (end ≤ at + suc powersBytes * i) × Joining space (pieces bytes size) i at end line₀ line
 
 abbrev μ-loop : tie.MeasureT-loop
 μ-loop bytes size line₀ at len end₀ i₀ line end i = len - i
@@ -48,7 +50,7 @@ loop-again c =
     let k = c .before .before .before .before .before .before .before .before .before .loop in
     let lead = c .before .before .before .before .before .before .put-lead .ensures in
     let put = c .before .before .put-monomial .ensures in
-    let more : k .i < min (start .args .size) 6 = omega (arith, k .inv .0) in
+    let more : k .i < min (start .args .size) cards = omega (arith, k .inv .0) in
     let one = piece-at (start .args .bytes .now) (start .args .size) (k .i) more in
     let long = pieces-length (start .args .bytes .now) (start .args .size) in
     let next = joining-next (k .inv .2) _ (exponents []) (rw long more) one (lead .0) (put .0) in

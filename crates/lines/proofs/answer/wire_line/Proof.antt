@@ -10,20 +10,20 @@ use borrow.Author.Needs.{needs}
 use Rattle.lines.proofs.answer.wire_line.Statement.{statement}
 use Rattle.lines.proofs.answer.wire_line.Tie as tie
 
-shared-slice-read-wide : tie.Need-shared-slice-read-wide
-shared-slice-read-wide c = search needs
+element-copy-out-wide : tie.Need-element-copy-out-wide
+element-copy-out-wide c = search needs
 
 wide-requires : tie.Need-wide-requires
 wide-requires c κs = search needs
 
-shared-slice-read-wide-2 : tie.Need-shared-slice-read-wide-2
-shared-slice-read-wide-2 c = search needs
+element-copy-out-wide-2 : tie.Need-element-copy-out-wide-2
+element-copy-out-wide-2 c = search needs
 
 wide-requires-2 : tie.Need-wide-requires-2
 wide-requires-2 c κs = search needs
 
-shared-slice-read-wide-3 : tie.Need-shared-slice-read-wide-3
-shared-slice-read-wide-3 c = search needs
+element-copy-out-wide-3 : tie.Need-element-copy-out-wide-3
+element-copy-out-wide-3 c = search needs
 
 wide-requires-3 : tie.Need-wide-requires-3
 wide-requires-3 c κs = search needs
@@ -57,10 +57,10 @@ unfolding wireLine
 returns c =
     let ends = c .before .before .before in
     let decoded = ends .before .before in
-    let spaced = decoded .before in
+    let spaced = decoded .before .before in
     let joined = spaced .before .before .before in
     let widened = joined .before .before .before in
-    let start = widened .before .before .before .before .before .before .before in
+    let start = widened .before .before .before .before .before .before in
     let said = rw (toZ-ofZ w32 (decoded .decode .result) (sfits-of (decoded .decode .ok)), decoded .decode .ensures) at (ends .put-signed .ensures .0) in
     let first = widened .before .before .before .before .wide .ensures .0 in
     let second = widened .before .before .wide2 .ensures .0 in
@@ -73,11 +73,11 @@ pub wire-line-spec : {M : Type 1} → statement M
 wire-line-spec =
     tie.close
     (tie.spec
-    shared-slice-read-wide
+    element-copy-out-wide
     wide-requires
-    shared-slice-read-wide-2
+    element-copy-out-wide-2
     wide-requires-2
-    shared-slice-read-wide-3
+    element-copy-out-wide-3
     wide-requires-3
     slice-aggregate-put-joined
     put-joined-requires

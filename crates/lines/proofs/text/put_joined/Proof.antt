@@ -4,6 +4,7 @@ use mathlib.Core.List.{map}
 use Prim.Native.Nat.{_+_, _*_, _-_, _≤_, _<_}
 use native.Mathlib.Omega.{arith}
 use lib.ListN.{length, length-map, List·getD-map}
+use Rattle.lines.specs.Lengths.{pieceBytes}
 use Rattle.lines.specs.Text.{decimal}
 use Rattle.lines.proofs.text.Laws.{Joining, joining-start, joining-next, joining-end}
 use borrow.Author.Needs.{needs}
@@ -11,7 +12,7 @@ use Rattle.lines.proofs.text.put_joined.Statement.{statement}
 use Rattle.lines.proofs.text.put_joined.Tie as tie
 
 abbrev Inv-loop : tie.InvT-loop
-Inv-loop numbers between line₀ at end₀ i₀ line end i = (end ≤ at + 21 * i) × Joining between (map decimal numbers) i at end line₀ line
+Inv-loop numbers between line₀ at end₀ i₀ line end i = (end ≤ at + pieceBytes * i) × Joining between (map decimal numbers) i at end line₀ line
 
 abbrev μ-loop : tie.MeasureT-loop
 μ-loop numbers between line₀ at end₀ i₀ line end i = length numbers - i

@@ -1,0 +1,2 @@
+-- The laws of the module answer.
+pub mod Exact

@@ -1,0 +1,30 @@
+-- What was prepared tells just the lines that are to be written, and the promise leaves nothing open. Assumes nothing.
+use mathlib.Core.Path.{_≡_, refl, sym, ap, _∙_}
+use mathlib.Core.List.{List}
+use Prim.Native.Nat.{ℕ, _*_, _≤_}
+use native.Mathlib.Omega.{arith}
+use lib.ListN.{length}
+use Rattle.wiring.specs.Panel.{setBytes}
+use Rattle.report.specs.declared.prepare.Prepared.{Prepared}
+use Rattle.report.specs.Prepare.{resultsIn, fitted, Prepares}
+use Rattle.report.specs.Report.{linesOf, report}
+use Rattle.report.proofs.prepare.Laws.{roomy}
+use Rattle.report.proofs.prepare.Exact.{prepare-determined, prepared-lines, setting-line}
+use Rattle.asked.specs.declared.settings.Asked.{Asked}
+use Rattle.asked.specs.declared.settings.Asked.the-variants.{Right, Wrong}
+use Rattle.asked.specs.Settings.{mostSets, Roomy}
+use Rattle.asked.specs.Answer.{answered, Answers}
+
+pub answered-lines : (a : Asked) (terms : List ℕ) (p : Prepared) (sets setsAfter wires wiresAfter : List ℕ) → Roomy a → length sets ≡ setBytes * mostSets
+    → Answers a terms p sets setsAfter wires wiresAfter → linesOf (resultsIn p setsAfter wiresAfter) ≡ answered a terms
+unfolding answered
+answered-lines (Right s) terms p sets setsAfter wires wiresAfter h long e =
+    let room : setBytes * s .room ≤ length sets = omega arith in
+    let own : Prepares s terms p sets setsAfter wiresAfter = rw (roomy s (length sets) room) at e in
+    prepared-lines s terms own
+answered-lines Wrong terms p sets setsAfter wires wiresAfter h long e = rw (e .0) (setting-line setsAfter wiresAfter)
+
+pub asked-determined : (a : Asked) (terms sets wires : List ℕ) (p p' : Prepared) (b b' w w' : List ℕ)
+    → Answers a terms p sets b wires w → Answers a terms p' sets b' wires w' → (p ≡ p') × (b ≡ b') × (w ≡ w')
+asked-determined (Right s) terms sets wires p p' b b' w w' e e' = prepare-determined (fitted s (length sets)) terms e e'
+asked-determined Wrong terms sets wires p p' b b' w w' e e' = (e .0 ∙ sym (e' .0), e .1 ∙ sym (e' .1), e .2 ∙ sym (e' .2))

@@ -1,3 +1,0 @@
--- The laws of the module number.
-pub mod Laws
-pub mod Exact

@@ -1,0 +1,42 @@
+// Prepares the report that is asked for.
+use super::settings::Asked;
+use super::settings::MOST_SETS;
+use report::prepare;
+use report::prepare::Prepared;
+use wiring::panel::SET_BYTES;
+use wiring::panel::WIRES_BYTES;
+use wiring::reply::Reply;
+ghost use mathlib.Core.Path.{_≡_};
+ghost use lib.ListN.{length};
+ghost use Prim.Native.Nat.{_*_};
+ghost use Rattle.wiring.specs.Panel.{setBytes};
+ghost use Rattle.asked.specs.Settings.{mostSets};
+ghost use Rattle.asked.specs.Answer.{Answers};
+
+// A buffer for the most sets that can be asked for.
+pub(crate) const SETS_BYTES: usize = SET_BYTES * MOST_SETS;
+
+pub fn large_buffer() -> [u8; SETS_BYTES]
+    ensures { λ r. ⌜ length r ≡ setBytes * mostSets ⌝ }
+{
+    [0u8; SETS_BYTES]
+}
+
+// Plans and wires as it is asked for; of wrong words only the reply is told.
+pub fn prepare_asked(
+    a: Asked,
+    terms: &[u8],
+    sets: &mut [u8; SETS_BYTES],
+    out: &mut [u8; WIRES_BYTES],
+) -> Prepared
+    ensures { λ r. ⌜ Answers a (now (terms .entry)) r (now (sets .entry)) (now (sets .exit)) (now (out .entry)) (now (out .exit)) ⌝ }
+{
+    match a {
+        Asked::Right(s) => prepare::prepare(s, terms, sets, out),
+        Asked::Wrong => Prepared {
+            reply: Reply::Setting,
+            lent: 0,
+            wires: 0,
+        },
+    }
+}

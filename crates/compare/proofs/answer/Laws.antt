@@ -1,0 +1,41 @@
+-- A case by its operation, and that the promise leaves nothing open. Assumes nothing.
+use mathlib.Core.Path.{_≡_, refl, sym, subst, _∙_}
+use mathlib.Core.List.{List}
+use Prim.Native.Nat.{ℕ}
+use borrow.Author.Tests.{eq-eqb, ne-eqb}
+use lib.ListN.{replicate}
+use Rattle.wiring.specs.Reply.{Outcome, numbers, inOrder, outcome}
+use Rattle.wiring.specs.Answers.{checked, wired}
+use Rattle.wiring.specs.declared.reply.Reply.{Reply}
+use Rattle.walk.specs.Plan.{planned}
+use Rattle.lines.specs.Text.{Stands}
+use Rattle.lines.specs.Answer.{replyLine}
+use Rattle.lines.specs.Case.{caseLine}
+use Rattle.lines.proofs.text.Laws.{added-one}
+use Rattle.compare.specs.declared.head.Head.{Head}
+use Rattle.compare.specs.Answer.{filler, Case, outcomeCase, caseOf, Answers}
+
+-- a reply and a buffer, told as they are
+told : (r : Reply) (o : Outcome) (five bytes : List ℕ) {end : ℕ} {l m : List ℕ} → outcome r bytes ≡ o → five ≡ inOrder (numbers r) → Stands (caseLine five bytes) end l m
+    → Answers (outcomeCase o) end l m bytes
+told r o five bytes {end} {l} {m} e f s = subst (λ (x : Outcome). Answers (outcomeCase x) end l m bytes) e (rw f at s, refl)
+
+module _ (h : Head) (terms set : List ℕ) (size now : ℕ) (same : now ≡ size) {end : ℕ} {l m : List ℕ} where
+  pub plan-told : h .operation ≡ 1 → (r : Reply) (five bytes : List ℕ) → outcome r bytes ≡ planned (h .n) (h .cap) (h .limit) terms now → five ≡ inOrder (numbers r)
+      → Stands (caseLine five bytes) end l m → Answers (caseOf h terms set size) end l m bytes
+  unfolding caseOf
+  plan-told p r five bytes e f s = rw (eq-eqb (h .operation) 1 p) (told r _ five bytes (rw same at e) f s)
+
+  pub check-told : (h .operation ≡ 1 → ⊥) → h .operation ≡ 2 → (r : Reply) (five bytes : List ℕ) → numbers r ≡ checked (h .n) terms set → five ≡ inOrder (numbers r)
+      → bytes ≡ replicate now filler → Stands (replyLine five) end l m → Answers (caseOf h terms set size) end l m bytes
+  unfolding caseOf
+  check-told p q r five bytes e f b s = rw (ne-eqb (h .operation) 1 p, eq-eqb (h .operation) 2 q) (rw (f, e) at s, rw same at b)
+
+  pub wire-told : (h .operation ≡ 1 → ⊥) → (h .operation ≡ 2 → ⊥) → (r : Reply) (five bytes : List ℕ) → outcome r bytes ≡ wired (h .n) terms set now
+      → five ≡ inOrder (numbers r) → Stands (caseLine five bytes) end l m → Answers (caseOf h terms set size) end l m bytes
+  unfolding caseOf
+  wire-told p q r five bytes e f s = rw (ne-eqb (h .operation) 1 p, ne-eqb (h .operation) 2 q) (told r _ five bytes (rw same at e) f s)
+
+-- two answers that the promise allows are equal
+pub answer-determined : (c : Case) {e f : ℕ} {l m n b d : List ℕ} → Answers c e l m b → Answers c f l n d → (e ≡ f) × (m ≡ n) × (b ≡ d)
+answer-determined c x y = let one = added-one (x .0 .1) (y .0 .1) in (one .0, one .1, x .1 ∙ sym (y .1))

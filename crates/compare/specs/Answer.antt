@@ -1,0 +1,38 @@
+-- What one case of a batch comes to: planned, checked or wired by the numbers of its head. Assumes nothing.
+use mathlib.Core.Path.{_≡_}
+use mathlib.Core.Bool.{cond}
+use mathlib.Core.List.{List}
+use Prim.Native.Nat.{ℕ}
+use lib.Dec.{eqb}
+use lib.ListN.{replicate}
+use Rattle.wiring.specs.Reply.{Outcome, inOrder}
+use Rattle.wiring.specs.Answers.{checked, wired}
+use Rattle.walk.specs.Plan.{planned}
+use Rattle.lines.specs.Text.{Stands}
+use Rattle.lines.specs.Answer.{replyLine}
+use Rattle.lines.specs.Case.{caseLine}
+use Rattle.compare.specs.declared.head.Head.{Head}
+
+-- the text of its line, and the bytes of its buffer
+pub record Case : Type 0 where
+  pub text : List ℕ
+  pub bytes : List ℕ
+
+-- the buffer before the operation; checking leaves it so
+abbrev pub filler : ℕ
+filler = 165
+
+abbrev pub outcomeCase : Outcome → Case
+outcomeCase o = record { text = caseLine (inOrder (o .said)) (o .bytes); bytes = o .bytes }
+
+-- operation 1 plans, 2 checks, and another wires; the buffer has so many bytes
+unfoldable pub caseOf : Head → List ℕ → List ℕ → ℕ → Case
+caseOf h terms set size =
+    let plan = outcomeCase (planned (h .n) (h .cap) (h .limit) terms size) in
+    let check : Case = record { text = replyLine (inOrder (checked (h .n) terms set)); bytes = replicate size filler } in
+    let wire = outcomeCase (wired (h .n) terms set size) in
+    cond (eqb (h .operation) 1) plan (cond (eqb (h .operation) 2) check wire)
+
+-- its line stands in a line, and its bytes in the buffer
+abbrev pub Answers : Case → ℕ → List ℕ → List ℕ → List ℕ → Type 0
+Answers c end line after buffer = Stands (c .text) end line after × (buffer ≡ c .bytes)

@@ -1,0 +1,75 @@
+-- The wiring of one set, and planning into the front of a buffer. Assumes nothing.
+use mathlib.Core.Path.{_≡_, refl, sym, ap, _∙_}
+use mathlib.Core.List.{List, _++_}
+use Prim.Native.Nat.{ℕ, _+_, _*_, _-_, _/_, _≤_, _<_, min}
+use native.Mathlib.Omega.{arith}
+use borrow.Author.Tests.{le-leb, lt-leb}
+use lib.ListN.{length, getD, take, drop, replicate}
+use lib.Seq.{take-at, drop-at, length-take-le}
+use Rattle.wiring.specs.Panel.{setBytes, wiresBytes}
+use Rattle.wiring.specs.Reply.{Outcome, numbers, inOrder, outcome}
+use Rattle.wiring.specs.Answers.{wired}
+use Rattle.wiring.specs.declared.reply.Reply.{Reply}
+use Rattle.walk.specs.Plan.{planned}
+use Rattle.walk.proofs.plan.Exact.{plan-length}
+use Rattle.walk.proofs.plan.Records.{count-fits}
+use Rattle.report.specs.declared.prepare.Settings.{Settings}
+use Rattle.report.specs.Prepare.{Counted, counted, slot, wiringOf, Results, results, fitted, Prepares}
+
+-- ---- the wiring of set number `which`, into a buffer of so many bytes
+module _ (n : ℕ) (terms : List ℕ) (which count : ℕ) (sets : List ℕ) (size : ℕ) (long : size ≡ wiresBytes) where
+  pub wires-zero : (out : List ℕ) → out ≡ replicate size 0 → which < 1 → counted 0 out ≡ wiringOf n terms which count sets
+  unfolding wiringOf
+  wires-zero out e h = rw (lt-leb 1 which h) (ap (counted 0) (rw long at e))
+
+  pub wires-beyond : (out : List ℕ) → out ≡ replicate size 0 → 1 ≤ which → count < which → counted 0 out ≡ wiringOf n terms which count sets
+  unfolding wiringOf
+  wires-beyond out e low h = rw (le-leb 1 which low, lt-leb which count h) (ap (counted 0) (rw long at e))
+
+  pub wires-there : 1 ≤ which → which ≤ count → (at : ℕ) → at ≡ setBytes * (which - 1) → (r : Reply) (out five : List ℕ)
+      → outcome r out ≡ wired n terms (take (at + setBytes - at) (drop at sets)) size → five ≡ inOrder (numbers r)
+      → counted (getD five 2 0) out ≡ wiringOf n terms which count sets
+  unfolding wiringOf
+  wires-there low high at from r out five e f =
+      let same : at + setBytes - at ≡ setBytes = omega arith in
+      let whole : outcome r out ≡ wired n terms (slot setBytes sets (which - 1)) wiresBytes = rw (same, from, long) at e in
+      rw (le-leb 1 which low, le-leb which count high, f) (ap (λ (x : Outcome). counted (x .said .count) (x .bytes)) whole)
+
+-- ---- a buffer of which planning was lent the front
+module _ (s : Settings) (terms sets : List ℕ) (room : ℕ) (fits : room ≡ min (s .room) (length sets / setBytes)) where
+  pub lent-front : length (take (setBytes * room) sets) ≡ setBytes * room
+  lent-front = length-take-le (setBytes * room) sets (omega arith)
+
+  module _ (reply : Reply) (bytes : List ℕ) (e : outcome reply bytes ≡ planned (s .n) (s .cap) (s .limit) terms (length (take (setBytes * room) sets))) where
+    lent-long : length bytes ≡ setBytes * room
+    lent-long = plan-length (s .n) (s .cap) (s .limit) terms _ reply bytes e ∙ lent-front
+
+    front-is : take (setBytes * room) (bytes ++ drop (setBytes * room) sets) ≡ bytes
+    front-is = take-at bytes (drop (setBytes * room) sets) (setBytes * room) lent-long
+
+    pub front-long : length (take (setBytes * room) (bytes ++ drop (setBytes * room) sets)) ≡ setBytes * room
+    front-long = ap length front-is ∙ lent-long
+
+    module _ (five : List ℕ) (f : five ≡ inOrder (numbers reply)) where
+      -- the sets that are counted lie in it
+      pub front-holds : setBytes * getD five 2 0 ≤ length (take (setBytes * room) (bytes ++ drop (setBytes * room) sets))
+      front-holds = rw (front-is, lent-long, f) (rw lent-front at (count-fits (s .n) (s .cap) (s .limit) terms _ reply bytes e))
+
+      pub prepares : (count : ℕ) (out : List ℕ)
+          → counted count out ≡ wiringOf (s .n) terms (s .which) (getD five 2 0) (take (setBytes * room) (bytes ++ drop (setBytes * room) sets))
+          → Prepares (fitted s (length sets)) terms (record { reply = reply; lent = setBytes * room; wires = count }) sets (bytes ++ drop (setBytes * room) sets) out
+      unfolding results
+      prepares count out w =
+          let laid : Outcome → Counted → Results = λ o w. record { plan = o; wiring = w } in
+          let whole : Outcome → Results = λ o. laid o (wiringOf (s .n) terms (s .which) (o .said .count) (o .bytes)) in
+          let plan : outcome reply bytes ≡ planned (s .n) (s .cap) (s .limit) terms (setBytes * room) = rw lent-front at e in
+          let wiring : counted count out ≡ wiringOf (s .n) terms (s .which) (numbers reply .count) bytes = rw (front-is, f) at w in
+          record {
+            lent = ap (λ (x : ℕ). setBytes * x) fits;
+            left = rw (front-is, ← fits) (ap (laid (outcome reply bytes)) wiring ∙ ap whole plan);
+            rest = drop-at bytes (drop (setBytes * room) sets) (setBytes * room) lent-long;
+          }
+
+-- settings whose room a buffer has are taken as they are
+pub roomy : (s : Settings) (size : ℕ) → setBytes * s .room ≤ size → fitted s size ≡ s
+roomy s size h = let whole : min (s .room) (size / setBytes) ≡ s .room = omega arith in rw whole

@@ -1,0 +1,34 @@
+-- All that a program writes, line by line: the reply, the sets, and the wiring of one of them. Assumes nothing.
+use mathlib.Core.Bool.{cond}
+use mathlib.Core.List.{List, [], _∷_, _++_, map}
+use Prim.Native.Nat.{ℕ, _/_, min}
+use lib.Dec.{eqb}
+use lib.ListN.{length, getD}
+use Rattle.monomial.specs.Lists.{below}
+use Rattle.wiring.specs.Panel.{setBytes, wireBytes}
+use Rattle.wiring.specs.Reply.{Outcome, inOrder}
+use Rattle.lines.specs.Answer.{replyLine, setLine, wireLine}
+use Rattle.report.specs.Prepare.{Counted, slot, Results, results}
+use Rattle.report.specs.declared.prepare.Settings.{Settings}
+
+-- the first `count` records of a buffer, as many of them as it holds
+unfoldable pub slots : ℕ → ℕ → List ℕ → List (List ℕ)
+slots size count bytes = map (slot size bytes) (below (min count (length bytes / size)))
+
+-- a line for each set, and a line for each wiring record
+unfoldable pub setLines : Outcome → List (List ℕ)
+setLines o = map (λ bytes. setLine bytes (o .said .order)) (slots setBytes (o .said .count) (o .bytes))
+
+unfoldable pub wireLines : Counted → List (List ℕ)
+wireLines w = map wireLine (slots wireBytes (w .count) (w .bytes))
+
+-- the reply, and after code 0 the sets and the wiring
+unfoldable pub linesOf : Results → List (List ℕ)
+linesOf r = replyLine (inOrder (r .plan .said)) ∷ cond (eqb (r .plan .said .code) 0) (setLines (r .plan) ++ wireLines (r .wiring)) []
+
+unfoldable pub report : Settings → List ℕ → List (List ℕ)
+report s terms = linesOf (results s terms)
+
+-- line number k, from 0; nothing behind the last
+abbrev pub lineAt : List (List ℕ) → ℕ → List ℕ
+lineAt lines k = getD lines k []

@@ -1,0 +1,73 @@
+// Plans and wires once, into lent buffers: what the lines of a report are made of.
+use walk::plan;
+use wiring::answers;
+use wiring::buffer;
+use wiring::panel::SET_BYTES;
+use wiring::panel::WIRES_BYTES;
+use wiring::reply;
+use wiring::reply::Reply;
+ghost use mathlib.Core.Path.{_≡_};
+ghost use Prim.Native.Nat.{_*_, _≤_, min};
+ghost use lib.ListN.{length};
+ghost use Rattle.wiring.specs.Panel.{setBytes};
+ghost use Rattle.report.specs.Prepare.{counted, wiringOf, fitted, Prepares};
+
+// Room is in sets. The set that is wired goes by its number, from 1.
+pub struct Settings {
+    pub n: u64,
+    pub cap: u64,
+    pub limit: u64,
+    pub room: usize,
+    pub which: u64,
+}
+
+// The reply of planning, how many bytes of the buffer it was lent, and the number of wiring records.
+pub struct Prepared {
+    pub reply: Reply,
+    pub lent: usize,
+    pub wires: u64,
+}
+
+pub(crate) fn least(a: usize, b: usize) -> usize
+    ensures { λ r. ⌜ r ≡ min a b ⌝ }
+{
+    if a < b { a } else { b }
+}
+
+// Wires set number `which` of so many, from 1, and gives the number of records: zeros where there is no such set.
+fn wire_set(
+    n: u64,
+    terms: &[u8],
+    which: u64,
+    count: u64,
+    sets: &[u8],
+    out: &mut [u8; WIRES_BYTES],
+) -> u64
+    requires { ⌜ setBytes * count ≤ length (now sets) ⌝ }
+    ensures { λ r. ⌜ counted r (now (out .exit)) ≡ wiringOf n (now (terms .entry)) which count (now (sets .entry)) ⌝ }
+{
+    buffer::clear(out);
+    if which < 1 {
+        return 0;
+    }
+    if count < which {
+        return 0;
+    }
+    let at = SET_BYTES * (which as usize - 1);
+    let end = at + SET_BYTES;
+    let said = answers::wire(n, terms, &sets[at..end], out);
+    let five = reply::numbers(said);
+    five[2]
+}
+
+// Plans into the first bytes of `sets`, as many as the room that is asked for, or all that there are; and wires one of the sets that are found.
+pub fn prepare(s: Settings, terms: &[u8], sets: &mut [u8], out: &mut [u8; WIRES_BYTES]) -> Prepared
+    ensures { λ r. ⌜ Prepares (fitted s (length (now (sets .entry)))) (now (terms .entry)) r (now (sets .entry)) (now (sets .exit)) (now (out .exit)) ⌝ }
+{
+    let room = least(s.room, sets.len() / SET_BYTES);
+    let lent = SET_BYTES * room;
+    let reply = plan::plan(s.n, s.cap, s.limit, terms, &mut sets[..lent]);
+    let five = reply::numbers(reply);
+    let wires = wire_set(s.n, terms, s.which, five[2], &sets[..lent], out);
+    Prepared { reply, lent, wires }
+}

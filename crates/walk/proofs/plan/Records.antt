@@ -1,0 +1,58 @@
+-- The records that a done plan leaves: they lie within the buffer, and each of them, handed to wiring, is wired. Assumes nothing.
+use mathlib.Core.Path.{_≡_}
+use mathlib.Core.List.{List, []}
+use Prim.Native.Nat.{ℕ, _*_, _≤_, _<_}
+use native.Mathlib.Omega.{arith}
+use lib.ListN.{length, getD, take, drop}
+use Rattle.monomial.proofs.Counting.{at-in}
+use Rattle.wiring.specs.Panel.{setBytes, wiresBytes}
+use Rattle.wiring.specs.Reply.{numbers, outcome}
+use Rattle.wiring.specs.Sets.{setRecord}
+use Rattle.wiring.specs.Answers.{wired}
+use Rattle.wiring.specs.declared.reply.Reply.{Reply}
+use Rattle.wiring.specs.declared.reply.Reply.the-variants.{Done, Setting, Length, Term, Twice, Nothing, Full, Spent, BadSet, NotQuadratic}
+use Rattle.wiring.specs.Claims.{listIn}
+use Rattle.walk.specs.Walk.{Finds, bare}
+use Rattle.walk.specs.Plan.{planned}
+use Rattle.walk.specs.Claims.{Listed, Planned}
+use Rattle.walk.proofs.plan.Exact.{plan-finds, listed-wires}
+
+module _ (n cap limit : ℕ) (terms : List ℕ) (size : ℕ) where
+  module _ (o c k : ℕ) (bytes : List ℕ) (e : outcome (Done o c k) bytes ≡ planned n cap limit terms size) where
+    abbrev found : Planned n cap limit terms size o c k bytes
+    found = plan-finds n cap limit terms size o c k bytes e
+
+    -- the sets, in their order
+    abbrev pub sets-of : Finds
+    sets-of = plan-finds n cap limit terms size o c k bytes e .sets
+
+    pub records-fit : setBytes * c ≤ size
+    records-fit = omega (arith, found .finished .roomy, found .counted)
+
+    module _ (i : ℕ) (h : i < c) where
+      -- record number i is that of set number i
+      pub record-at : take setBytes (drop (setBytes * i) bytes) ≡ setRecord (getD sets-of i [])
+      record-at = found .written i h
+
+      pub record-listed : Listed bare n terms o (getD sets-of i [])
+      record-listed = found .finished .sets .each (getD sets-of i []) (at-in sets-of i [] (rw (← found .counted) h))
+
+      -- wired into so many bytes, or more, it is done
+      pub record-wires : (room : ℕ) → wiresBytes ≤ room → (r : Reply) (left : List ℕ)
+          → outcome r left ≡ wired n terms (take setBytes (drop (setBytes * i) bytes)) room
+          → r ≡ Done o (length (listIn n terms (take setBytes (drop (setBytes * i) bytes)))) 0
+      record-wires room q r left w =
+          rw record-at (listed-wires n cap limit terms size (found .accepted) o (getD sets-of i []) record-listed room q r left (rw record-at at w))
+
+  -- no reply counts more sets than the buffer holds
+  pub count-fits : (r : Reply) (bytes : List ℕ) → outcome r bytes ≡ planned n cap limit terms size → setBytes * numbers r .count ≤ size
+  count-fits (Done o c k) bytes e = records-fit o c k bytes e
+  count-fits Setting bytes e = omega arith
+  count-fits Length bytes e = omega arith
+  count-fits (Term p) bytes e = omega arith
+  count-fits (Twice p) bytes e = omega arith
+  count-fits (Nothing o k) bytes e = omega arith
+  count-fits (Full o k) bytes e = omega arith
+  count-fits (Spent o k) bytes e = omega arith
+  count-fits BadSet bytes e = omega arith
+  count-fits (NotQuadratic o p) bytes e = omega arith
