@@ -27,7 +27,7 @@ use Rattle.walk.specs.Turns.{Walked}
 use Rattle.walk.specs.Claims.{Orderly}
 use Rattle.walk.proofs.Rules.{opens-fits}
 use Rattle.walk.proofs.Openings.{Inherited, opened-keep}
-use Rattle.walk.proofs.children.Laws.{nonsquare-fits, child-walked, walked-54}
+use Rattle.walk.proofs.children.Laws.{nonsquare-fits, child-walked, walked-fits}
 
 module _ (r : Rules) (o : Orderly r) (begins : Walked (r .start)) (n : ℕ) (terms : List ℕ) (clean : CleanTerms terms) (k : ℕ) (low : k ≤ cards) where
   keeps-walked : Inherited r n (system (records terms)) k Walked
@@ -39,7 +39,7 @@ module _ (r : Rules) (o : Orderly r) (begins : Walked (r .start)) (n : ℕ) (ter
     opened-walked = opened-keep r o n (system (records terms)) k Walked keeps-walked begins s h
 
     pub opened-set-fits : (m : Mono) → m ∈ s → AtMost setExponent m
-    opened-set-fits m i = walked-54 s opened-walked m i
+    opened-set-fits m i = walked-fits s opened-walked m i
 
     pub opened-nonsquare-fits : (m : Mono) → m ∈ missing n (system (records terms)) s → AtMost derivedExponent m
     opened-nonsquare-fits m i = nonsquare-fits terms clean n s opened-walked m i .1

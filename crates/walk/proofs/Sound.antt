@@ -29,7 +29,7 @@ use Rattle.walk.specs.Turns.{Walked}
 use Rattle.walk.specs.Claims.{Orderly, Extends, Proper, Sound}
 use Rattle.walk.proofs.Rules.{extends-self, extends-on, opens-fits, opens-extends}
 use Rattle.walk.proofs.Openings.{Inherited, steps-keep}
-use Rattle.walk.proofs.children.Laws.{Grown, old, left, right, child-out, Imaged, imaged, child-walked, walked-54}
+use Rattle.walk.proofs.children.Laws.{Grown, old, left, right, child-out, Imaged, imaged, child-walked, walked-fits}
 
 -- ---- variables beyond xn
 pub base-within : (n : ℕ) (x : Mono) → x ∈ base n → Within n x
@@ -116,7 +116,7 @@ module _ (r : Rules) (o : Orderly r) (n : ℕ) (terms : List ℕ) (few : n ≤ w
     permitted = record {
       ascends = w .recorded .ascending;
       new = λ m h c. q .new m h (within-base n m c (q .within m h));
-      small = λ m h i. atMost-at setExponent m i (walked-54 s w m h);
+      small = λ m h i. atMost-at setExponent m i (walked-fits s w m h);
       within = λ m h i l. within-at n m (q .within m h) i l;
     };
   }

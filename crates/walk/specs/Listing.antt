@@ -12,7 +12,7 @@ use Rattle.walk.specs.Plan.{setsBytes}
 use Rattle.walk.specs.declared.listing.Kept.{Kept}
 use Rattle.walk.specs.declared.listing.Kept.the-variants.{Held, NoRoom}
 
--- a set that has a record: at most six monomials, strictly ascending, of six exponents, none of them 1
+-- a set that has a record: no more monomials than there are cards, strictly ascending, of the panel's width, none of them 1
 pub record Recorded (s : List Mono) : Type 0 where
   pub few : length s ≤ cards
   pub ascending : Ascending before s

@@ -50,7 +50,7 @@ said (none order steps) size = refused (Nothing order steps) size
 said (fullAt order steps) size = refused (Full order steps) size
 said (spentAt order steps) size = refused (Spent order steps) size
 
--- n 1 to 6, the cap at most 6, the limit 1 to 1,000,000,000
+-- the number of variables, the cap and the limit are in range
 unfoldable pub settingsRight : ℕ → ℕ → ℕ → Bool
 settingsRight n cap limit = countRight n && leb cap cards && leb 1 limit && leb limit mostSteps
 

@@ -47,7 +47,7 @@ fn record_of(set: Set) -> Record
     Record { b }
 }
 
-// Whether a record of 36 bytes is r.
+// Whether a set record is r.
 fn is_same(s: &[u8], r: Record) -> bool
     requires { ⌜ length (now s) ≡ setBytes ⌝ }
     ensures { λ x. ⌜ x ≡ same (now (s .entry)) (r .b) ⌝ }
@@ -63,7 +63,7 @@ fn is_same(s: &[u8], r: Record) -> bool
     true
 }
 
-// Whether a record of 36 bytes stands before r.
+// Whether a set record stands before r.
 fn stands_before(s: &[u8], r: Record) -> bool
     requires { ⌜ length (now s) ≡ setBytes ⌝ }
     ensures { λ x. ⌜ x ≡ before (now (s .entry)) (r .b) ⌝ }

@@ -27,7 +27,7 @@ use Rattle.wiring.specs.declared.terms.Fault.the-variants.{Clean, Wrong,
 abbrev pub unless : Bool → Reply → Reply → Reply
 unless test answer rest = cond test rest answer
 
--- n is 1 to 6
+-- n is from 1 to the number of variables
 unfoldable pub countRight : ℕ → Bool
 countRight n = leb 1 n && leb n width
 

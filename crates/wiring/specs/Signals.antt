@@ -27,7 +27,7 @@ flat l = gather (λ m. m) l
 unfoldable pub tabled : List ℕ → List Mono
 tabled bytes = map (λ i. take width (drop (width * i) bytes)) (below (length bytes / width))
 
--- each monomial of the list has six exponents, none above b
+-- each monomial of the list has the panel's width, and no exponent above b
 abbrev pub Fitting : ℕ → List Mono → Type 0
 Fitting b l = (m : Mono) → m ∈ l → (length m ≡ width) × AtMost b m
 

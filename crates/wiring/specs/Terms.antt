@@ -33,7 +33,7 @@ recordAt bytes i = record {
 unfoldable pub records : List ℕ → List Record
 records bytes = map (recordAt bytes) (below (length bytes / termBytes))
 
--- a multiple of 12 bytes, at most 384
+-- whole records, and not too many
 unfoldable pub lengthRight : List ℕ → Bool
 lengthRight bytes = eqb (length bytes % termBytes) 0 && leb (length bytes) (termBytes * mostTerms)
 
@@ -64,7 +64,7 @@ faultFrom n seen (r ∷ rs) =
 abbrev pub fault : ℕ → List Record → Fault
 fault n rs = faultFrom n [] rs
 
--- records that some panel takes: those of n variables are clean for all six
+-- records that some panel takes: those of n variables are clean for all variables
 abbrev pub CleanTerms : List ℕ → Type 0
 CleanTerms bytes = fault width (records bytes) ≡ Clean
 

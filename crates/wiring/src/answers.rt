@@ -23,7 +23,7 @@ ghost use Rattle.wiring.specs.Signals.{Fitting};
 ghost use Rattle.wiring.specs.Sets.{monomialsOf};
 ghost use Rattle.wiring.specs.Answers.{countRight, judged, recordJudged, checked, listed, wires, wired, Wirable};
 
-// Whether n is 1 to 6.
+// Whether n is a number of variables that the panel has.
 pub fn count_right(n: u64) -> bool
     ensures { λ r. ⌜ r ≡ countRight n ⌝ }
 {

@@ -131,7 +131,7 @@ fn set_of(s: &[u8], len: usize) -> Set
     Set { m, len }
 }
 
-// Reads a record of 36 bytes.
+// Reads a set record.
 pub(crate) fn read_set(n: usize, s: &[u8]) -> SetRead
     requires { ⌜ length (now s) ≡ setBytes ⌝ }
     ensures { λ r. ⌜ SetReads n (now (s .entry)) r ⌝ }

@@ -15,7 +15,7 @@ ghost use Rattle.wiring.specs.Quadratic.{products};
 ghost use Rattle.wiring.specs.Signals.{signals, Fitting, signalsOf, tabled};
 ghost use Rattle.wiring.specs.Sets.{monomialsOf};
 
-// 1, up to six variables, up to six new monomials.
+// 1, the variables, the new monomials.
 pub struct Signals {
     pub m: [Monomial; MOST_SIGNALS],
     pub len: usize,
@@ -61,7 +61,7 @@ pub fn is_signal(v: Signals, m: Monomial) -> bool
     false
 }
 
-// V2 of V, side by side in the lent table; the number of its bytes. At most 13 * 14 / 2 products.
+// V2 of V, side by side in the lent table; the number of its bytes. The table holds those of the most signals that there are.
 pub fn products_of(v: Signals, table: &mut [u8]) -> usize
     requires { ⌜ (v .len ≤ mostSignals) × (Fitting 127 (signalsOf v) × (tableBytes ≤ length (now table))) ⌝ }
     ensures { λ r. ⌜ (tabled (take r (now (table .exit))) ≡ products plain (signalsOf v)) × (r ≤ tableBytes) ⌝ }

@@ -1,5 +1,5 @@
--- The child of a set by a factor pair of one of its nonsquares: it holds the set, it is longer, and with at most six monomials it is again a set
--- of the walk, so that exponents of sets stay at or below 54 and those of nonsquares at or below 63. Assumes nothing.
+-- The child of a set by a factor pair of one of its nonsquares: it holds the set, it is longer, and with no more monomials than there are cards it is again a set
+-- of the walk, so that exponents of sets and nonsquares stay bounded. Assumes nothing.
 use mathlib.Core.Path.{_≡_, sym, ap, _∙_, subst}
 use mathlib.Core.Logic.{_⊎_, inl, inr, ⊎-elim}
 use mathlib.Core.List.{List, [], _∷_, List·Memᴰ·head, List·Memᴰ·not-nil, Memᴰ·cast}
@@ -210,7 +210,7 @@ module _ (terms : List ℕ) (clean : CleanTerms terms) (n : ℕ) (s : List Mono)
       member k = atMost-weaken m (omega arith) (grown (termExponent * length s) (quo-small (termExponent * length s) at (i .of) (small (i .of) k)))
 
   module _ (w : Walked s) where
-    -- at most 63, since a set has at most six monomials
+    -- since a set has no more monomials than there are cards
     pub nonsquare-fits : (m : Mono) → m ∈ gaps → (length m ≡ width) × AtMost derivedExponent m
     nonsquare-fits m h =
         let few : length s ≤ cards = w .recorded .few in
@@ -274,6 +274,6 @@ empty-walked = record {
   small = λ x i. absurd (List·Memᴰ·not-nil i);
 }
 
--- exponents of its sets are at most 54
-pub walked-54 : (s : List Mono) → Walked s → (m : Mono) → m ∈ s → AtMost setExponent m
-walked-54 s w m h = let few : length s ≤ cards = w .recorded .few in atMost-weaken m (omega arith) (w .small m h)
+-- exponents of its sets fit set records
+pub walked-fits : (s : List Mono) → Walked s → (m : Mono) → m ∈ s → AtMost setExponent m
+walked-fits s w m h = let few : length s ≤ cards = w .recorded .few in atMost-weaken m (omega arith) (w .small m h)

@@ -38,7 +38,7 @@ use Rattle.walk.specs.declared.walk.Turn.the-variants.{Going, Spent, Ful
 use Rattle.walk.specs.Walk.{Finds, Rules, child, Taken, pair, opening, Step, found, other, opens, ends, tried, triedAll, after, opened, Run, ended, spent, full, kept, onward, run}
 use Rattle.walk.specs.Listing.{Shown}
 use Rattle.walk.specs.Turns.{Walked, Ended, Tells, Showing, NothingFollows, PairsFollow, SteppedBy, Stepped}
-use Rattle.walk.proofs.children.Laws.{walked-54}
+use Rattle.walk.proofs.children.Laws.{walked-fits}
 use Rattle.walk.proofs.Steps.{run-append, run-stops, run-other, run-last, opened-found, opened-ends, opened-split}
 
 -- ---- a step without a find, by the code's count
@@ -292,7 +292,7 @@ module _ (r : Rules) (n : ℕ) (terms : List ℕ) (level limit : ℕ) (set : Set
 
 -- ---- a set of the walk fits the tables of its signals
 pub walked-fitting : (s : List Mono) → Walked s → Fitting setExponent s
-walked-fitting s w m h = (w .recorded .wide m h, walked-54 s w m h)
+walked-fitting s w m h = (w .recorded .wide m h, walked-fits s w m h)
 
 -- of V, told by its maker
 pub signals-fit : (b n : ℕ) (v s : List Mono) → setExponent ≤ b → v ≡ signals width n s → Walked s → Fitting b v

@@ -1,4 +1,4 @@
--- How long the wiring list can be: at most one record for each term of the derivatives, so at most 224. Assumes nothing.
+-- How long the wiring list can be: at most one record for each term of the derivatives. Assumes nothing.
 use mathlib.Core.Path.{_≡_, refl, sym, ap, _∙_}
 use mathlib.Core.Bool.{Bool, true, false, not, cond}
 use mathlib.Core.List.{List, [], _∷_, _++_, map}

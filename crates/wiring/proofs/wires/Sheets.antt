@@ -1,7 +1,7 @@
 -- A buffer with a wiring list in it: one record more, one row more, the whole list. Assumes nothing.
 use mathlib.Core.Path.{_≡_, refl, sym, ap, ap₂, _∙_, subst}
 use mathlib.Core.Bool.{Bool, true, false, not, _||_}
-use mathlib.Core.List.{List, [], _∷_, _++_, map, append-nil, append-assoc}
+use mathlib.Core.List.{List, [], _∷_, _++_, map, append-nil, append-assoc, map-append}
 use Prim.Native.Nat.{ℕ, zero, suc, _+_, _*_, _-_, _<_, _≤_}
 use native.Mathlib.Omega.{arith}
 use native.Mathlib.Numerals.{add-one}
@@ -95,10 +95,6 @@ pub sheet-full : (list : List Wire) (at : ℕ) (out : List ℕ) (more : List Wir
 sheet-full list at out more s h k = let e = s .counted in let l = length-append list more in omega arith
 
 -- ---- the records of one row, one after the other
-map-append : {A B : Type 0} (f : A → B) (a b : List A) → map f (a ++ b) ≡ map f a ++ map f b
-map-append f [] b = refl
-map-append f (x ∷ a) b = ap (_∷_ (f x)) (map-append f a b)
-
 -- the entries of an ascending list behind one of them
 behind-rest : (l : List Mono) (k : ℕ) → Ascending before l → k < length l → keep (before (getD l k [])) l ≡ drop (k + 1) l
 behind-rest [] k a h = let z : ⊥ = omega arith in absurd z
