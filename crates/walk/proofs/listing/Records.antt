@@ -69,8 +69,8 @@ module _ {s : List Mono} {b : List ℕ} {i : ℕ} (k : Making s b i) where
   pub making-end : length s ≤ i → b ≡ setRecord s
   making-end h = k .made ∙ ap (λ (t : List Mono). setRecord t) (take-all i s h)
 
--- a place of a set held by value is used below both its size and six
-module _ (len : ℕ) (m : List Monomial) (i : ℕ) (six : length m ≡ width) where
+-- a place of a set held by value is used below both its size and the cards
+module _ (len : ℕ) (m : List Monomial) (i : ℕ) (full : length m ≡ cards) where
   pub used-at : i < len → i < cards → entry m i ≡ getD (front len m) i []
   used-at h l =
       let all = map (λ (x : Monomial). x .e) m in
