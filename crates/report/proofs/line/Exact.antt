@@ -15,7 +15,7 @@ use Rattle.monomial.proofs.Counting.{below-length, below-at}
 use Rattle.wiring.specs.Panel.{setBytes, wireBytes}
 use Rattle.wiring.specs.Reply.{inOrder}
 use Rattle.lines.specs.Text.{Stands}
-use Rattle.lines.specs.Answer.{replyLine, setLine, wireLine}
+use Rattle.lines.specs.Answer.{setLine, wireLine}
 use Rattle.lines.proofs.text.Laws.{added-one}
 use Rattle.lines.proofs.answer.Laws.{reply-some, wire-some, set-some}
 use Rattle.report.specs.declared.prepare.Prepared.{Prepared}
