@@ -12,8 +12,6 @@ use Rattle.monomial.proofs.Tests.{Tested, passed, failed, test}
 use Rattle.monomial.proofs.Counting.{below-length, below-at}
 use Rattle.wiring.specs.Panel.{setBytes, wireBytes}
 use Rattle.wiring.specs.Reply.{inOrder}
-use Rattle.lines.specs.Text.{Stands}
-use Rattle.lines.proofs.text.Laws.{adds-nothing, shown}
 use Rattle.lines.specs.Answer.{replyLine, setLine, wireLine}
 use Rattle.report.specs.Prepare.{slot, Results}
 use Rattle.report.specs.Report.{slots, setLines, wireLines, linesOf, lineAt}
@@ -33,10 +31,6 @@ pub behind : {A : Type 0} (l : List A) (k : ℕ) (d : A) → length l ≤ k → 
 behind [] k d h = refl
 behind (x ∷ l) zero d h = let z : ⊥ = omega arith in absurd z
 behind (x ∷ l) (suc k) d h = behind l k d (omega arith)
-
--- nothing put into a line
-pub stands-nothing : (l : List ℕ) → Stands [] 0 l l
-stands-nothing l = let a = adds-nothing l 0 (omega arith) in (shown a, a)
 
 -- ---- a line for each record
 module _ (f : List ℕ → List ℕ) (size count : ℕ) (bytes : List ℕ) where
