@@ -16,14 +16,14 @@ ghost use Rattle.asked.specs.Answer.{Answers};
 // A buffer for the most sets that can be asked for.
 pub(crate) const SETS_BYTES: usize = SET_BYTES * MOST_SETS;
 
-pub fn large_buffer() -> [u8; SETS_BYTES]
+pub(crate) fn large_buffer() -> [u8; SETS_BYTES]
     ensures { λ r. ⌜ length r ≡ setBytes * mostSets ⌝ }
 {
     [0u8; SETS_BYTES]
 }
 
 // Plans and wires as it is asked for; of wrong words only the reply is told.
-pub fn prepare_asked(
+pub(crate) fn prepare_asked(
     a: Asked,
     terms: &[u8],
     sets: &mut [u8; SETS_BYTES],

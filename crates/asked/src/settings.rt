@@ -52,7 +52,7 @@ fn number_at(i: usize) -> Number {
 }
 
 // The settings of the command line, which has the program's name before them.
-pub fn read() -> Asked
+pub(crate) fn read() -> Asked
     ensures { λ r. ⌜ Roomy r ⌝ }
 {
     if os::arg_count() != 6 {

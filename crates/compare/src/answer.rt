@@ -24,7 +24,7 @@ fn fill(buffer: &mut [u8])
 }
 
 // The line of a case, which is made from what the operation says and leaves.
-pub fn answer_case(
+pub(crate) fn answer_case(
     h: Head,
     terms: &[u8],
     set: &[u8],

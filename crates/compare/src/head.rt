@@ -44,7 +44,7 @@ fn eight_at(b: &[u8; HEAD_BYTES], at: usize) -> u64
     four_at(b, at) + 4294967296 * four_at(b, at + 4)
 }
 
-pub fn read(b: &[u8; HEAD_BYTES]) -> Head
+pub(crate) fn read(b: &[u8; HEAD_BYTES]) -> Head
     ensures { λ r. ⌜ r ≡ headOf (now (b .entry)) ⌝ }
 {
     Head {
@@ -59,7 +59,7 @@ pub fn read(b: &[u8; HEAD_BYTES]) -> Head
 }
 
 // The operation is known, and the lengths are within the limits.
-pub fn is_right(h: Head) -> bool
+pub(crate) fn is_right(h: Head) -> bool
     ensures { λ r. ⌜ r ≡ right h ⌝ }
 {
     if h.operation < 1 {

@@ -5,7 +5,7 @@ use Prim.Native.Char.{code}
 use Prim.Native.Nat.{ℕ, _-_}
 use Prim.Native.String.{String, [] as nothing, _∷_ as _then_}
 use lib.IntN.{ℤ, pos, negsuc}
-use lib.ListN.{length, replicate}
+use lib.ListN.{replicate}
 use Rattle.io.specs.Digits.{digits}
 use Rattle.monomial.specs.Lists.{below, gather}
 use Rattle.monomial.specs.Monomial.{Mono}

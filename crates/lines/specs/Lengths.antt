@@ -1,11 +1,7 @@
--- How long a line is, and how long the pieces in it can be. Assumes nothing.
+-- How long the pieces of a line can be. Assumes nothing.
 use Prim.Native.Nat.{ℕ, suc, _*_}
 use Rattle.monomial.specs.Monomial.{width}
 use Rattle.wiring.specs.Panel.{cards}
-
--- a line, which has room for each of the texts below
-abbrev pub lineBytes : ℕ
-lineBytes = 1024
 
 -- a number below 2^64 in decimal; and with a byte before it, its sign or what joins it to the number before
 abbrev pub numberBytes : ℕ

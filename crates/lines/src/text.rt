@@ -1,7 +1,7 @@
 // Pieces of text, put into a lent line one behind the other: each function says where the next piece goes.
 use super::lengths::NUMBER_BYTES;
 ghost use mathlib.Core.Path.{_≡_};
-ghost use mathlib.Core.List.{[], _∷_, map};
+ghost use mathlib.Core.List.{map};
 ghost use Prim.Native.Nat.{_+_, _*_, _≤_, _<_};
 ghost use lib.ListN.{length};
 ghost use Rattle.lines.specs.Lengths.{numberBytes, pieceBytes};

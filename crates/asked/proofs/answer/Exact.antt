@@ -1,13 +1,13 @@
 -- What was prepared tells just the lines that are to be written, and the promise leaves nothing open. Assumes nothing.
-use mathlib.Core.Path.{_≡_, refl, sym, ap, _∙_}
+use mathlib.Core.Path.{_≡_, sym, _∙_}
 use mathlib.Core.List.{List}
-use Prim.Native.Nat.{ℕ, _*_, _≤_}
+use Prim.Native.Nat.{ℕ, _*_}
 use native.Mathlib.Omega.{arith}
 use lib.ListN.{length}
 use Rattle.wiring.specs.Panel.{setBytes}
 use Rattle.report.specs.declared.prepare.Prepared.{Prepared}
-use Rattle.report.specs.Prepare.{resultsIn, fitted, Prepares}
-use Rattle.report.specs.Report.{linesOf, report}
+use Rattle.report.specs.Prepare.{resultsIn, fitted}
+use Rattle.report.specs.Report.{linesOf}
 use Rattle.report.proofs.prepare.Laws.{roomy}
 use Rattle.report.proofs.prepare.Exact.{prepare-determined, prepared-lines, setting-line}
 use Rattle.asked.specs.declared.settings.Asked.{Asked}
@@ -19,9 +19,7 @@ pub answered-lines : (a : Asked) (terms : List ℕ) (p : Prepared) (sets setsAft
     → Answers a terms p sets setsAfter wires wiresAfter → linesOf (resultsIn p setsAfter wiresAfter) ≡ answered a terms
 unfolding answered
 answered-lines (Right s) terms p sets setsAfter wires wiresAfter h long e =
-    let room : setBytes * s .room ≤ length sets = omega arith in
-    let own : Prepares s terms p sets setsAfter wiresAfter = rw (roomy s (length sets) room) at e in
-    prepared-lines s terms own
+    prepared-lines s terms (roomy s (omega arith) e)
 answered-lines Wrong terms p sets setsAfter wires wiresAfter h long e = rw (e .0) (setting-line setsAfter wiresAfter)
 
 pub asked-determined : (a : Asked) (terms sets wires : List ℕ) (p p' : Prepared) (b b' w w' : List ℕ)

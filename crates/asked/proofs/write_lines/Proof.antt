@@ -1,6 +1,5 @@
 -- `write_lines` meets its contract: a line that is told is one of the report, so the loop ends behind the last (`line-told`). Assumes nothing.
-use mathlib.Core.Path.{_≡_}
-use Prim.Native.Nat.{_-_, _<_}
+use Prim.Native.Nat.{_-_}
 use native.Mathlib.Omega.{arith}
 use lib.ListN.{length}
 use Rattle.report.specs.Prepare.{resultsIn}

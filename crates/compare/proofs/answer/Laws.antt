@@ -11,7 +11,7 @@ use Rattle.walk.specs.Plan.{planned}
 use Rattle.lines.specs.Text.{Stands}
 use Rattle.lines.specs.Answer.{replyLine}
 use Rattle.lines.specs.Case.{caseLine}
-use Rattle.lines.proofs.text.Laws.{added-one}
+use Rattle.lines.proofs.text.Laws.{stands-one}
 use Rattle.compare.specs.declared.head.Head.{Head}
 use Rattle.compare.specs.Answer.{filler, Case, outcomeCase, caseOf, Answers}
 
@@ -38,4 +38,4 @@ module _ (h : Head) (terms set : List ℕ) (size now : ℕ) (same : now ≡ size
 
 -- two answers that the promise allows are equal
 pub answer-determined : (c : Case) {e f : ℕ} {l m n b d : List ℕ} → Answers c e l m b → Answers c f l n d → (e ≡ f) × (m ≡ n) × (b ≡ d)
-answer-determined c x y = let one = added-one (x .0 .1) (y .0 .1) in (one .0, one .1, x .1 ∙ sym (y .1))
+answer-determined c x y = let one = stands-one (x .0) (y .0) in (one .0, one .1, x .1 ∙ sym (y .1))

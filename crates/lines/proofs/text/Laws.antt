@@ -2,7 +2,7 @@
 -- Assumes nothing.
 use mathlib.Core.Path.{_≡_, refl, sym, ap, _∙_}
 use mathlib.Core.Bool.{true, false}
-use mathlib.Core.List.{List, [], _∷_, _++_, map, append-nil, append-assoc}
+use mathlib.Core.List.{List, [], _∷_, _++_, append-nil, append-assoc}
 use Prim.Native.Nat.{ℕ, zero, suc, _+_, _*_, _-_, _/_, _%_, _^_, _≤_, _<_}
 use native.Mathlib.Omega.{arith}
 use native.Mathlib.Numerals.{add-one}
@@ -11,7 +11,7 @@ use borrow.Author.Tests.{lt-ltb, le-ltb, leb-true, leb-false}
 use lib.Dec.{leb, lit<, lit≤}
 use lib.IntN.{ℤ, pos, negsuc, natAbs, _-ℤ_}
 use lib.Signed.{leZ}
-use lib.ListN.{length, take, drop, getD, length-append, length-take, length-drop, take-append-drop}
+use lib.ListN.{length, take, drop, getD, length-append, take-append-drop}
 use lib.Seq.{paste, take-paste, drop-paste, length-paste, take-all, take-length, length-take-le, drop-drop, take-suc}
 use mir.Syntax.{w32}
 use mir.Val.{SFits, toZ, ofZ}
@@ -22,7 +22,8 @@ use Rattle.monomial.specs.Lists.{gather}
 use Rattle.monomial.proofs.Tests.{Tested, passed, failed, test, is→nT}
 use Rattle.monomial.proofs.Members.{gather-append}
 use Rattle.wiring.proofs.coefficient.Laws.{bits-high-fits}
-use Rattle.lines.specs.Text.{minus, decimalWithin, decimal, signedText, joined, lead, Added}
+use Rattle.lines.specs.Lengths.{numberBytes}
+use Rattle.lines.specs.Text.{minus, decimalWithin, decimal, signedText, joined, lead, Added, Stands}
 
 -- ---- one piece behind the other
 module _ {p q l m n : List ℕ} {at mid end : ℕ} (a : Added p at mid l m) (b : Added q mid end m n) where
@@ -51,9 +52,17 @@ added-one {p} {l} {m} {n} {at} {e} {f} a b =
     let rest : drop e m ≡ drop e n = a .rest ∙ sym (rw ends at (b .rest)) in
     (sym ends, sym (take-append-drop e m) ∙ rw (front, rest) (take-append-drop e n))
 
+-- the same of a text at the start of a line
+pub stands-one : {p l m n : List ℕ} {e f : ℕ} → Stands p e l m → Stands p f l n → (e ≡ f) × (m ≡ n)
+stands-one a b = added-one (a .1) (b .1)
+
 -- the bytes up to the end can be lent
 pub shown : {p l m : List ℕ} {at end : ℕ} → Added p at end l m → Counts end m
 shown {p} {l} {m} {at} {end} a = (a .room, sym (length-take-le end m (a .room)))
+
+-- nothing stands at the start of any line
+pub stands-nothing : (l : List ℕ) → Stands [] 0 l l
+stands-nothing l = let a = adds-nothing l 0 (omega arith) in (shown a, a)
 
 -- a whole piece pasted over the line
 pub adds-pasted : (s l m : List ℕ) (at : ℕ) → at + length s ≤ length l → m ≡ paste l at s (length s) → Added s at (at + length s) l m
@@ -77,8 +86,8 @@ fewest-most b w n k m some f h g = go (test (leb k m))
         let high : b ^ m ≤ b ^ (k - 1) = pow-le-pow-right some (omega arith) in
         omega arith
 
-pub twenty : (n k : ℕ) → n < 2 ^ 64 → Fewest 10 1 n k → k ≤ 20
-twenty n k h f = fewest-most 10 1 n k 20 (lit< tt) f (lit≤ tt) (omega arith)
+pub number-most : (n k : ℕ) → n < 2 ^ 64 → Fewest 10 1 n k → k ≤ numberBytes
+number-most n k h f = fewest-most 10 1 n k numberBytes (lit< tt) f (lit≤ tt) (omega arith)
 
 -- ---- decimal digits: the fewest that hold a number are those of its definition
 ten-or-more : (more n : ℕ) → 10 ≤ n → decimalWithin (suc more) n ≡ decimalWithin more (n / 10) ++ ((48 + n % 10) ∷ [])

@@ -15,8 +15,8 @@ use Rattle.monomial.proofs.Counting.{below-length, below-at}
 use Rattle.wiring.specs.Panel.{setBytes, wireBytes}
 use Rattle.wiring.specs.Reply.{inOrder}
 use Rattle.lines.specs.Text.{Stands}
-use Rattle.lines.specs.Answer.{replyLine, setLine, wireLine}
-use Rattle.lines.proofs.text.Laws.{added-one}
+use Rattle.lines.specs.Answer.{setLine, wireLine}
+use Rattle.lines.proofs.text.Laws.{stands-one}
 use Rattle.lines.proofs.answer.Laws.{reply-some, wire-some, set-some}
 use Rattle.report.specs.declared.prepare.Prepared.{Prepared}
 use Rattle.report.specs.Prepare.{Results, resultsIn}
@@ -25,7 +25,7 @@ use Rattle.report.proofs.line.Laws.{behind, shownSets, shownWires, sets
 
 -- ---- the promise leaves nothing open: the length of the line, and every byte that was lent
 pub line-determined : (lines : List (List ℕ)) (k : ℕ) {e f : ℕ} {l m n : List ℕ} → Stands (lineAt lines k) e l m → Stands (lineAt lines k) f l n → (e ≡ f) × (m ≡ n)
-line-determined lines k a b = added-one (a .1) (b .1)
+line-determined lines k a b = stands-one a b
 
 -- ---- each line has a byte, its newline
 abbrev Filled : List (List ℕ) → Type 0

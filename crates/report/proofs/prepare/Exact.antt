@@ -1,16 +1,16 @@
 -- What was prepared tells the lines of the report, and the promise leaves nothing open. Assumes nothing.
 use mathlib.Core.Path.{_≡_, refl, sym, ap, _∙_}
-use mathlib.Core.List.{List, [], _∷_, _++_}
+use mathlib.Core.List.{List, [], _∷_}
 use Prim.Native.Nat.{ℕ}
 use lib.ListN.{take, drop, take-append-drop}
-use Rattle.wiring.specs.Reply.{Outcome, numbers, inOrder}
+use Rattle.wiring.specs.Reply.{numbers, inOrder}
 use Rattle.wiring.specs.declared.reply.Reply.{Reply}
 use Rattle.wiring.specs.declared.reply.Reply.the-variants.{Setting}
 use Rattle.wiring.proofs.reply.Laws.{same-reply}
 use Rattle.lines.specs.Answer.{replyLine}
 use Rattle.report.specs.declared.prepare.Settings.{Settings}
 use Rattle.report.specs.declared.prepare.Prepared.{Prepared}
-use Rattle.report.specs.Prepare.{Counted, Results, resultsIn, Prepares}
+use Rattle.report.specs.Prepare.{Results, resultsIn, Prepares}
 use Rattle.report.specs.Report.{linesOf, report}
 
 abbrev made : Reply → ℕ → ℕ → Prepared

@@ -1,5 +1,5 @@
 -- The wiring of one set, and planning into the front of a buffer. Assumes nothing.
-use mathlib.Core.Path.{_≡_, refl, sym, ap, _∙_}
+use mathlib.Core.Path.{_≡_, ap, _∙_}
 use mathlib.Core.List.{List, _++_}
 use Prim.Native.Nat.{ℕ, _+_, _*_, _-_, _/_, _≤_, _<_, min}
 use native.Mathlib.Omega.{arith}
@@ -14,6 +14,7 @@ use Rattle.walk.specs.Plan.{planned}
 use Rattle.walk.proofs.plan.Exact.{plan-length}
 use Rattle.walk.proofs.plan.Records.{count-fits}
 use Rattle.report.specs.declared.prepare.Settings.{Settings}
+use Rattle.report.specs.declared.prepare.Prepared.{Prepared}
 use Rattle.report.specs.Prepare.{Counted, counted, slot, wiringOf, Results, results, fitted, Prepares}
 
 -- ---- the wiring of set number `which`, into a buffer of so many bytes
@@ -70,6 +71,7 @@ module _ (s : Settings) (terms sets : List ℕ) (room : ℕ) (fits : room ≡ mi
             rest = drop-at bytes (drop (setBytes * room) sets) (setBytes * room) lent-long;
           }
 
--- settings whose room a buffer has are taken as they are
-pub roomy : (s : Settings) (size : ℕ) → setBytes * s .room ≤ size → fitted s size ≡ s
-roomy s size h = let whole : min (s .room) (size / setBytes) ≡ s .room = omega arith in rw whole
+-- settings whose room the buffer has are taken as they are
+pub roomy : (s : Settings) {terms sets after wires : List ℕ} {p : Prepared} → setBytes * s .room ≤ length sets
+    → Prepares (fitted s (length sets)) terms p sets after wires → Prepares s terms p sets after wires
+roomy s {terms} {sets} h e = let whole : min (s .room) (length sets / setBytes) ≡ s .room = omega arith in rw whole at e

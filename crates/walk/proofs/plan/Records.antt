@@ -1,21 +1,24 @@
 -- The records that a done plan leaves: they lie within the buffer, and each of them, handed to wiring, is wired. Assumes nothing.
-use mathlib.Core.Path.{_≡_}
-use mathlib.Core.List.{List, []}
-use Prim.Native.Nat.{ℕ, _*_, _≤_, _<_}
+use mathlib.Core.Path.{_≡_, refl}
+use mathlib.Core.List.{List, [], _++_}
+use Prim.Native.Nat.{ℕ, _*_, _-_, _≤_, _<_}
 use native.Mathlib.Omega.{arith}
-use lib.ListN.{length, getD, take, drop}
+use lib.ListN.{length, getD, take, drop, replicate}
 use Rattle.monomial.proofs.Counting.{at-in}
-use Rattle.wiring.specs.Panel.{setBytes, wiresBytes}
+use Rattle.wiring.specs.Panel.{setBytes, wireBytes, wiresBytes}
 use Rattle.wiring.specs.Reply.{numbers, outcome}
 use Rattle.wiring.specs.Sets.{setRecord}
+use Rattle.wiring.specs.Wires.{wireList}
 use Rattle.wiring.specs.Answers.{wired}
 use Rattle.wiring.specs.declared.reply.Reply.{Reply}
 use Rattle.wiring.specs.declared.reply.Reply.the-variants.{Done, Setting, Length, Term, Twice, Nothing, Full, Spent, BadSet, NotQuadratic}
 use Rattle.wiring.specs.Claims.{listIn}
+use Rattle.wiring.proofs.answers.Exact.{check-exact}
+use Rattle.wiring.proofs.answers.Wired.{list-most, wire-exact}
 use Rattle.walk.specs.Walk.{Finds, bare}
 use Rattle.walk.specs.Plan.{planned}
 use Rattle.walk.specs.Claims.{Listed, Planned}
-use Rattle.walk.proofs.plan.Exact.{plan-finds, listed-wires}
+use Rattle.walk.proofs.plan.Exact.{plan-finds, listed-checks, listed-wires}
 
 module _ (n cap limit : ℕ) (terms : List ℕ) (size : ℕ) where
   module _ (o c k : ℕ) (bytes : List ℕ) (e : outcome (Done o c k) bytes ≡ planned n cap limit terms size) where
@@ -37,7 +40,18 @@ module _ (n cap limit : ℕ) (terms : List ℕ) (size : ℕ) where
       pub record-listed : Listed bare n terms o (getD sets-of i [])
       record-listed = found .finished .sets .each (getD sets-of i []) (at-in sets-of i [] (rw (← found .counted) h))
 
-      -- wired into so many bytes, or more, it is done
+      -- wired into so many bytes, or more, it is done: its list, then zeros
+      pub record-wired : (room : ℕ) → wiresBytes ≤ room
+          → outcome (Done o (length (listIn n terms (setRecord (getD sets-of i [])))) 0)
+          (wireList (listIn n terms (setRecord (getD sets-of i []))) ++ replicate (room - wireBytes * length (listIn n terms (setRecord (getD sets-of i [])))) 0)
+          ≡ wired n terms (take setBytes (drop (setBytes * i) bytes)) room
+      record-wired room q =
+          let set : List ℕ = setRecord (getD sets-of i []) in
+          let says = check-exact n terms set (Done o 0 0) .0 (listed-checks n cap limit terms size (found .accepted) o (getD sets-of i []) record-listed) in
+          let most = list-most n terms set (says .0) in
+          rw record-at (wire-exact n terms set room (Done o (length (listIn n terms set)) 0) _ .1 ((says .0, says .4, says .1, refl, refl, omega arith), refl))
+
+      -- and so it is said
       pub record-wires : (room : ℕ) → wiresBytes ≤ room → (r : Reply) (left : List ℕ)
           → outcome r left ≡ wired n terms (take setBytes (drop (setBytes * i) bytes)) room
           → r ≡ Done o (length (listIn n terms (take setBytes (drop (setBytes * i) bytes)))) 0

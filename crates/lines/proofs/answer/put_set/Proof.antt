@@ -3,7 +3,6 @@ use mathlib.Core.Path.{_≡_}
 use mathlib.Core.List.{[]}
 use Prim.Native.Nat.{suc, _+_, _*_, _-_, _≤_, _<_, min}
 use native.Mathlib.Omega.{arith}
-use lib.ListN.{length}
 use Rattle.wiring.specs.Panel.{cards}
 use Rattle.lines.specs.Lengths.{powersBytes}
 use Rattle.lines.specs.Text.{space}

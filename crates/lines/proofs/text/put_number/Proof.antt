@@ -1,6 +1,6 @@
 -- `put_number` meets its contract: the kit's digits, which are the fewest, are those of the definition. Assumes nothing.
 use native.Mathlib.Omega.{arith}
-use Rattle.lines.proofs.text.Laws.{twenty, digits-are}
+use Rattle.lines.proofs.text.Laws.{number-most, digits-are}
 use borrow.Author.Needs.{needs}
 use Rattle.lines.proofs.text.put_number.Statement.{statement}
 use Rattle.lines.proofs.text.put_number.Tie as tie
@@ -18,7 +18,7 @@ put-text-requires : tie.Need-put-text-requires
 put-text-requires c κs =
     let start = c .before .before .before .before .before in
     let made = c .before .before .decimal in
-    let few = twenty (start .args .n) (made .result) (start .fits .n .fits) (made .ensures .1 .0) in
+    let few = number-most (start .args .n) (made .result) (start .fits .n .fits) (made .ensures .1 .0) in
     omega (arith, made .ensures .0 .1)
 
 same-length : tie.Need-same-length
@@ -29,7 +29,7 @@ returns c =
     let start = c .before .before .before .before .before .before .before .before in
     let made = c .before .before .before .before .before .decimal in
     let put = c .before .before .put-text .ensures in
-    let few = twenty (start .args .n) (made .result) (start .fits .n .fits) (made .ensures .1 .0) in
+    let few = number-most (start .args .n) (made .result) (start .fits .n .fits) (made .ensures .1 .0) in
     (rw (made .ensures .1 .1, digits-are (made .result) (start .args .n) (made .ensures .1 .0)) at put, omega (arith, made .ensures .0 .1, put .ends))
 
 pub put-number-spec : {M : Type 1} → statement M

@@ -4,8 +4,9 @@ use mathlib.Core.List.{List}
 use Prim.Native.Nat.{ℕ, _-_, _<_, _≤_}
 use Rattle.wiring.specs.Reply.{outcome}
 use Rattle.wiring.specs.declared.reply.Reply.{Reply}
+use Rattle.lines.proofs.text.Laws.{stands-nothing}
 use Rattle.report.specs.Prepare.{counted, Results}
-use Rattle.report.proofs.line.Laws.{stands-nothing, shownSets, shownWires, reply-first, refused-none, set-next, wire-next, none-next}
+use Rattle.report.proofs.line.Laws.{shownSets, shownWires, reply-first, refused-none, set-next, wire-next, none-next}
 use borrow.Author.Needs.{needs}
 use Rattle.report.proofs.line.line_in.Statement.{statement}
 use Rattle.report.proofs.line.line_in.Tie as tie

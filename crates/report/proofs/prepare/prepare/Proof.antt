@@ -1,5 +1,5 @@
 -- `prepare` meets its contract: planning is lent the front of the buffer, and its sets lie there. Assumes nothing.
-use mathlib.Core.Path.{_≡_, sym}
+use mathlib.Core.Path.{sym}
 use mathlib.Core.List.{[]}
 use Rattle.report.proofs.prepare.Laws.{lent-front, front-long, front-holds, prepares}
 use borrow.Author.Needs.{needs}

@@ -17,7 +17,7 @@ returns : tie.Need-returns
 returns c =
     let sets = c .before .before .before .before .args .sets .now in
     let long : length sets ≡ setBytes * program .room = search needs in
-    rw (roomy program (length sets) (omega arith)) at (c .prepare .ensures)
+    roomy program (omega arith) (c .prepare .ensures)
 
 pub prepare-program-spec : {M : Type 1} → statement M
 prepare-program-spec = tie.close (tie.spec prepare-requires returns)

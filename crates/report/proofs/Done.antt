@@ -1,0 +1,127 @@
+-- What a report says: after a refusal the reply alone; after code 0 every smallest set by its record, in order, and then the wiring list of the set that is
+-- asked for. Assumes nothing.
+use mathlib.Core.Path.{_≡_, refl, sym, ap, _∙_}
+use mathlib.Core.Logic.{_⊎_, inl, inr}
+use mathlib.Core.List.{List, [], _∷_, _++_, map}
+use Prim.Native.Nat.{ℕ, zero, suc, _+_, _*_, _-_, _/_, _≤_, _<_, min}
+use native.Mathlib.Omega.{arith}
+use borrow.Author.Tests.{ne-eqb}
+use lib.IntN.{pos}
+use lib.ListN.{length, getD, replicate, length-append, length-map}
+use lib.Seq.{ext-getD}
+use Rattle.monomial.specs.Lists.{below}
+use Rattle.wiring.specs.Panel.{setBytes, wireBytes, wiresBytes}
+use Rattle.wiring.specs.Reply.{numbers, inOrder, outcome}
+use Rattle.wiring.specs.Sets.{setRecord}
+use Rattle.wiring.specs.Wires.{Wire, wireRecord, wireList}
+use Rattle.wiring.specs.Answers.{wired}
+use Rattle.wiring.specs.declared.reply.Reply.{Reply}
+use Rattle.wiring.specs.declared.reply.Reply.the-variants.{Done}
+use Rattle.wiring.specs.Claims.{listIn}
+use Rattle.wiring.proofs.wires.Sheets.{list-length}
+use Rattle.wiring.proofs.wires.Correct.{list-at}
+use Rattle.wiring.proofs.answers.Wired.{wire-length}
+use Rattle.walk.specs.Walk.{Finds}
+use Rattle.walk.specs.Plan.{planned}
+use Rattle.walk.proofs.plan.Exact.{plan-finds, plan-length}
+use Rattle.walk.proofs.plan.Records.{sets-of, records-fit, record-at, record-wired}
+use Rattle.lines.specs.Answer.{replyLine, setLine, wireLine}
+use Rattle.report.specs.declared.prepare.Settings.{Settings}
+use Rattle.report.specs.Prepare.{counted, slot, wiringOf, results}
+use Rattle.report.specs.Report.{slots, setLines, wireLines, linesOf, report}
+use Rattle.report.proofs.prepare.Laws.{wires-zero, wires-beyond, wires-there}
+use Rattle.report.proofs.line.Laws.{slots-length, slots-at}
+
+-- records that are those of a list of things, one behind the other
+pub slots-are : {A : Type 0} (f : A → List ℕ) (l : List A) (d : A) (size count : ℕ) (bytes : List ℕ) → count ≡ length l → count ≤ length bytes / size
+    → ((i : ℕ) → i < count → slot size bytes i ≡ f (getD l i d)) → slots size count bytes ≡ map f l
+slots-are f l d size count bytes many fits each =
+    let all : min count (length bytes / size) ≡ count = omega arith in
+    let long : length (slots size count bytes) ≡ length (map f l) = slots-length size count bytes ∙ all ∙ many ∙ sym (length-map l f) in
+    ext-getD [] (slots size count bytes) (map f l) long one
+  where
+    mapped : (m : List _) (i : ℕ) → i < length m → getD (map f m) i [] ≡ f (getD m i d)
+    mapped [] i h = let z : ⊥ = omega arith in absurd z
+    mapped (x ∷ m) zero h = refl
+    mapped (x ∷ m) (suc i) h = mapped m i (omega arith)
+
+    one : (i : ℕ) → i < length (slots size count bytes) → getD (slots size count bytes) i [] ≡ getD (map f l) i []
+    one i h =
+        let low : i < min count (length bytes / size) = omega (arith, slots-length size count bytes) in
+        slots-at size count bytes i low ∙ each i (omega arith) ∙ sym (mapped l i (omega arith))
+
+-- one thing made of another that was made
+twice : {A B C : Type 0} (g : B → C) (f : A → B) (l : List A) → map g (map f l) ≡ map (λ x. g (f x)) l
+twice g f [] = refl
+twice g f (x ∷ l) = ap (λ (m : List _). g (f x) ∷ m) (twice g f l)
+
+-- what stands behind the last record
+unwritten : Wire
+unwritten = record { left = 0; a = 0; b = 0; coefficient = pos 0 }
+
+module _ (s : Settings) (terms : List ℕ) where
+  -- after any code but 0 only the first line
+  pub report-refused : (r : Reply) (bytes : List ℕ) → outcome r bytes ≡ planned (s .n) (s .cap) (s .limit) terms (setBytes * s .room) → (numbers r .code ≡ 0 → ⊥)
+      → report s terms ≡ replyLine (inOrder (numbers r)) ∷ []
+  unfolding report results linesOf
+  report-refused r bytes e f = rw (← e, ne-eqb (numbers r .code) 0 f)
+
+  module _ (o c k : ℕ) (bytes : List ℕ) (e : outcome (Done o c k) bytes ≡ planned (s .n) (s .cap) (s .limit) terms (setBytes * s .room)) where
+    abbrev size : ℕ
+    size = setBytes * s .room
+
+    abbrev found : Finds
+    found = sets-of (s .n) (s .cap) (s .limit) terms size o c k bytes e
+
+    -- the records that are counted are those of the sets
+    records : slots setBytes c bytes ≡ map setRecord found
+    records =
+        let long : length bytes ≡ size = plan-length (s .n) (s .cap) (s .limit) terms size (Done o c k) bytes e in
+        let fits : setBytes * c ≤ size = records-fit (s .n) (s .cap) (s .limit) terms size o c k bytes e in
+        let many : c ≡ length found = plan-finds (s .n) (s .cap) (s .limit) terms size o c k bytes e .counted in
+        slots-are setRecord found [] setBytes c bytes many (omega arith) (λ i h. record-at (s .n) (s .cap) (s .limit) terms size o c k bytes e i h)
+
+    -- the reply, a line for each smallest set, and then the wiring
+    pub report-done : report s terms ≡ replyLine (0 ∷ o ∷ c ∷ k ∷ 0 ∷ [])
+        ∷ map (λ x. setLine (setRecord x) o) (sets-of (s .n) (s .cap) (s .limit) terms (setBytes * s .room) o c k bytes e)
+        ++ wireLines (wiringOf (s .n) terms (s .which) c bytes)
+    unfolding report results linesOf setLines
+    report-done = rw (← e, records, twice (λ b. setLine b o) setRecord found)
+
+    -- no set of that number: nothing is wired
+    pub nothing-wired : (s .which ≡ 0) ⊎ (c < s .which) → wireLines (wiringOf (s .n) terms (s .which) c bytes) ≡ []
+    unfolding wireLines slots below
+    nothing-wired h = rw (← unwired h) (empty-lines (replicate wiresBytes 0))
+      where
+        empty-lines : (zeros : List ℕ) → map wireLine (slots wireBytes 0 zeros) ≡ []
+        empty-lines zeros = let no : min 0 (length zeros / wireBytes) ≡ 0 = omega arith in rw no
+
+        unwired : (s .which ≡ 0) ⊎ (c < s .which) → counted 0 (replicate wiresBytes 0) ≡ wiringOf (s .n) terms (s .which) c bytes
+        unwired (inl low) = wires-zero (s .n) terms (s .which) c bytes wiresBytes refl (replicate wiresBytes 0) refl (omega arith)
+        unwired (inr high) = wires-beyond (s .n) terms (s .which) c bytes wiresBytes refl (replicate wiresBytes 0) refl (omega arith) high
+
+    module _ (low : 1 ≤ s .which) (high : s .which ≤ c) where
+      abbrev list : List Wire
+      list = listIn (s .n) terms (setRecord (getD found (s .which - 1) []))
+
+      abbrev left : List ℕ
+      left = wireList list ++ replicate (wiresBytes - wireBytes * length list) 0
+
+      wires : outcome (Done o (length list) 0) left ≡ wired (s .n) terms (slot setBytes bytes (s .which - 1)) wiresBytes
+      wires = record-wired (s .n) (s .cap) (s .limit) terms size o c k bytes e (s .which - 1) (omega arith) wiresBytes (omega arith)
+
+      filed : counted (length list) left ≡ wiringOf (s .n) terms (s .which) c bytes
+      filed = wires-there (s .n) terms (s .which) c bytes wiresBytes refl low high (setBytes * (s .which - 1)) refl (Done o (length list) 0) left _ (rw same wires) refl
+        where
+          same : setBytes * (s .which - 1) + setBytes - setBytes * (s .which - 1) ≡ setBytes
+          same = omega arith
+
+      -- the set of that number: a line for each record of its list
+      pub wiring-lines : wireLines (wiringOf (s .n) terms (s .which) c bytes)
+          ≡ map (λ w. wireLine (wireRecord w)) (listIn (s .n) terms (setRecord (getD (sets-of (s .n) (s .cap) (s .limit) terms (setBytes * s .room) o c k bytes e) (s .which - 1) [])))
+      unfolding wireLines
+      wiring-lines =
+          let long : length left ≡ wiresBytes = wire-length (s .n) terms _ wiresBytes (Done o (length list) 0) left wires in
+          let most : wireBytes * length list ≤ wiresBytes = omega (arith, length-append (wireList list) (replicate (wiresBytes - wireBytes * length list) 0), list-length list) in
+          let each = slots-are wireRecord list unwritten wireBytes (length list) left refl (omega arith) (λ j h. list-at list (replicate (wiresBytes - wireBytes * length list) 0) j unwritten h) in
+          rw (← filed) (ap (map wireLine) each ∙ twice wireLine wireRecord list)
