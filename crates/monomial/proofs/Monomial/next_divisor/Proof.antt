@@ -38,7 +38,8 @@ array-read-r c = search needs
 
 add-r : tie.Need-add-r Inv-loop μ-loop
 add-r c =
-    let top = c .before .before .before .before .before .args .m .e in
+    let start = c .before .before .before .before .before in
+    let top = start .args .m .e in
     let byte : Fits w8 (getD top (c .before .before .loop .i - 1) 0) = search needs in
     record { fits = omega arith }
 
