@@ -1,8 +1,9 @@
-// Prepares the report that is asked for.
+// Prepares the report that is asked for, and writes it.
 use super::settings::Asked;
 use super::settings::MOST_SETS;
 use report::prepare;
 use report::prepare::Prepared;
+use report::write;
 use wiring::panel::SET_BYTES;
 use wiring::panel::WIRES_BYTES;
 use wiring::reply::Reply;
@@ -39,4 +40,9 @@ pub(crate) fn prepare_asked(
             wires: 0,
         },
     }
+}
+
+// Writes the lines of what was prepared.
+pub(crate) fn write_asked(p: Prepared, sets: &[u8; SETS_BYTES], wires: &[u8; WIRES_BYTES]) {
+    write::write_lines(p, sets, wires);
 }

@@ -4,25 +4,8 @@
 mod answer;
 mod settings;
 
-use lines::lengths::LINE_BYTES;
-use report::line;
-use report::prepare::Prepared;
 use wiring::panel::TERMS_BYTES;
 use wiring::panel::WIRES_BYTES;
-
-// Writes line after line, until there is none.
-fn write_lines(p: Prepared, sets: &[u8; answer::SETS_BYTES], wires: &[u8; WIRES_BYTES]) {
-    let mut text = [0u8; LINE_BYTES];
-    let mut k: usize = 0;
-    loop {
-        let end = line::line_of(p, sets, wires, k, &mut text);
-        if end == 0 {
-            return;
-        }
-        io::write_all(1, &text[..end]);
-        k += 1;
-    }
-}
 
 fn main() {
     // One byte more than can be right tells that there are more.
@@ -31,5 +14,5 @@ fn main() {
     let mut sets = answer::large_buffer();
     let mut wires = [0u8; WIRES_BYTES];
     let p = answer::prepare_asked(settings::read(), &input[..n], &mut sets, &mut wires);
-    write_lines(p, &sets, &wires);
+    answer::write_asked(p, &sets, &wires);
 }

@@ -5,3 +5,4 @@ pub mod Answer
 pub mod Digest
 pub mod Case
 pub mod Number
+pub mod Claims

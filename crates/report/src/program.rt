@@ -2,6 +2,7 @@
 use super::prepare;
 use super::prepare::Prepared;
 use super::prepare::Settings;
+use super::write;
 use monomial::width::WIDTH;
 use wiring::panel::CARDS;
 use wiring::panel::SET_BYTES;
@@ -31,4 +32,9 @@ pub fn prepare_program(
         which: 1,
     };
     prepare::prepare(s, terms, sets, out)
+}
+
+// Writes the lines of what was prepared.
+pub fn write_program(p: Prepared, sets: &[u8; SETS_BYTES], wires: &[u8; WIRES_BYTES]) {
+    write::write_lines(p, sets, wires);
 }

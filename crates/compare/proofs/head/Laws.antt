@@ -8,12 +8,12 @@ use Rattle.monomial.proofs.Tests.{T→is, is→T, and-l, and-r}
 use Rattle.compare.specs.Head.{longestSet, longestTerms, longestBuffer, right}
 use Rattle.compare.specs.declared.head.Head.{Head}
 
-pub record Within (h : Head) : Type 0 where
+pub record Answerable (h : Head) : Type 0 where
   pub set : h .set ≤ longestSet
   pub terms : h .terms ≤ longestTerms
   pub size : h .size ≤ longestBuffer
 
-pub right-within : (h : Head) → right h ≡ true → Within h
+pub right-within : (h : Head) → right h ≡ true → Answerable h
 unfolding right
 right-within h e =
     let all = is→T (right h) e in

@@ -16,13 +16,8 @@ use Rattle.monomial.proofs.Tests.{Tested, passed, failed, test, T→is, is→T,
 use Rattle.lines.specs.Text.{decimalWithin, decimal}
 use Rattle.lines.specs.Number.{isDigit, extended, numberFrom, numberOf}
 use Rattle.lines.specs.declared.number.Number.the-variants.{Of, Nothing}
-use Rattle.lines.proofs.number.Laws.{bound, longer, digit-is}
-
-pub record IsNumber (word : List ℕ) (v : ℕ) : Type 0 where
-  pub one : 0 < length word
-  pub digits : (x : ℕ) → x ∈ word → (48 ≤ x) × (x ≤ 57)
-  pub value : extended 0 word ≡ v
-  pub fits : v < bound
+use Rattle.lines.specs.Claims.{IsNumber, bound}
+use Rattle.lines.proofs.number.Laws.{longer, digit-is}
 
 chosen : (b : Bool) (n v : ℕ) → cond b (Of n) Nothing ≡ Of v → b ≡ true
 chosen true n v e = refl

@@ -14,9 +14,7 @@ use Rattle.monomial.proofs.Tests.{Tested, passed, failed, test}
 use Rattle.lines.specs.Number.{isDigit, extended, numberFrom, numberOf}
 use Rattle.lines.specs.declared.number.Number.{Number}
 use Rattle.lines.specs.declared.number.Number.the-variants.{Of, Nothing}
-
-abbrev pub bound : ℕ
-bound = 18446744073709551616
+use Rattle.lines.specs.Claims.{bound}
 
 abbrev pub longer : ℕ → ℕ → ℕ
 longer v x = 10 * v + (x - 48)

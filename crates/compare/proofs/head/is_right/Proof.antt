@@ -1,7 +1,6 @@
 -- `is_right` meets its contract: test by test. Assumes nothing.
 use borrow.Author.Tests.{le-leb, lt-leb}
 use Rattle.compare.specs.Head.{right}
-use borrow.Author.Needs.{needs}
 use Rattle.compare.proofs.head.is_right.Statement.{statement}
 use Rattle.compare.proofs.head.is_right.Tie as tie
 

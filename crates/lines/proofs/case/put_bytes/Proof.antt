@@ -1,6 +1,5 @@
 -- `put_bytes` meets its contract: the loop puts byte after byte (`Spelling`). Assumes nothing.
-use mathlib.Core.Path.{_≡_}
-use Prim.Native.Nat.{_*_, _-_}
+use Prim.Native.Nat.{_-_}
 use native.Mathlib.Omega.{arith}
 use lib.ListN.{length}
 use Rattle.lines.proofs.case.Laws.{Spelling, spelling-start, spelling-next, spelling-end}

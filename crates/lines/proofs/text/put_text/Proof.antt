@@ -1,5 +1,5 @@
 -- `put_text` meets its contract: the loop pastes the bytes over the line (`Pasting`). Assumes nothing.
-use mathlib.Core.Path.{_≡_, refl}
+use mathlib.Core.Path.{refl}
 use Prim.Native.Nat.{_-_}
 use native.Mathlib.Omega.{arith}
 use lib.ListN.{length}

@@ -2,12 +2,12 @@
 use Prim.Native.Nat.{_-_}
 use native.Mathlib.Omega.{arith}
 use lib.ListN.{length}
 use Rattle.report.specs.Prepare.{resultsIn}
 use Rattle.report.specs.Report.{linesOf}
 use Rattle.report.proofs.line.Exact.{line-told, lines-few}
 use borrow.Author.Needs.{needs}
-use Rattle.asked.proofs.write_lines.Statement.{statement}
-use Rattle.asked.proofs.write_lines.Tie as tie
+use Rattle.report.proofs.write.write_lines.Statement.{statement}
+use Rattle.report.proofs.write.write_lines.Tie as tie
 
 abbrev Inv-loop : tie.InvT-loop
 Inv-loop p sets wires text₀ k₀ text k = Unit
