@@ -1,4 +1,4 @@
-// Document 01's program: reads term records from standard input, plans and wires once, and writes the lines of the report.
+// Document 01's program: reads term records, plans and wires once, and writes the lines of the report.
 use lines::lengths::LINE_BYTES;
 use report::line;
 use report::prepare::Prepared;
