@@ -1,17 +1,19 @@
-// Prints how many bytes of stack planning, checking and wiring take: the stack below is painted, the call runs on it, and then we look how
-// far down the paint is gone. About a hundred bytes of each number are the frames of the caller.
+// Prints how many bytes of stack planning, checking and wiring take: the stack below is painted, the call runs on it,
+// and then we look how far down the paint is gone. About a hundred bytes of each number are the frames of the caller.
 
+mod panel;
 mod proved;
 mod systems;
 
+use panel::{CAP, ROOM, SET_BYTES, WIRES};
 use std::hint::black_box;
 
 // Several times what a call takes, and little enough for any thread.
 const PAINTED: usize = 64 * 1024;
 const PAINT: u8 = 0xa5;
 
-// The paint lies in the frame of a call that has ended, so that the frames of the next call lie on it. The low end is handed back as a
-// number, since nothing may be borrowed from a frame that is gone.
+// The paint lies in the frame of a call that has ended, so that the frames of the next call lie on it. The low end is
+// handed back as a number, since nothing may be borrowed from a frame that is gone.
 #[inline(never)]
 fn paint() -> usize {
     let mut area = [0u8; PAINTED];
@@ -23,7 +25,8 @@ fn paint() -> usize {
 #[inline(never)]
 fn left(low: usize) -> usize {
     let mut i = 0;
-    // The area is part of this thread's stack, which stays mapped; volatile, since the compiler takes a frame that is gone for empty.
+    // The area is part of this thread's stack, which stays mapped; volatile, since the compiler takes a frame that is
+    // gone for empty.
     while i < PAINTED && unsafe { ((low + i) as *const u8).read_volatile() } == PAINT {
         i += 1;
     }
@@ -44,11 +47,11 @@ fn main() {
     println!("{:<28} {:>12} {:>13} {:>12}", "variables: system", "plan: order", "check: code", "wire: code");
     for s in systems::SYSTEMS {
         let terms = s.terms.as_flattened();
-        let mut sets = vec![0; 36 * 1000];
-        let mut wires = vec![0; 1792];
-        let plan = measured(&mut || proved::plan(s.n, 6, s.limit, black_box(terms), &mut sets));
+        let mut sets = vec![0; ROOM];
+        let mut wires = vec![0; WIRES];
+        let plan = measured(&mut || proved::plan(s.n, CAP, s.limit, black_box(terms), &mut sets));
         // The first set, or the empty one where planning is not done: the buffer is all zeros then.
-        let set = &sets[..36];
+        let set = &sets[..SET_BYTES];
         let check = measured(&mut || proved::check(s.n, black_box(terms), set));
         let wire = measured(&mut || proved::wire(s.n, black_box(terms), set, &mut wires));
         println!("{:<28} {:>4} {:>7} {:>5} {:>7} {:>4} {:>7}", s.name, plan.0[1], plan.1, check.0[0], check.1, wire.0[0], wire.1);

@@ -1,35 +1,39 @@
-// The systems that are walked, as term records of 12 bytes. No system of one variable has a longer walk than the first.
+// The systems that are walked, as term records. No system of one variable has a longer walk than the first.
+
+use crate::panel::{TERM_BYTES, TERMS, VARIABLES};
 
 pub struct System {
     pub name: &'static str,
     pub n: u64,
     pub limit: u64,
-    pub terms: &'static [[u8; 12]],
+    pub terms: &'static [Record],
 }
 
+type Record = [u8; TERM_BYTES];
+
 // A record: equation, exponents, coefficient.
-const fn t(equation: u8, e: [u8; 6], c: i32) -> [u8; 12] {
+const fn t(equation: u8, e: [u8; VARIABLES], c: i32) -> Record {
     let k = c.to_le_bytes();
     [equation, 0, e[0], e[1], e[2], e[3], e[4], e[5], k[0], k[1], k[2], k[3]]
 }
 
-// Six variables, each fed by five products of two, and two records that need new signals.
-const CROWDED: [[u8; 12]; 32] = {
-    let mut all = [[0; 12]; 32];
+// All variables, each fed by five products of two, and two records that need new signals.
+const CROWDED: [Record; TERMS] = {
+    let mut all = [[0; TERM_BYTES]; TERMS];
     let mut i = 0;
-    while i < 6 {
+    while i < VARIABLES {
         let mut j = 0;
         while j < 5 {
-            let mut e = [0; 6];
+            let mut e = [0; VARIABLES];
             e[i] += 1;
-            e[(i + j) % 6] += 1;
+            e[(i + j) % VARIABLES] += 1;
             all[5 * i + j] = t(i as u8 + 1, e, 1);
             j += 1;
         }
         i += 1;
     }
-    all[30] = t(1, [0, 0, 4, 4, 0, 0], 1);
-    all[31] = t(2, [4, 0, 0, 0, 0, 1], -1);
+    all[TERMS - 2] = t(1, [0, 0, 4, 4, 0, 0], 1);
+    all[TERMS - 1] = t(2, [4, 0, 0, 0, 0, 1], -1);
     all
 };
 

@@ -1,9 +1,12 @@
-// Times the proved planning against the walk in Rust, system by system, in one process. Ends with status 1 where a reply or a buffer differs.
+// Times the proved planning against the walk in Rust, system by system, in one process. Ends with status 1 where a
+// reply or a buffer differs.
 
+mod panel;
 mod proved;
 mod systems;
 mod walk;
 
+use panel::{CAP, ROOM};
 use std::hint::black_box;
 use systems::System;
 
@@ -12,9 +15,6 @@ const RUNS: usize = 15;
 
 // A shorter walk is repeated within a run until it has as many steps, so that the clock's grain does not count.
 const STEPS: u64 = 100_000;
-
-const CAP: u64 = 6;
-const ROOM: usize = 36 * 1000;
 
 // The processor's time of this thread: what others run in between does not count, as it would by the clock on the wall.
 fn now() -> f64 {

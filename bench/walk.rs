@@ -1,10 +1,12 @@
-// The walk in plain Rust: the yardstick of the benchmark. It keeps sets, signals and products in the shapes of the proved code, so that
-// the times compare; for that reason it is not an independent second program. No heap. Input is taken as clean: the checks cost
-// nothing beside a walk.
+// The walk in plain Rust: the yardstick of the benchmark. It keeps sets, signals and products in the shapes of the
+// proved code, so that the times compare; for that reason it is not an independent second program. No heap. Input is
+// taken as clean: the checks cost nothing beside a walk.
 
-pub type Mono = [u8; 6];
+use crate::panel::{CARDS, COEFFICIENT_AT, EXPONENTS_AT, PRODUCTS, SET_BYTES, SIGNALS, TERM_BYTES, TERMS, VARIABLES};
 
-const ONE: Mono = [0; 6];
+pub type Mono = [u8; VARIABLES];
+
+const ONE: Mono = [0; VARIABLES];
 
 #[derive(Clone, Copy)]
 struct Term {
@@ -15,17 +17,17 @@ struct Term {
 
 #[derive(Clone, Copy)]
 struct Set {
-    m: [Mono; 6],
+    m: [Mono; CARDS],
     len: usize,
 }
 
 struct Signals {
-    m: [Mono; 13],
+    m: [Mono; SIGNALS],
     len: usize,
 }
 
 struct Products {
-    m: [Mono; 91],
+    m: [Mono; PRODUCTS],
     len: usize,
 }
 
@@ -40,7 +42,7 @@ struct Walk<'a> {
     limit: u64,
     steps: u64,
     count: usize,
-    terms: [Term; 32],
+    terms: [Term; TERMS],
     len: usize,
     out: &'a mut [u8],
 }
@@ -48,7 +50,7 @@ struct Walk<'a> {
 #[inline(always)]
 fn times(a: Mono, b: Mono) -> Mono {
     let mut r = a;
-    for i in 0..6 {
+    for i in 0..VARIABLES {
         r[i] += b[i];
     }
     r
@@ -57,7 +59,7 @@ fn times(a: Mono, b: Mono) -> Mono {
 #[inline(always)]
 fn over(a: Mono, b: Mono) -> Mono {
     let mut r = a;
-    for i in 0..6 {
+    for i in 0..VARIABLES {
         r[i] -= b[i];
     }
     r
@@ -70,7 +72,7 @@ fn score(m: Mono) -> u64 {
 // The divisor of m after a; 1 after the last.
 #[inline(always)]
 fn next_divisor(mut a: Mono, m: Mono) -> Mono {
-    for i in (0..6).rev() {
+    for i in (0..VARIABLES).rev() {
         if a[i] < m[i] {
             a[i] += 1;
             return a;
@@ -82,7 +84,7 @@ fn next_divisor(mut a: Mono, m: Mono) -> Mono {
 
 impl Signals {
     fn of(n: usize, set: &Set) -> Signals {
-        let mut m = [ONE; 13];
+        let mut m = [ONE; SIGNALS];
         for i in 0..n {
             m[i + 1][i] = 1;
         }
@@ -98,7 +100,7 @@ impl Signals {
 
 impl Products {
     fn of(v: &Signals) -> Products {
-        let mut p = Products { m: [ONE; 91], len: 0 };
+        let mut p = Products { m: [ONE; PRODUCTS], len: 0 };
         let v = v.members();
         for (i, &a) in v.iter().enumerate() {
             for &b in &v[i..] {
@@ -190,22 +192,23 @@ impl Walk<'_> {
 
     // Lists a find in its place, once.
     fn keep(&mut self, set: &Set) -> Result<(), Stop> {
-        let mut record = [0u8; 36];
-        for i in 0..set.len {
-            record[6 * i..6 * i + 6].copy_from_slice(&set.m[i]);
+        let mut record = [0u8; SET_BYTES];
+        for (place, m) in record.chunks_exact_mut(VARIABLES).zip(&set.m[..set.len]) {
+            place.copy_from_slice(m);
         }
+        let find = |at: usize| SET_BYTES * at..SET_BYTES * (at + 1);
         let mut at = 0;
-        while at < self.count && self.out[36 * at..36 * at + 36] < record[..] {
+        while at < self.count && self.out[find(at)] < record[..] {
             at += 1;
         }
-        if at < self.count && self.out[36 * at..36 * at + 36] == record[..] {
+        if at < self.count && self.out[find(at)] == record[..] {
             return Ok(());
         }
-        if self.out.len() / 36 <= self.count {
+        if self.out.len() / SET_BYTES <= self.count {
             return Err(Stop::Full);
         }
-        self.out.copy_within(36 * at..36 * self.count, 36 * at + 36);
-        self.out[36 * at..36 * at + 36].copy_from_slice(&record);
+        self.out.copy_within(SET_BYTES * at..SET_BYTES * self.count, SET_BYTES * (at + 1));
+        self.out[find(at)].copy_from_slice(&record);
         self.count += 1;
         Ok(())
     }
@@ -269,16 +272,16 @@ pub fn plan(n: u64, cap: u64, limit: u64, terms: &[u8], out: &mut [u8]) -> [u64;
         limit,
         steps: 0,
         count: 0,
-        terms: [Term { var: 0, e: ONE, c: 0 }; 32],
-        len: terms.len() / 12,
+        terms: [Term { var: 0, e: ONE, c: 0 }; TERMS],
+        len: terms.len() / TERM_BYTES,
         out,
     };
-    for (t, r) in w.terms.iter_mut().zip(terms.chunks_exact(12)) {
+    for (t, r) in w.terms.iter_mut().zip(terms.chunks_exact(TERM_BYTES)) {
         t.var = r[0] as usize - 1;
-        t.e.copy_from_slice(&r[2..8]);
-        t.c = i32::from_le_bytes([r[8], r[9], r[10], r[11]]);
+        t.e.copy_from_slice(&r[EXPONENTS_AT..COEFFICIENT_AT]);
+        t.c = i32::from_le_bytes(std::array::from_fn(|i| r[COEFFICIENT_AT + i]));
     }
-    let empty = Set { m: [ONE; 6], len: 0 };
+    let empty = Set { m: [ONE; CARDS], len: 0 };
     for k in 0..=cap {
         w.level = k as usize;
         match w.open(&empty) {

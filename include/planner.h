@@ -1,19 +1,21 @@
 /*
  * The patch planner for C: planning, checking and wiring. Link libplanner_c.a, which `rt staticlib planner_c` makes.
  *
- * Numbers. A reply is five numbers, written to `five` in every case: code, order, count, steps, place. A number that the table below does
- * not name is 0.
+ * Numbers. A reply is five numbers, written to `five` in every case: code, order, count, steps, place. A number that
+ * the table below does not name is 0.
  *
- * Bytes. Term records, set records and wiring records are runs of bytes without header or padding. No input is bad: whatever breaks a rule
- * gets a code.
+ * Bytes. Term records, set records and wiring records are runs of bytes without header or padding. No input is bad:
+ * whatever breaks a rule gets a code.
  *
- * Buffers. All memory is the caller's, and none of it is kept after the call. `terms` and `set` are only read. Every byte of `out` is filled by
- * every call: after SIRAGUMON_DONE by the answer and then zeros, after every other code by zeros alone. `out` and `five` overlap nothing else
- * that the call is given, and while it runs nobody else writes to any of it. A length is in bytes and may be any number. Where it is 0
- * the pointer is not followed, and NULL will do. `five` is never NULL.
+ * Buffers. All memory is the caller's, and none of it is kept after the call. `terms` and `set` are only read. Every
+ * byte of `out` is filled by every call: after SIRAGUMON_DONE by the answer and then zeros, after every other code by
+ * zeros alone. `out` and `five` overlap nothing else that the call is given, and while it runs nobody else writes to
+ * any of it. A length is in bytes and may be any number. Where it is 0 the pointer is not followed, and NULL will do.
+ * `five` is never NULL.
  *
- * Calls. There is no state behind them: they may run in any thread and at the same time. They take no heap, call nothing but memcpy and
- * memset, and always return. Stack, measured on x86-64 and rounded up: 12 KB for planning, 2 KB for each of the others.
+ * Calls. There is no state behind them: they may run in any thread and at the same time. They take no heap, call
+ * nothing but memcpy and memset, and always return. Stack, measured on x86-64 and rounded up: 12 KB for planning, 2 KB
+ * for each of the others.
  */
 #ifndef SIRAGUMON_PLANNER_H
 #define SIRAGUMON_PLANNER_H
@@ -36,8 +38,8 @@ enum siragumon_number {
 };
 
 /*
- * The codes. The checks run in the order of the codes 1 and 2, then record by record 3 before 4, then planning, or 8, 9, 6; the first that
- * fails is the reply.
+ * The codes. The checks run in the order of the codes 1 and 2, then record by record 3 before 4, then planning, or 8,
+ * 9, 6; the first that fails is the reply.
  */
 enum siragumon_code {
     /* plan: all smallest sets; order: size of a set, count of sets, steps.
@@ -46,7 +48,8 @@ enum siragumon_code {
     SIRAGUMON_DONE = 0,
     /* n, cap or limit out of range. */
     SIRAGUMON_SETTING = 1,
-    /* terms_len is no multiple of 12 or over 384; set_len is not 36. */
+    /* terms_len is no multiple of SIRAGUMON_TERM_BYTES or over SIRAGUMON_TERMS_BYTES; set_len is not
+       SIRAGUMON_SET_BYTES. */
     SIRAGUMON_LENGTH = 2,
     /* A field of a term record breaks its rule; place: the record, from 1. */
     SIRAGUMON_TERM = 3,
@@ -61,45 +64,70 @@ enum siragumon_code {
     SIRAGUMON_SPENT = 7,
     /* The set record breaks its rule. */
     SIRAGUMON_SET = 8,
-    /* The set is not quadratic; order: its size, place: number of the first signal whose derivative no products of two signals make up. */
+    /* The set is not quadratic; order: its size, place: number of the first signal whose derivative no products of two
+       signals make up. */
     SIRAGUMON_NOT_QUADRATIC = 9
 };
 
 /*
- * A term record: equation (1 to n), zero, exponents of x1 to x6 (0 to 9, zero beyond xn), coefficient (four bytes, two's complement, low
- * byte first; not zero, -1,000,000 to 1,000,000). Up to 32 of them, in any order.
+ * The panel's numbers, each once; those that follow from others are computed from them.
  *
- * A set record: six monomials of six exponents (0 to 54, zero beyond xn), strictly ascending, none of them 1 or a single variable, then
- * zeros for unused places. All zeros are the empty set.
- *
- * A wiring record: left signal, first factor a, second factor b (a <= b), zero, coefficient (four bytes as above). The derivative of the left
- * signal is the sum of its records' coefficient times a times b. Signal 0 is 1, signals 1 to n are the variables, and those from n + 1 on are the
- * monomials of the set in their order.
+ * Variables: the most that a system has, so n is 1 to SIRAGUMON_VARIABLES. A monomial is their exponents, a byte each.
+ * Cards: the most new signals that a set has, each with an integrator card of its own.
  */
-#define SIRAGUMON_TERM_BYTES 12
-#define SIRAGUMON_TERMS_MOST 32
-#define SIRAGUMON_SET_BYTES 36
-#define SIRAGUMON_WIRE_BYTES 8
-/* No wiring list is longer: 224 records. */
-#define SIRAGUMON_WIRES_BYTES 1792
+#define SIRAGUMON_VARIABLES 6
+#define SIRAGUMON_CARDS 6
+
+/* The most that `limit` may be. */
+#define SIRAGUMON_STEPS_MOST 1000000000
 
 /*
- * Plans: finds all smallest sets of new signals that make the system quadratic, up to `cap` of them (0 to 6), within `limit` steps (1 to
- * 1,000,000,000). `out` holds out_len / 36 sets, rounded down; they are written ascending.
+ * A term record: equation (1 to n), zero, exponents (0 to SIRAGUMON_EXPONENT_MOST, zero beyond xn), coefficient (four
+ * bytes, two's complement, low byte first; not zero, at most SIRAGUMON_COEFFICIENT_MOST either way). Up to
+ * SIRAGUMON_TERMS_MOST of them, in any order.
  */
-void siragumon_plan(uint64_t n, uint64_t cap, uint64_t limit, const uint8_t *terms, size_t terms_len, uint8_t *out, size_t out_len,
-                    uint64_t five[SIRAGUMON_NUMBERS]);
+#define SIRAGUMON_EXPONENT_MOST 9
+#define SIRAGUMON_COEFFICIENT_MOST 1000000
+#define SIRAGUMON_TERM_BYTES (2 + SIRAGUMON_VARIABLES + 4)
+#define SIRAGUMON_TERMS_MOST 32
+#define SIRAGUMON_TERMS_BYTES (SIRAGUMON_TERMS_MOST * SIRAGUMON_TERM_BYTES)
+
+/*
+ * A set record: a monomial for each card (exponents 0 to SIRAGUMON_SET_EXPONENT_MOST, zero beyond xn), strictly
+ * ascending, none of them 1 or a single variable, then zeros for unused places. All zeros are the empty set.
+ */
+#define SIRAGUMON_SET_EXPONENT_MOST (SIRAGUMON_CARDS * SIRAGUMON_EXPONENT_MOST)
+#define SIRAGUMON_SET_BYTES (SIRAGUMON_CARDS * SIRAGUMON_VARIABLES)
+
+/*
+ * A wiring record: left signal, first factor a, second factor b (a <= b), zero, coefficient (four bytes as above). The
+ * derivative of the left signal is the sum of its records' coefficient times a times b. Signal 0 is 1, signals 1 to n
+ * are the variables, and those from n + 1 on are the monomials of the set in their order. No list is longer than
+ * SIRAGUMON_WIRES_MOST records: a term stands in the derivative of its variable, and at most once in that of each new
+ * signal.
+ */
+#define SIRAGUMON_WIRE_BYTES 8
+#define SIRAGUMON_WIRES_MOST ((1 + SIRAGUMON_CARDS) * SIRAGUMON_TERMS_MOST)
+#define SIRAGUMON_WIRES_BYTES (SIRAGUMON_WIRES_MOST * SIRAGUMON_WIRE_BYTES)
+
+/*
+ * Plans: finds all smallest sets of new signals that make the system quadratic, up to `cap` of them (0 to
+ * SIRAGUMON_CARDS), within `limit` steps (1 to SIRAGUMON_STEPS_MOST). `out` holds out_len / SIRAGUMON_SET_BYTES sets,
+ * rounded down; they are written ascending.
+ */
+void siragumon_plan(uint64_t n, uint64_t cap, uint64_t limit, const uint8_t *terms, size_t terms_len, uint8_t *out,
+                    size_t out_len, uint64_t five[SIRAGUMON_NUMBERS]);
 
 /* Checks whether a set of new signals makes the system quadratic. */
 void siragumon_check(uint64_t n, const uint8_t *terms, size_t terms_len, const uint8_t *set, size_t set_len,
                      uint64_t five[SIRAGUMON_NUMBERS]);
 
 /*
- * Wires: writes the wiring list of a quadratic set, for each left signal ascending, each monomial of its derivative ascending. `out` holds
- * out_len / 8 records, rounded down.
+ * Wires: writes the wiring list of a quadratic set, for each left signal ascending, each monomial of its derivative
+ * ascending. `out` holds out_len / SIRAGUMON_WIRE_BYTES records, rounded down.
  */
-void siragumon_wire(uint64_t n, const uint8_t *terms, size_t terms_len, const uint8_t *set, size_t set_len, uint8_t *out, size_t out_len,
-                    uint64_t five[SIRAGUMON_NUMBERS]);
+void siragumon_wire(uint64_t n, const uint8_t *terms, size_t terms_len, const uint8_t *set, size_t set_len,
+                    uint8_t *out, size_t out_len, uint64_t five[SIRAGUMON_NUMBERS]);
 
 #ifdef __cplusplus
 }

@@ -1,10 +1,11 @@
 /* Plans x1' = x1^4 + x1^3 and wires the first set. Ends with status 1 where the box says anything but done. */
 #include "planner.h"
 
-/* Declared here and not by <stdio.h>: so the example is compiled for x86-64 on a machine that has only its own C headers. */
+/* Declared here and not by <stdio.h>: so the example is compiled for x86-64 on a machine that has only its own C
+   headers. */
 extern int printf(const char *format, ...);
 
-enum { N = 1, CAP = 6, LIMIT = 1000000, ROOM = 1000 };
+enum { N = 1, CAP = SIRAGUMON_CARDS, LIMIT = 1000000, ROOM = 1000 };
 
 static const uint8_t terms[] = {
     1, 0, 4, 0, 0, 0, 0, 0, 1, 0, 0, 0,
@@ -15,7 +16,7 @@ static uint8_t wires[SIRAGUMON_WIRES_BYTES];
 
 static void print_monomial(const uint8_t *exponents) {
     const char *between = "";
-    for (int i = 0; i < 6; i++) {
+    for (int i = 0; i < SIRAGUMON_VARIABLES; i++) {
         if (exponents[i] == 0) continue;
         printf("%sx%d", between, i + 1);
         if (1 < exponents[i]) printf("^%d", exponents[i]);
@@ -29,13 +30,13 @@ static void print_signal(int signal, const uint8_t *set) {
     else if (signal <= N)
         printf("x%d", signal);
     else
-        print_monomial(set + 6 * (signal - N - 1));
+        print_monomial(set + SIRAGUMON_VARIABLES * (signal - N - 1));
 }
 
 static void print_set(const uint8_t *set, int size) {
     for (int i = 0; i < size; i++) {
         printf("%s", i == 0 ? "{" : ", ");
-        print_monomial(set + 6 * i);
+        print_monomial(set + SIRAGUMON_VARIABLES * i);
     }
     printf("%s\n", size == 0 ? "{}" : "}");
 }

@@ -1,7 +1,9 @@
 //! Monomials and sums as text that `plan` itself and any algebra program can read.
 
-/// Six exponents, as the box holds a monomial.
-pub type Exponents = [u8; 6];
+use crate::panel::VARIABLES;
+
+/// An exponent for each variable, as the box holds a monomial.
+pub type Exponents = [u8; VARIABLES];
 
 /// `x^2*y`; `1` where all exponents are 0.
 pub fn monomial(names: &[String], exponents: &Exponents) -> String {
@@ -60,7 +62,7 @@ mod tests {
     #[test]
     fn monomials() {
         let names = names("x y z");
-        assert_eq!(monomial(&names, &[0; 6]), "1");
+        assert_eq!(monomial(&names, &[0; VARIABLES]), "1");
         assert_eq!(monomial(&names, &[1, 0, 0, 0, 0, 0]), "x");
         assert_eq!(monomial(&names, &[2, 1, 10, 0, 0, 0]), "x^2*y*z^10");
     }

@@ -1,42 +1,33 @@
 //! The front door: plans a patch from typed equations. The planning itself is done by the proved program.
 
 mod algebra;
-mod answer;
-mod climb;
+mod asking;
 mod drawing;
-mod export;
-mod json;
-mod label;
-mod lexer;
-mod options;
-mod parser;
+mod panel;
 mod patch;
-mod planner;
 #[cfg(test)]
 mod recorded;
-mod report;
-mod settings;
-mod shapes;
-mod svg;
-mod system;
-mod text;
-mod units;
-mod watch;
-mod words;
+mod saying;
+mod typed;
 
 use std::io::{IsTerminal, Write};
 use std::process::ExitCode;
 use std::time::Instant;
 
-use answer::{Answer, Reply, DONE, FULL, NONE, SPENT, TERM};
-use options::{Options, HELP};
+use asking::answer::{Answer, Reply, DONE, FULL, NONE, SPENT, TERM};
+use asking::climb;
+use asking::planner::{Planner, RUNNER};
+use drawing::{sheet, svg};
 use patch::Patch;
-use planner::{Planner, RUNNER};
-use report::{Drawn, Report};
-use settings::Settings;
-use system::{Record, System};
-use text::{Fault, Source};
-use watch::Watch;
+use saying::help::help;
+use saying::report::{Drawn, Report};
+use saying::watch::Watch;
+use saying::{export, report, words};
+use typed::options::Options;
+use typed::settings::Settings;
+use typed::system::{Record, System};
+use typed::text::{Fault, Source};
+use typed::{options, parser};
 
 const LISTED: u8 = 0;
 const NOT_LISTED: u8 = 1;
@@ -55,7 +46,7 @@ fn run() -> u8 {
         Err(why) => return stop(REFUSED, &format!("plan: {why}\n")),
     };
     if options.help {
-        return print(LISTED, HELP);
+        return print(LISTED, &help());
     }
     if options.inputs.is_empty() {
         return stop(REFUSED, "plan: no equation was given, as in ./plan \"x' = x^4 + x^3\" (--help says more)\n");
@@ -113,7 +104,7 @@ fn draw(report: &Report, file: &str) -> Drawn {
     let Some(patch) = report.patch else {
         return Drawn::NoSet(file.into());
     };
-    let drawing = drawing::draw(patch, &report.equations(), &report.which_set());
+    let drawing = sheet::draw(patch, &report.equations(), &report.which_set());
     match std::fs::write(file, svg::svg(&drawing)) {
         Ok(()) => Drawn::In(file.into()),
         Err(why) => Drawn::Failed(file.into(), why.to_string()),

@@ -1,8 +1,8 @@
 //! The patch of one set: its signals, and what is summed into each.
 
 use crate::algebra;
-use crate::answer::{Answer, Wire};
-use crate::system::System;
+use crate::asking::answer::{Answer, Wire};
+use crate::typed::system::System;
 
 #[derive(Debug, PartialEq)]
 pub struct Patch {
@@ -78,8 +78,8 @@ impl Patch {
 #[cfg(test)]
 pub mod tests {
     use super::*;
-    use crate::answer::{read, tests::EXAMPLE};
-    use crate::system::tests::system;
+    use crate::asking::answer::{read, tests::EXAMPLE};
+    use crate::typed::system::tests::system;
 
     pub fn patch(text: &str, written: &str) -> Patch {
         let system = system(text);

@@ -1,9 +1,9 @@
 //! Recorded answers of the proved program, for tests.
 
-use crate::answer::{read, Answer};
+use crate::asking::answer::{read, Answer};
 use crate::patch::Patch;
-use crate::settings::Settings;
-use crate::system::{tests::system, Record, System};
+use crate::typed::settings::Settings;
+use crate::typed::system::{tests::system, Record, System};
 
 const RECORDED: &str = include_str!("../tests/recorded");
 

@@ -16,15 +16,15 @@ use crate::reply::Reply;
 use std::fmt::Write;
 
 const HEAD_BYTES: usize = 32;
-pub const MOST_TERM_BYTES: usize = 600;
-pub const MOST_BUFFER_BYTES: usize = 65_536;
+const MOST_CASE_TERMS: usize = 600;
+pub const MOST_CASE_BUFFER: usize = 65_536;
 
 /// The longest buffer whose bytes are written out one by one.
 const MOST_SHOWN_BYTES: usize = 72;
 
 /// What every lent buffer holds before the call, so that a byte left untouched
 /// shows in the answer.
-const UNTOUCHED: u8 = 165;
+pub const UNTOUCHED: u8 = 165;
 
 /// The three operations by their numbers in a batch.
 #[derive(Clone, Copy, PartialEq, Eq, PartialOrd, Ord, Debug)]
@@ -201,7 +201,7 @@ impl<'a> Cases<'a> {
         let set_length = usize::from(head[1]);
         let terms_length = usize::from(u16::from_le_bytes([head[2], head[3]]));
         let buffer = u32::from_le_bytes([head[4], head[5], head[6], head[7]]) as usize;
-        if terms_length > MOST_TERM_BYTES || buffer > MOST_BUFFER_BYTES {
+        if terms_length > MOST_CASE_TERMS || buffer > MOST_CASE_BUFFER {
             return Err(Broken);
         }
         Ok(Case {
@@ -244,6 +244,7 @@ pub const BROKEN_LINE: &str = "broken batch";
 #[cfg(test)]
 mod tests {
     use super::*;
+    use crate::panel::{MOST_N, SET_BYTES};
 
     fn some_cases() -> Vec<Case> {
         vec![
@@ -312,17 +313,17 @@ mod tests {
     fn every_byte_of_the_buffer_is_answered() {
         let planned = Case::plan(1, 6, 1_000_000, 40, vec![]);
         assert_eq!(planned.line(), format!("0 0 1 1 0 {}", "00".repeat(40)));
-        let refused = Case::plan(7, 6, 1_000_000, 3, vec![]);
+        let refused = Case::plan(MOST_N + 1, 6, 1_000_000, 3, vec![]);
         assert_eq!(refused.line(), "1 0 0 0 0 000000");
-        let checked = Case::check(1, vec![], vec![0; 36]);
+        let checked = Case::check(1, vec![], vec![0; SET_BYTES]);
         assert_eq!(checked.line(), "0 0 0 0 0");
-        let wired = Case::wire(1, vec![], vec![0; 36], 0);
+        let wired = Case::wire(1, vec![], vec![0; SET_BYTES], 0);
         assert_eq!(wired.line(), "0 0 0 0 0 -");
     }
 
     #[test]
     fn a_broken_case_ends_the_answers() {
-        let good = write_batch(&[Case::check(1, vec![], vec![0; 36])]);
+        let good = write_batch(&[Case::check(1, vec![], vec![0; SET_BYTES])]);
         let mut unknown = good.clone();
         unknown[0] = 4;
         let mut long_terms = good.clone();

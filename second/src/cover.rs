@@ -3,10 +3,13 @@
 
 use crate::batch::{Case, Operation};
 use crate::monomial::Monomial;
-use crate::operations::{MOST_CAP, MOST_LIMIT, MOST_VARIABLES};
+use crate::operations::{cap_is_in_range, limit_is_in_range, n_is_in_range};
+use crate::panel::{
+    MOST_COEFFICIENT, MOST_EXPONENT, MOST_LIMIT, MOST_SET_EXPONENT, SET_BYTES, TERM_BYTES,
+    WIRE_BYTES,
+};
 use crate::records::{
-    read_set, read_terms, set_faults, set_places, terms_have_a_length, Fields, SET_BYTES,
-    TERM_BYTES, WIRE_BYTES,
+    read_set, read_terms, set_faults, set_places, terms_have_a_length, Fields, SetFault, TermFault,
 };
 use crate::reply::{Reply, NAMES};
 use crate::system::{Set, System, Term};
@@ -57,14 +60,14 @@ impl Cover {
     }
 
     fn setting(&mut self, case: &Case) {
-        if !(1..=MOST_VARIABLES).contains(&case.n) {
+        if !n_is_in_range(case.n) {
             self.number(format!("{}: n refused", case.operation.name()), case.n);
         }
         if case.operation == Operation::Plan {
-            if case.cap > MOST_CAP {
+            if !cap_is_in_range(case.cap) {
                 self.number("plan: K refused", case.cap);
             }
-            if !(1..=MOST_LIMIT).contains(&case.limit) {
+            if !limit_is_in_range(case.limit) {
                 self.number("plan: limits refused", case.limit);
             }
         }
@@ -125,13 +128,14 @@ impl Cover {
         self.count(format!("code 8: {fault}"));
         for (j, monomial) in set_places(&case.set).iter().enumerate() {
             let Monomial(exponents) = monomial;
-            if fault == "single variable" && monomial.is_variable() {
+            if fault == SetFault::SingleVariable && monomial.is_variable() {
                 let variable = exponents.iter().position(|&e| e == 1).expect("a variable");
                 self.number("code 8: single variables", variable as u64 + 1);
                 self.number("code 8: single variables' places", j as u64 + 1);
             }
-            for &exponent in exponents.iter().filter(|&&e| e > 54) {
-                self.number("code 8: exponents above 54", u64::from(exponent));
+            for &exponent in exponents.iter().filter(|&&e| e > MOST_SET_EXPONENT) {
+                let name = format!("code 8: exponents above {MOST_SET_EXPONENT}");
+                self.number(name, u64::from(exponent));
             }
         }
     }
@@ -153,7 +157,7 @@ impl Cover {
         self.number(format!("plan: orders with code {code}"), reply.order);
         self.number(
             "plan: bytes of room that hold no set",
-            case.buffer as u64 % 36,
+            (case.buffer % SET_BYTES) as u64,
         );
         match (code, case.limit - reply.steps) {
             (7, _) => {}
@@ -236,12 +240,10 @@ impl Cover {
         self.number("systems: numbers of records", system.terms.len() as u64);
         let terms = &system.terms;
         for term in terms {
-            let tallest = term.monomial.0.iter().max().expect("six exponents");
+            let tallest = term.monomial.0.iter().max().expect("exponents");
             self.number("systems: exponents", u64::from(*tallest));
-            match term.coefficient {
-                1_000_000 => self.count("systems: records with 1000000"),
-                -1_000_000 => self.count("systems: records with -1000000"),
-                _ => {}
+            if term.coefficient.abs() == MOST_COEFFICIENT {
+                self.count(format!("systems: records with {}", term.coefficient));
             }
         }
         let unused = |i: usize| {
@@ -278,31 +280,31 @@ impl Cover {
 }
 
 /// The kind of a broken field, finer than the rule it breaks.
-fn broken(record: &Fields, n: usize) -> &'static str {
+fn broken(record: &Fields, n: usize) -> String {
     let faults = record.faults(n);
     let [fault] = faults[..] else {
-        return "several fields";
+        return "several fields".to_string();
     };
+    let equation = record.equation;
     let tallest = *record.exponents[..n].iter().max().expect("a variable");
+    let nearest = u16::from(tallest) == MOST_EXPONENT + 1;
     match fault {
-        "equation beyond n" if usize::from(record.equation) == n + 1 => "equation n + 1",
-        "equation beyond n" if record.equation == 255 => "equation 255",
-        "exponent above 9" if tallest == 10 => "exponent 10",
-        "exponent above 9" if tallest == 255 => "exponent 255",
-        "coefficient beyond a million" => match record.coefficient {
-            1_000_001 => "coefficient 1000001",
-            -1_000_001 => "coefficient -1000001",
-            i32::MIN => "least coefficient",
-            i32::MAX => "most coefficient",
-            _ => fault,
+        TermFault::EquationBeyondN if usize::from(equation) == n + 1 => "equation n + 1".into(),
+        TermFault::EquationBeyondN if equation == u8::MAX => format!("equation {equation}"),
+        TermFault::ExponentAbove if nearest || tallest == u8::MAX => format!("exponent {tallest}"),
+        TermFault::CoefficientBeyond => match record.coefficient {
+            i32::MIN => "least coefficient".into(),
+            i32::MAX => "most coefficient".into(),
+            c if i64::from(c).abs() == MOST_COEFFICIENT + 1 => format!("coefficient {c}"),
+            _ => fault.to_string(),
         },
-        _ => fault,
+        _ => fault.to_string(),
     }
 }
 
 /// The system and the set (empty for planning) where both are good.
 fn good_input(case: &Case) -> Option<(System, Set)> {
-    if !(1..=MOST_VARIABLES).contains(&case.n) || !terms_have_a_length(&case.terms) {
+    if !n_is_in_range(case.n) || !terms_have_a_length(&case.terms) {
         return None;
     }
     let n = case.n as usize;
@@ -320,8 +322,8 @@ fn good_input(case: &Case) -> Option<(System, Set)> {
 fn all_faults(case: &Case) -> BTreeSet<u64> {
     let mut codes = BTreeSet::new();
     let planning = case.operation == Operation::Plan;
-    let good_n = (1..=MOST_VARIABLES).contains(&case.n);
-    let good_walk = case.cap <= MOST_CAP && (1..=MOST_LIMIT).contains(&case.limit);
+    let good_n = n_is_in_range(case.n);
+    let good_walk = cap_is_in_range(case.cap) && limit_is_in_range(case.limit);
     if !good_n || planning && !good_walk {
         codes.insert(1);
     }
@@ -386,6 +388,7 @@ fn runs(numbers: &BTreeSet<u64>) -> String {
 mod tests {
     use super::*;
     use crate::notation::{monomial, system, terms};
+    use crate::panel::USUAL_CAP;
     use crate::records::write_terms;
     use crate::rows::set_of;
 
@@ -405,8 +408,8 @@ mod tests {
     #[test]
     fn limits_and_rooms_are_recognised() {
         let input = write_terms(&terms("x1' = x1^4 + x1^3"));
-        let plan = |limit, buffer| Case::plan(1, 6, limit, buffer, input.clone());
-        let text = report(&[plan(23, 72), plan(22, 72), plan(24, 108), plan(90, 36)]);
+        let plan = |limit, room| Case::plan(1, USUAL_CAP, limit, room * SET_BYTES, input.clone());
+        let text = report(&[plan(23, 2), plan(22, 2), plan(24, 3), plan(90, 1)]);
         for line in [
             "plan: code 0 done: 2",
             "plan: code 0 exactly at the limit: 1",

@@ -8,6 +8,7 @@ mod maker;
 mod monomial;
 mod notation;
 mod operations;
+mod panel;
 mod program;
 mod random;
 mod records;

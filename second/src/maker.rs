@@ -4,13 +4,15 @@
 //! Kinds of damage and places run through in turns, not by chance, so that a
 //! batch of some thousands of cases meets each of them.
 
-use crate::batch::{Case, Operation, MOST_BUFFER_BYTES};
+use crate::batch::{Case, Operation, MOST_CASE_BUFFER};
 use crate::damage::{break_set, break_term, Field, FIELDS, WAYS};
 use crate::monomial::Monomial;
-use crate::random::Random;
-use crate::records::{
-    read_set, write_places, write_set, write_terms, MOST_TERMS, SET_BYTES, TERM_BYTES, WIRE_BYTES,
+use crate::panel::{
+    CARDS, COEFFICIENT_AT, MOST_CAP, MOST_COEFFICIENT, MOST_LIMIT, MOST_N, MOST_TERMS,
+    MOST_TERMS_BYTES, MOST_WIRES_BYTES, SET_BYTES, TERM_BYTES, VARIABLES, WIRE_BYTES,
 };
+use crate::random::Random;
+use crate::records::{read_set, write_places, write_set, write_terms};
 use crate::system::{Set, System};
 use crate::systems;
 
@@ -53,14 +55,11 @@ const SHARES: [(usize, Group); 11] = [
     (5, Maker::several_faults),
 ];
 
-/// The buffer of 224 wiring records that the program lends.
-const PROGRAM_WIRES: usize = 224 * WIRE_BYTES;
-
 /// Numbers of variables beyond the range; some fit it when cut to fewer bits.
 const BAD_N: [u64; 12] = [
     0,
-    7,
-    8,
+    MOST_N + 1,
+    MOST_N + 2,
     255,
     256,
     257,
@@ -71,10 +70,19 @@ const BAD_N: [u64; 12] = [
     (1 << 63) + 1,
     u64::MAX,
 ];
-const BAD_CAP: [u64; 8] = [7, 8, 255, 256, 1 << 32, (1 << 32) + 6, 1 << 63, u64::MAX];
+const BAD_CAP: [u64; 8] = [
+    MOST_CAP + 1,
+    MOST_CAP + 2,
+    255,
+    256,
+    1 << 32,
+    (1 << 32) + MOST_CAP,
+    1 << 63,
+    u64::MAX,
+];
 const BAD_LIMIT: [u64; 7] = [
     0,
-    1_000_000_001,
+    MOST_LIMIT + 1,
     1 << 32,
     (1 << 32) + 1_000,
     1 << 63,
@@ -84,7 +92,16 @@ const BAD_LIMIT: [u64; 7] = [
 const BAD_TERM_LENGTHS: [usize; 15] = [
     1, 6, 11, 13, 23, 25, 41, 383, 385, 395, 396, 397, 408, 480, 600,
 ];
-const BAD_SET_LENGTHS: [usize; 8] = [0, 1, 30, 35, 37, 42, 72, 255];
+const BAD_SET_LENGTHS: [usize; 8] = [
+    0,
+    1,
+    SET_BYTES - VARIABLES,
+    SET_BYTES - 1,
+    SET_BYTES + 1,
+    SET_BYTES + VARIABLES,
+    2 * SET_BYTES,
+    255,
+];
 
 struct Maker {
     random: Random,
@@ -121,15 +138,15 @@ impl Maker {
     fn around_a_plan(&mut self) {
         let system = systems::any(&mut self.random);
         let cap = match self.random.below(10) {
-            0..=5 => 6,
-            _ => self.random.below(7) as u64,
+            0..=5 => MOST_CAP,
+            _ => self.any_cap(),
         };
         let generous = self.random.pick(&[300, 1_000, 1_000, 3_000, 3_000, 20_000]);
         let first = Case::plan(
             system.n as u64,
             cap,
             generous,
-            MOST_BUFFER_BYTES,
+            MOST_CASE_BUFFER,
             write_terms(&system.terms),
         );
         let (reply, sets) = first.answer();
@@ -157,10 +174,15 @@ impl Maker {
         }
     }
 
+    /// Any K that is in range.
+    fn any_cap(&mut self) -> u64 {
+        self.random.below(CARDS + 1) as u64
+    }
+
     /// A buffer for so many sets, sometimes with bytes that hold none.
     fn buffer(&mut self, sets: usize) -> usize {
         let odd = match self.random.below(3) {
-            0 => self.random.between(1, 35),
+            0 => self.random.between(1, SET_BYTES - 1),
             _ => 0,
         };
         sets * SET_BYTES + odd
@@ -191,7 +213,7 @@ impl Maker {
             steps,
             steps + 1,
             within,
-            self.random.pick(&[999_999_999, 1_000_000_000]),
+            self.random.pick(&[MOST_LIMIT - 1, MOST_LIMIT]),
         ];
         self.random.shuffle(&mut limits);
         for limit in &limits[..2] {
@@ -209,14 +231,14 @@ impl Maker {
     /// a level ends.
     fn caps(&mut self, first: &Case, order: u64, count: usize) {
         let buffer = self.buffer(count);
-        let any = self.random.below(7) as u64;
+        let any = self.any_cap();
         let cap = self.random.pick(&[order.saturating_sub(1), order, any]);
         self.cases.push(Case {
-            cap: cap.min(6),
+            cap: cap.min(MOST_CAP),
             buffer,
             ..first.clone()
         });
-        let below = self.random.below(order as usize + 1).min(6) as u64;
+        let below = self.random.below(order as usize + 1).min(CARDS) as u64;
         let level = Case {
             cap: below,
             ..first.clone()
@@ -264,7 +286,9 @@ impl Maker {
                 let at = self.random.below(members.len());
                 members[at] = systems::member(&mut self.random, system.n);
             }
-            _ if members.len() < 6 => members.push(systems::member(&mut self.random, system.n)),
+            _ if members.len() < CARDS => {
+                members.push(systems::member(&mut self.random, system.n));
+            }
             _ => {}
         }
         members.into_iter().collect()
@@ -275,7 +299,7 @@ impl Maker {
         let terms = write_terms(&system.terms);
         let set = write_set(set).to_vec();
         let n = system.n as u64;
-        let longest = Case::wire(n, terms.clone(), set.clone(), PROGRAM_WIRES);
+        let longest = Case::wire(n, terms.clone(), set.clone(), MOST_WIRES_BYTES);
         let (reply, _) = longest.answer();
         if self.random.chance(40) {
             self.cases.push(Case::check(n, terms.clone(), set.clone()));
@@ -289,7 +313,7 @@ impl Maker {
             exact + self.random.between(2, 40),
             0,
             self.random.below(80),
-            PROGRAM_WIRES,
+            MOST_WIRES_BYTES,
         ];
         for _ in 0..self.random.between(1, 2) {
             let buffer = self.random.pick(&lengths);
@@ -300,8 +324,8 @@ impl Maker {
 
     /// A set, the system made around it, and the same after a change.
     fn around_a_set(&mut self) {
-        let n = self.random.between(1, 6);
-        let size = self.random.between(0, 6);
+        let n = self.random.between(1, VARIABLES);
+        let size = self.random.between(0, CARDS);
         let (mut system, set) = systems::around_a_set(&mut self.random, n, size);
         self.with_set(&system, &set);
         let other = self.another_set(&system, &set);
@@ -318,7 +342,7 @@ impl Maker {
     /// A set that has nothing to do with the system.
     fn random_set(&mut self) {
         let system = systems::any(&mut self.random);
-        let size = self.random.between(0, 6);
+        let size = self.random.between(0, CARDS);
         let set = systems::set(&mut self.random, system.n, size);
         self.with_set(&system, &set);
     }
@@ -337,11 +361,11 @@ impl Maker {
     fn operation(&mut self, operation: Operation, n: u64, terms: Vec<u8>) -> Case {
         let buffer = self.random.below(100);
         let size = self.random.below(3);
-        let variables = n.clamp(1, 6) as usize;
+        let variables = n.clamp(1, MOST_N) as usize;
         let set = write_set(&systems::set(&mut self.random, variables, size)).to_vec();
         match operation {
             Operation::Plan => {
-                let cap = self.random.below(7) as u64;
+                let cap = self.any_cap();
                 Case::plan(n, cap, 100, buffer, terms)
             }
             Operation::Check => Case::check(n, terms, set),
@@ -366,16 +390,19 @@ impl Maker {
         let turn = turn(&mut self.fields);
         let place = turn % MOST_TERMS + 1;
         let field = FIELDS[turn % FIELDS.len()];
-        let most_variables = if field == Field::ExponentBeyond { 5 } else { 6 };
+        let most_variables = match field {
+            Field::ExponentBeyond => VARIABLES - 1,
+            _ => VARIABLES,
+        };
         let (n, mut terms) = self.run_to(place, most_variables);
         break_term(&mut self.random, &mut terms, n, place, field);
-        let case = self.operation(Operation::ALL[turn % 3], n as u64, terms);
+        let case = self.operation(Operation::ALL[turn % Operation::ALL.len()], n as u64, terms);
         self.cases.push(case);
     }
 
     /// A run whose record at the place repeats an earlier one.
     fn run_with_repeat(&mut self, place: usize) -> (usize, Vec<u8>) {
-        let (n, mut terms) = self.run_to(place, 6);
+        let (n, mut terms) = self.run_to(place, VARIABLES);
         let earlier = match self.random.below(3) {
             0 => 1,
             1 => place - 1,
@@ -393,11 +420,11 @@ impl Maker {
         let place = turn % (MOST_TERMS - 1) + 2;
         let (n, mut terms) = self.run_with_repeat(place);
         if turn % 2 == 1 {
-            let at = (place - 1) * TERM_BYTES + 8..place * TERM_BYTES;
-            let coefficient = self.random.between(5, 999_990) as i32;
+            let at = (place - 1) * TERM_BYTES + COEFFICIENT_AT..place * TERM_BYTES;
+            let coefficient = self.random.between(5, MOST_COEFFICIENT as usize - 10) as i32;
             terms[at].copy_from_slice(&coefficient.to_le_bytes());
         }
-        let case = self.operation(Operation::ALL[turn % 3], n as u64, terms);
+        let case = self.operation(Operation::ALL[turn % Operation::ALL.len()], n as u64, terms);
         self.cases.push(case);
     }
 
@@ -430,10 +457,11 @@ impl Maker {
     /// Code 2: bytes that are no run of records, too many, or no set record.
     fn bad_length(&mut self) {
         let turn = turn(&mut self.lengths);
-        let n = self.random.between(2, 6);
+        let n = self.random.between(2, VARIABLES);
         if turn.is_multiple_of(2) {
             let length = BAD_TERM_LENGTHS[turn / 2 % BAD_TERM_LENGTHS.len()];
-            let system = systems::run(&mut self.random, n, length.min(384) / TERM_BYTES);
+            let whole = length.min(MOST_TERMS_BYTES) / TERM_BYTES;
+            let system = systems::run(&mut self.random, n, whole);
             let mut terms = write_terms(&system.terms);
             while terms.len() < length {
                 terms.push(self.random.below(256) as u8);
@@ -456,7 +484,7 @@ impl Maker {
     /// Code 1: n, K or the limit out of range.
     fn bad_setting(&mut self) {
         let turn = turn(&mut self.settings);
-        let n = self.random.between(1, 6);
+        let n = self.random.between(1, VARIABLES);
         let count = self.random.below(3);
         let terms = write_terms(&systems::run(&mut self.random, n, count).terms);
         let values = BAD_N.len() + BAD_CAP.len() + BAD_LIMIT.len();
@@ -468,7 +496,7 @@ impl Maker {
         }
         at -= BAD_N.len();
         let buffer = self.random.below(100);
-        let mut case = Case::plan(n as u64, 6, 100, buffer, terms);
+        let mut case = Case::plan(n as u64, MOST_CAP, 100, buffer, terms);
         if at < BAD_CAP.len() {
             case.cap = BAD_CAP[at];
         } else {
@@ -481,16 +509,17 @@ impl Maker {
     fn broken_set(&mut self) {
         let turn = turn(&mut self.sets);
         let way = WAYS[turn % WAYS.len()];
-        let place = turn / WAYS.len() % 6;
-        let n = self.random.between(1, 6);
-        let size = self.random.between(place + 1, 6);
+        let place = turn / WAYS.len() % CARDS;
+        let n = self.random.between(1, VARIABLES);
+        let size = self.random.between(place + 1, CARDS);
         let (system, set) = systems::around_a_set(&mut self.random, n, size);
         let mut members: Vec<Monomial> = set.into_iter().collect();
         break_set(&mut self.random, &mut members, n, place, way);
         let terms = write_terms(&system.terms[..system.terms.len().min(3)]);
         let set = write_places(&members).to_vec();
         let buffer = self.random.below(100);
-        self.cases.push(if (turn / 48).is_multiple_of(2) {
+        let rounds = turn / (WAYS.len() * CARDS);
+        self.cases.push(if rounds.is_multiple_of(2) {
             Case::check(n as u64, terms, set)
         } else {
             Case::wire(n as u64, terms, set, buffer)
@@ -499,7 +528,7 @@ impl Maker {
 
     /// Several faults in one case: which of them decides is the checks' order.
     fn several_faults(&mut self) {
-        let n = self.random.between(2, 6);
+        let n = self.random.between(2, VARIABLES);
         let count = self.random.between(3, 6);
         let mut terms = write_terms(&systems::run(&mut self.random, n, count).terms);
         if self.random.chance(40) {
@@ -514,7 +543,7 @@ impl Maker {
             terms.copy_within(record, to * TERM_BYTES);
         }
         if self.random.chance(20) {
-            terms.truncate(terms.len() - self.random.between(1, 11));
+            terms.truncate(terms.len() - self.random.between(1, TERM_BYTES - 1));
         }
         let mut case = self.any_operation(n as u64, terms);
         if self.random.chance(20) {
@@ -528,17 +557,17 @@ impl Maker {
                 case.limit = self.random.pick(&BAD_LIMIT);
             }
         } else {
-            let size = self.random.between(1, 6);
+            let size = self.random.between(1, CARDS);
             let set = systems::set(&mut self.random, n, size);
             let mut members: Vec<Monomial> = set.into_iter().collect();
             if self.random.chance(60) {
                 let way = self.random.pick(&WAYS);
-                let place = self.random.below(6);
+                let place = self.random.below(CARDS);
                 break_set(&mut self.random, &mut members, n, place, way);
             }
             case.set = write_places(&members).to_vec();
             if self.random.chance(20) {
-                case.set.truncate(self.random.below(36));
+                case.set.truncate(self.random.below(SET_BYTES));
             }
         }
         self.cases.push(case);

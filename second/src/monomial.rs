@@ -1,25 +1,27 @@
-//! Monomials: six exponents, their order, products and factor pairs
+//! Monomials: exponents, their order, products and factor pairs
 //! (document 01, Monomials, derivatives, squares).
 
-/// Exponents of x1..x6. The derived order is the document's: x1 is compared
-/// first, and the smaller exponent comes first.
+use crate::panel::VARIABLES;
+
+/// Exponents of x1, x2 and so on. The derived order is the document's: x1 is
+/// compared first, and the smaller exponent comes first.
 ///
-/// Sixteen bits leave room for a product of two set members (108 at most).
+/// Sixteen bits leave room for a product of two set members.
 #[derive(Clone, Copy, PartialEq, Eq, PartialOrd, Ord, Debug)]
-pub struct Monomial(pub [u16; 6]);
+pub struct Monomial(pub [u16; VARIABLES]);
 
 impl Monomial {
     /// The constant 1.
-    pub const ONE: Monomial = Monomial([0; 6]);
+    pub const ONE: Monomial = Monomial([0; VARIABLES]);
 
     /// The single variable `xi`, counted from 1.
     pub fn variable(i: usize) -> Monomial {
-        let mut exponents = [0; 6];
+        let mut exponents = [0; VARIABLES];
         exponents[i - 1] = 1;
         Monomial(exponents)
     }
 
-    /// Whether this is one of x1..x6.
+    /// Whether this is a single variable.
     pub fn is_variable(self) -> bool {
         self.0.iter().sum::<u16>() == 1
     }
@@ -50,7 +52,7 @@ impl Monomial {
     /// The divisor of `whole` that follows this one in the order.
     fn next_divisor(self, whole: Monomial) -> Option<Monomial> {
         let mut exponents = self.0;
-        for i in (0..6).rev() {
+        for i in (0..VARIABLES).rev() {
             if exponents[i] < whole.0[i] {
                 exponents[i] += 1;
                 return Some(Monomial(exponents));
@@ -88,7 +90,7 @@ impl Iterator for Pairs {
 mod tests {
     use super::*;
 
-    fn m(exponents: [u16; 6]) -> Monomial {
+    fn m(exponents: [u16; VARIABLES]) -> Monomial {
         Monomial(exponents)
     }
 
@@ -127,7 +129,7 @@ mod tests {
 
     #[test]
     fn only_single_variables_are_variables() {
-        for i in 1..=6 {
+        for i in 1..=VARIABLES {
             assert!(Monomial::variable(i).is_variable());
         }
         assert!(!Monomial::ONE.is_variable());

@@ -1,24 +1,30 @@
 //! The three operations, with the checks in their sequence
 //! (document 01, What the box says).
 
-use crate::records::{
-    read_set, read_terms, terms_have_a_length, write_places, write_wire, SET_BYTES, WIRE_BYTES,
-};
+use crate::panel::{MOST_CAP, MOST_LIMIT, MOST_N, SET_BYTES, WIRE_BYTES};
+use crate::records::{read_set, read_terms, terms_have_a_length, write_places, write_wire};
 use crate::reply::Reply;
 use crate::system::{Set, System};
 use crate::walk::{walk, End};
 use crate::wiring::wiring;
 
-pub const MOST_VARIABLES: u64 = 6;
-pub const MOST_CAP: u64 = 6;
-pub const MOST_LIMIT: u64 = 1_000_000_000;
+/// Code 1 as far as it is about n.
+pub fn n_is_in_range(n: u64) -> bool {
+    (1..=MOST_N).contains(&n)
+}
+
+pub fn cap_is_in_range(cap: u64) -> bool {
+    cap <= MOST_CAP
+}
+
+pub fn limit_is_in_range(limit: u64) -> bool {
+    (1..=MOST_LIMIT).contains(&limit)
+}
 
 /// Planning. Whatever the code, every byte of the answer is written.
 pub fn plan(n: u64, cap: u64, limit: u64, terms: &[u8], answer: &mut [u8]) -> Reply {
     answer.fill(0);
-    let settings =
-        (1..=MOST_VARIABLES).contains(&n) && cap <= MOST_CAP && (1..=MOST_LIMIT).contains(&limit);
-    if !settings {
+    if !(n_is_in_range(n) && cap_is_in_range(cap) && limit_is_in_range(limit)) {
         return Reply::bare(1);
     }
     if !terms_have_a_length(terms) {
@@ -53,7 +59,7 @@ pub fn plan(n: u64, cap: u64, limit: u64, terms: &[u8], answer: &mut [u8]) -> Re
 
 /// What checking and wiring share: the system and the set, or the refusal.
 fn given(n: u64, terms: &[u8], set: &[u8]) -> Result<(System, Set), Reply> {
-    if !(1..=MOST_VARIABLES).contains(&n) {
+    if !n_is_in_range(n) {
         return Err(Reply::bare(1));
     }
     if !terms_have_a_length(terms) || set.len() != SET_BYTES {
@@ -112,7 +118,9 @@ pub fn wire(n: u64, terms: &[u8], set: &[u8], answer: &mut [u8]) -> Reply {
 #[cfg(test)]
 mod tests {
     use super::*;
+    use crate::batch::UNTOUCHED;
     use crate::monomial::Monomial;
+    use crate::panel::{CARDS, MOST_WIRES_BYTES, VARIABLES};
     use crate::random::Random;
     use crate::records::{read_wires, set_places, write_set, write_terms};
     use crate::systems;
@@ -126,9 +134,9 @@ mod tests {
         let mut planned = Vec::new();
         while planned.len() < 60 {
             let system = systems::any(&mut random);
-            let mut sets = vec![165; ROOM];
+            let mut sets = vec![UNTOUCHED; ROOM];
             let terms = write_terms(&system.terms);
-            let reply = plan(system.n as u64, 6, 2_000, &terms, &mut sets);
+            let reply = plan(system.n as u64, MOST_CAP, 2_000, &terms, &mut sets);
             if reply.code == 0 {
                 planned.push((system, reply, sets));
             }
@@ -141,7 +149,7 @@ mod tests {
         for (system, reply, sets) in planned(11) {
             let count = reply.count as usize;
             let found: Vec<&[u8]> = sets.chunks(SET_BYTES).take(count).collect();
-            let places: Vec<[Monomial; 6]> = found.iter().map(|r| set_places(r)).collect();
+            let places: Vec<[Monomial; CARDS]> = found.iter().map(|r| set_places(r)).collect();
             assert!(places.windows(2).all(|two| two[0] < two[1]));
             for record in found {
                 let terms = write_terms(&system.terms);
@@ -156,7 +164,7 @@ mod tests {
     fn the_wiring_adds_up_to_the_derivatives() {
         for (system, reply, sets) in planned(12) {
             let set = read_set(system.n, &sets[..SET_BYTES]).unwrap();
-            let mut list = vec![165; 224 * WIRE_BYTES];
+            let mut list = vec![UNTOUCHED; MOST_WIRES_BYTES];
             let terms = write_terms(&system.terms);
             let wired = wire(system.n as u64, &terms, &write_set(&set), &mut list);
             assert_eq!((wired.code, wired.order), (0, reply.order));
@@ -176,10 +184,10 @@ mod tests {
     #[test]
     fn unused_variables_change_neither_sets_nor_steps() {
         for (system, reply, sets) in planned(13) {
-            for n in system.n..=6 {
+            for n in system.n..=VARIABLES {
                 let mut again = vec![0; ROOM];
                 let terms = write_terms(&system.terms);
-                let wider = plan(n as u64, 6, 2_000, &terms, &mut again);
+                let wider = plan(n as u64, MOST_CAP, 2_000, &terms, &mut again);
                 assert_eq!(wider, reply);
                 assert!(again == sets);
             }
@@ -191,16 +199,16 @@ mod tests {
         for (system, reply, sets) in planned(14) {
             let (n, terms) = (system.n as u64, write_terms(&system.terms));
             let needed = reply.count as usize * SET_BYTES;
-            let mut answer = vec![165; needed];
-            assert_eq!(plan(n, 6, reply.steps, &terms, &mut answer), reply);
+            let mut answer = vec![UNTOUCHED; needed];
+            assert_eq!(plan(n, MOST_CAP, reply.steps, &terms, &mut answer), reply);
             assert!(answer == sets[..needed]);
             if reply.steps > 1 {
-                let short = plan(n, 6, reply.steps - 1, &terms, &mut answer);
+                let short = plan(n, MOST_CAP, reply.steps - 1, &terms, &mut answer);
                 assert_eq!(short.numbers(), [7, reply.order, 0, reply.steps - 1, 0]);
                 assert!(answer.iter().all(|&byte| byte == 0));
             }
-            let mut tight = vec![165; needed - 1];
-            let full = plan(n, 6, reply.steps, &terms, &mut tight);
+            let mut tight = vec![UNTOUCHED; needed - 1];
+            let full = plan(n, MOST_CAP, reply.steps, &terms, &mut tight);
             assert_eq!((full.code, full.order, full.count), (6, reply.order, 0));
             assert!(full.steps <= reply.steps);
             assert!(tight.iter().all(|&byte| byte == 0));
@@ -211,12 +219,12 @@ mod tests {
     fn a_level_below_the_order_finds_none() {
         for (system, reply, _) in planned(15) {
             for cap in 0..reply.order {
-                let mut answer = [165; 36];
+                let mut answer = [UNTOUCHED; SET_BYTES];
                 let terms = write_terms(&system.terms);
                 let none = plan(system.n as u64, cap, 2_000, &terms, &mut answer);
                 assert_eq!((none.code, none.order), (5, cap + 1));
                 assert!(none.steps < reply.steps);
-                assert_eq!(answer, [0; 36]);
+                assert_eq!(answer, [0; SET_BYTES]);
             }
         }
     }

@@ -2,14 +2,14 @@
 
 use crate::monomial::Monomial;
 use crate::operations::{plan, wire};
-use crate::records::{read_wires, set_places, SET_BYTES, WIRE_BYTES};
+use crate::panel::{
+    MOST_N, MOST_TERMS_BYTES, MOST_WIRES_BYTES, SET_BYTES, USUAL_CAP, USUAL_LIMIT, USUAL_ROOM,
+};
+use crate::records::{read_wires, set_places};
 use std::io::Read;
 
-const SETS_OF_ROOM: usize = 1_000;
-const WIRES_OF_ROOM: usize = 224;
-
-/// One byte more than 32 records: enough to know that there are too many.
-const MOST_INPUT: usize = 385;
+/// One byte more than a system has: enough to know that there are too many.
+const MOST_INPUT: usize = MOST_TERMS_BYTES + 1;
 
 /// Reads what the program needs to know. A failed read is the input's end.
 pub fn read_input(input: impl Read) -> Vec<u8> {
@@ -25,8 +25,8 @@ fn dotted(monomial: &Monomial) -> String {
 
 /// Everything the program writes for these records.
 pub fn output(terms: &[u8]) -> String {
-    let mut sets = vec![0; SETS_OF_ROOM * SET_BYTES];
-    let reply = plan(6, 6, 1_000_000, terms, &mut sets);
+    let mut sets = vec![0; USUAL_ROOM * SET_BYTES];
+    let reply = plan(MOST_N, USUAL_CAP, USUAL_LIMIT, terms, &mut sets);
     let mut lines = vec![reply.to_string()];
     if reply.code == 0 {
         for record in sets.chunks(SET_BYTES).take(reply.count as usize) {
@@ -37,8 +37,8 @@ pub fn output(terms: &[u8]) -> String {
                 .collect();
             lines.push(members.join(" "));
         }
-        let mut list = vec![0; WIRES_OF_ROOM * WIRE_BYTES];
-        wire(6, terms, &sets[..SET_BYTES], &mut list);
+        let mut list = vec![0; MOST_WIRES_BYTES];
+        wire(MOST_N, terms, &sets[..SET_BYTES], &mut list);
         for w in read_wires(&list) {
             lines.push(format!("{} {} {} {}", w.left, w.a, w.b, w.coefficient));
         }

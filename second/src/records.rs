@@ -2,21 +2,23 @@
 //! (document 01, The system on the panel).
 
 use crate::monomial::Monomial;
+use crate::panel::{
+    CARDS, COEFFICIENT_AT, EXPONENTS_AT, MOST_COEFFICIENT, MOST_EXPONENT, MOST_SET_EXPONENT,
+    MOST_TERMS_BYTES, SET_BYTES, TERM_BYTES, VARIABLES, WIRE_BYTES, WIRE_COEFFICIENT_AT,
+};
 use crate::reply::Reply;
 use crate::system::{Set, System, Term};
 use crate::wiring::Wire;
-
-pub const TERM_BYTES: usize = 12;
-pub const SET_BYTES: usize = 36;
-pub const WIRE_BYTES: usize = 8;
-pub const MOST_TERMS: usize = 32;
-pub const MOST_EXPONENT: u16 = 9;
-pub const MOST_SET_EXPONENT: u16 = 54;
-pub const MOST_COEFFICIENT: i64 = 1_000_000;
+use std::fmt;
 
 /// Code 2 as far as it is about the terms.
 pub fn terms_have_a_length(bytes: &[u8]) -> bool {
-    bytes.len().is_multiple_of(TERM_BYTES) && bytes.len() <= MOST_TERMS * TERM_BYTES
+    bytes.len().is_multiple_of(TERM_BYTES) && bytes.len() <= MOST_TERMS_BYTES
+}
+
+/// The coefficient that begins at a byte of a record.
+fn coefficient_at(record: &[u8], at: usize) -> i32 {
+    i32::from_le_bytes(std::array::from_fn(|i| record[at + i]))
 }
 
 /// The fields of one term record, before any rule is applied to them.
@@ -24,7 +26,7 @@ pub fn terms_have_a_length(bytes: &[u8]) -> bool {
 pub struct Fields {
     pub equation: u8,
     pub zero: u8,
-    pub exponents: [u8; 6],
+    pub exponents: [u8; VARIABLES],
     pub coefficient: i32,
 }
 
@@ -34,35 +36,61 @@ impl Fields {
         Fields {
             equation: record[0],
             zero: record[1],
-            exponents: std::array::from_fn(|i| record[2 + i]),
-            coefficient: i32::from_le_bytes([record[8], record[9], record[10], record[11]]),
+            exponents: std::array::from_fn(|i| record[EXPONENTS_AT + i]),
+            coefficient: coefficient_at(record, COEFFICIENT_AT),
         }
     }
 
-    /// Every field that breaks its rule, by name: none for a good record.
-    pub fn faults(&self, n: usize) -> Vec<&'static str> {
+    /// Every field that breaks its rule: none for a good record.
+    pub fn faults(&self, n: usize) -> Vec<TermFault> {
         let mut faults = Vec::new();
         if self.equation == 0 {
-            faults.push("equation 0");
+            faults.push(TermFault::EquationZero);
         } else if usize::from(self.equation) > n {
-            faults.push("equation beyond n");
+            faults.push(TermFault::EquationBeyondN);
         }
         if self.zero != 0 {
-            faults.push("byte 1 not zero");
+            faults.push(TermFault::ByteOne);
         }
         let (within, beyond) = self.exponents.split_at(n);
         if within.iter().any(|&e| u16::from(e) > MOST_EXPONENT) {
-            faults.push("exponent above 9");
+            faults.push(TermFault::ExponentAbove);
         }
         if beyond.iter().any(|&e| e != 0) {
-            faults.push("exponent beyond xn");
+            faults.push(TermFault::ExponentBeyondXn);
         }
         if self.coefficient == 0 {
-            faults.push("coefficient 0");
+            faults.push(TermFault::CoefficientZero);
         } else if i64::from(self.coefficient).abs() > MOST_COEFFICIENT {
-            faults.push("coefficient beyond a million");
+            faults.push(TermFault::CoefficientBeyond);
         }
         faults
+    }
+}
+
+/// A rule that a term record can break, with its name.
+#[derive(Clone, Copy, PartialEq, Eq, Debug)]
+pub enum TermFault {
+    EquationZero,
+    EquationBeyondN,
+    ByteOne,
+    ExponentAbove,
+    ExponentBeyondXn,
+    CoefficientZero,
+    CoefficientBeyond,
+}
+
+impl fmt::Display for TermFault {
+    fn fmt(&self, f: &mut fmt::Formatter<'_>) -> fmt::Result {
+        match self {
+            TermFault::EquationZero => write!(f, "equation 0"),
+            TermFault::EquationBeyondN => write!(f, "equation beyond n"),
+            TermFault::ByteOne => write!(f, "byte 1 not zero"),
+            TermFault::ExponentAbove => write!(f, "exponent above {MOST_EXPONENT}"),
+            TermFault::ExponentBeyondXn => write!(f, "exponent beyond xn"),
+            TermFault::CoefficientZero => write!(f, "coefficient 0"),
+            TermFault::CoefficientBeyond => write!(f, "coefficient beyond a million"),
+        }
     }
 }
 
@@ -94,9 +122,9 @@ pub fn write_term(term: &Term) -> [u8; TERM_BYTES] {
     let mut record = [0; TERM_BYTES];
     record[0] = term.equation as u8;
     for (i, &exponent) in term.monomial.0.iter().enumerate() {
-        record[2 + i] = exponent as u8;
+        record[EXPONENTS_AT + i] = exponent as u8;
     }
-    record[8..].copy_from_slice(&(term.coefficient as i32).to_le_bytes());
+    record[COEFFICIENT_AT..].copy_from_slice(&(term.coefficient as i32).to_le_bytes());
     record
 }
 
@@ -105,13 +133,38 @@ pub fn write_terms(terms: &[Term]) -> Vec<u8> {
     terms.iter().flat_map(write_term).collect()
 }
 
-/// The six monomials of a set record, unused places included.
-pub fn set_places(record: &[u8]) -> [Monomial; 6] {
-    std::array::from_fn(|j| Monomial(std::array::from_fn(|i| u16::from(record[6 * j + i]))))
+/// The monomials of a set record, one for each card, unused places included.
+pub fn set_places(record: &[u8]) -> [Monomial; CARDS] {
+    let exponent = |j: usize, i: usize| u16::from(record[VARIABLES * j + i]);
+    std::array::from_fn(|j| Monomial(std::array::from_fn(|i| exponent(j, i))))
 }
 
-/// Every rule that a set record breaks, by name: none for a good record.
-pub fn set_faults(n: usize, record: &[u8]) -> Vec<&'static str> {
+/// A rule that a set record can break, with its name.
+#[derive(Clone, Copy, PartialEq, Eq, Debug)]
+pub enum SetFault {
+    OneBefore,
+    SingleVariable,
+    EqualNeighbours,
+    NotAscending,
+    ExponentAbove,
+    ExponentBeyondXn,
+}
+
+impl fmt::Display for SetFault {
+    fn fmt(&self, f: &mut fmt::Formatter<'_>) -> fmt::Result {
+        match self {
+            SetFault::OneBefore => write!(f, "1 before a monomial"),
+            SetFault::SingleVariable => write!(f, "single variable"),
+            SetFault::EqualNeighbours => write!(f, "equal neighbours"),
+            SetFault::NotAscending => write!(f, "not ascending"),
+            SetFault::ExponentAbove => write!(f, "exponent above {MOST_SET_EXPONENT}"),
+            SetFault::ExponentBeyondXn => write!(f, "exponent beyond xn"),
+        }
+    }
+}
+
+/// Every rule that a set record breaks: none for a good record.
+pub fn set_faults(n: usize, record: &[u8]) -> Vec<SetFault> {
     let places = set_places(record);
     let used = places
         .iter()
@@ -120,16 +173,16 @@ pub fn set_faults(n: usize, record: &[u8]) -> Vec<&'static str> {
     let members = &places[..used];
     let mut faults = Vec::new();
     if members.contains(&Monomial::ONE) {
-        faults.push("1 before a monomial");
+        faults.push(SetFault::OneBefore);
     }
     if members.iter().any(|m| m.is_variable()) {
-        faults.push("single variable");
+        faults.push(SetFault::SingleVariable);
     }
     if members.windows(2).any(|two| two[0] == two[1]) {
-        faults.push("equal neighbours");
+        faults.push(SetFault::EqualNeighbours);
     }
     if members.windows(2).any(|two| two[0] > two[1]) {
-        faults.push("not ascending");
+        faults.push(SetFault::NotAscending);
     }
     let exponents = |m: &Monomial| m.0;
     if members
@@ -137,10 +190,10 @@ pub fn set_faults(n: usize, record: &[u8]) -> Vec<&'static str> {
         .flat_map(exponents)
         .any(|e| e > MOST_SET_EXPONENT)
     {
-        faults.push("exponent above 54");
+        faults.push(SetFault::ExponentAbove);
     }
     if members.iter().any(|m| m.0[n..].iter().any(|&e| e != 0)) {
-        faults.push("exponent beyond xn");
+        faults.push(SetFault::ExponentBeyondXn);
     }
     faults
 }
@@ -160,7 +213,7 @@ pub fn write_places(monomials: &[Monomial]) -> [u8; SET_BYTES] {
     let mut record = [0; SET_BYTES];
     for (j, monomial) in monomials.iter().enumerate() {
         for (i, &exponent) in monomial.0.iter().enumerate() {
-            record[6 * j + i] = exponent as u8;
+            record[VARIABLES * j + i] = exponent as u8;
         }
     }
     record
@@ -178,7 +231,7 @@ pub fn write_wire(wire: &Wire) -> [u8; WIRE_BYTES] {
     record[0] = wire.left as u8;
     record[1] = wire.a as u8;
     record[2] = wire.b as u8;
-    record[4..].copy_from_slice(&(wire.coefficient as i32).to_le_bytes());
+    record[WIRE_COEFFICIENT_AT..].copy_from_slice(&(wire.coefficient as i32).to_le_bytes());
     record
 }
 
@@ -191,7 +244,7 @@ pub fn read_wires(bytes: &[u8]) -> Vec<Wire> {
             left: usize::from(r[0]),
             a: usize::from(r[1]),
             b: usize::from(r[2]),
-            coefficient: i64::from(i32::from_le_bytes([r[4], r[5], r[6], r[7]])),
+            coefficient: i64::from(coefficient_at(r, WIRE_COEFFICIENT_AT)),
         })
         .collect()
 }

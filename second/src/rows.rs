@@ -1,17 +1,21 @@
 //! The fixed rows: document 01's worked sums, both sides of each limit, every
 //! place of code 9, and larger systems from documents 000 and 001.
 
-use crate::batch::Case;
+use crate::batch::{Case, MOST_CASE_BUFFER};
 use crate::monomial::Monomial;
 use crate::notation::{monomial, terms};
-use crate::records::{write_places, write_set, write_terms, SET_BYTES, WIRE_BYTES};
+use crate::panel::{
+    CARDS, COEFFICIENT_AT, EXPONENTS_AT, MOST_COEFFICIENT, MOST_EXPONENT, MOST_LIMIT, MOST_N,
+    MOST_SET_EXPONENT, MOST_TERMS, MOST_WIRES_BYTES, SET_BYTES, TERM_BYTES, USUAL_CAP as CAP,
+    USUAL_LIMIT as LIMIT, USUAL_ROOM, VARIABLES, WIRE_BYTES,
+};
+use crate::records::{write_places, write_set, write_terms};
 use crate::system::{Set, Term};
+use crate::systems::power;
 
-/// What a row of document 01 has where it names nothing else.
-const CAP: u64 = 6;
-const LIMIT: u64 = 1_000_000;
-const ROOM: usize = 1_000 * SET_BYTES;
-const WIRES: usize = 224 * WIRE_BYTES;
+/// The buffers of a row that names none.
+const ROOM: usize = USUAL_ROOM * SET_BYTES;
+const WIRES: usize = MOST_WIRES_BYTES;
 
 /// Document 001, Example 2, with a = b = 1.
 pub const RABINOVICH_FABRIKANT: &str = "x1' = x2 x3 - x2 + x1^2 x2 + x1; \
@@ -63,8 +67,8 @@ fn bytes_of(text: &str) -> Vec<u8> {
 
 /// So many different records in two variables, the quadratic ones first.
 fn different_records(count: usize) -> Vec<u8> {
-    let mut monomials: Vec<Monomial> = (0..=9)
-        .flat_map(|e1| (0..=9).map(move |e2| Monomial([e1, e2, 0, 0, 0, 0])))
+    let mut monomials: Vec<Monomial> = (0..=MOST_EXPONENT)
+        .flat_map(|e1| (0..=MOST_EXPONENT).map(move |e2| Monomial([e1, e2, 0, 0, 0, 0])))
         .collect();
     monomials.sort_by_key(|m| (m.0.iter().sum::<u16>(), *m));
     let of_equation = |equation| {
@@ -171,12 +175,12 @@ fn box_of_two() -> String {
     equations.join("; ")
 }
 
-/// Six variables and all 32 records, half of them of degree three: openings
-/// with as much to add up as there can be.
+/// All variables and all records, half of them of degree three: openings with
+/// as much to add up as there can be.
 fn cubes_of_six() -> String {
     let mut equations = Vec::new();
-    for i in 0..6 {
-        let x = |step: usize| (i + step) % 6 + 1;
+    for i in 0..VARIABLES {
+        let x = |step: usize| (i + step) % VARIABLES + 1;
         let mut parts = vec![
             format!("x{} x{} x{}", x(1), x(2), x(3)),
             format!("- 2 x{}^2 x{}", x(0), x(1)),
@@ -242,8 +246,8 @@ impl Rows {
         self.plan(1, "x1' = 1000001 x1");
         self.plan(1, "x1' = x1^9");
         self.plan(1, "x1' = x1^10");
-        self.plan_bytes(2, different_records(32));
-        self.plan_bytes(2, different_records(33));
+        self.plan_bytes(2, different_records(MOST_TERMS));
+        self.plan_bytes(2, different_records(MOST_TERMS + 1));
         self.plan(1, "x1' = x1 + x1");
     }
 
@@ -262,17 +266,19 @@ impl Rows {
         self.plan_with(1, "x1' = x1^3", CAP, 1, ROOM);
         self.plan_with(1, "x1' = x1^3", 0, 1, ROOM);
         // Full and spent would fall together: full.
-        self.plan_with(1, "x1' = x1^2", 0, 1, 35);
+        self.plan_with(1, "x1' = x1^2", 0, 1, SET_BYTES - 1);
         // The last step of the walk with the limit one short, exact, one over.
         for limit in [22, 23, 24] {
             self.plan_with(1, "x1' = x1^4 + x1^3", CAP, limit, 2 * SET_BYTES);
         }
         // A set met twice asks for no second place.
-        for buffer in [0, 35, 36, 37, 71, 72, 73, 107, 108, 109] {
+        let around = |bytes: usize| [bytes - 1, bytes, bytes + 1];
+        let ends = (1..=3).flat_map(|room| around(room * SET_BYTES));
+        for buffer in [0].into_iter().chain(ends) {
             self.plan_with(1, "x1' = x1^4 + x1^3", CAP, LIMIT, buffer);
         }
         // Unused variables change neither sets nor steps.
-        for n in 1..=6 {
+        for n in 1..=MOST_N {
             self.plan_with(n, "x1' = x1^4 + x1^3", CAP, LIMIT, 2 * SET_BYTES);
             self.plan_with(n, "x1' = x1^9 + x1^4", CAP, LIMIT, 2 * SET_BYTES);
         }
@@ -284,14 +290,14 @@ impl Rows {
     fn settings(&mut self) {
         let far = [255, 256, 257, 1 << 32, (1 << 32) + 1, 1 << 63, u64::MAX];
         let small = "x1' = x1^2";
-        for n in [0, 1, 2, 3, 4, 5, 6, 7].into_iter().chain(far) {
+        for n in (0..=MOST_N + 1).chain(far) {
             self.plan_with(n, small, CAP, LIMIT, SET_BYTES);
             self.given(n, bytes_of(small), set_of(&[]), 20);
         }
-        for cap in [0, 1, 2, 3, 4, 5, 6, 7].into_iter().chain(far) {
+        for cap in (0..=CAP + 1).chain(far) {
             self.plan_with(1, "x1' = x1^9 + x1^8", cap, 20_000, SET_BYTES);
         }
-        let most = 1_000_000_000;
+        let most = MOST_LIMIT;
         let limits = [0, 1, 2, most - 1, most, most + 1, 1 << 30, 1 << 31];
         for limit in limits.into_iter().chain(far) {
             self.plan_with(1, small, CAP, limit, SET_BYTES);
@@ -309,11 +315,12 @@ impl Rows {
             self.plan_bytes(2, terms.clone());
             self.given(2, terms, set_of(&[]), 100);
         }
-        for count in 0..=32 {
+        for count in 0..=MOST_TERMS {
             let terms = different_records(count);
             self.cases.push(Case::plan(2, 1, 50, SET_BYTES, terms));
         }
-        for length in [0, 1, 35, 36, 37, 71, 72, 255] {
+        let (one, two) = (SET_BYTES, 2 * SET_BYTES);
+        for length in [0, 1, one - 1, one, one + 1, two - 1, two, 255] {
             let set = vec![0; length];
             self.given(1, bytes_of("x1' = x1"), set, 8);
         }
@@ -326,14 +333,15 @@ impl Rows {
             bytes[at] = value;
             (n as u64, bytes)
         };
-        for n in 1..=6 {
+        for n in 1..=VARIABLES {
             for equation in [0, 1, n as u8, n as u8 + 1, 128, 255] {
                 let (n, bytes) = record(n, 0, equation);
                 self.plan_bytes(n, bytes);
             }
-            for i in 0..6 {
-                for exponent in [0, 1, 9, 10, 255] {
-                    let (n, bytes) = record(n, 2 + i, exponent);
+            for i in 0..VARIABLES {
+                let most = MOST_EXPONENT as u8;
+                for exponent in [0, 1, most, most + 1, 255] {
+                    let (n, bytes) = record(n, EXPONENTS_AT + i, exponent);
                     let set = set_of(&[]);
                     self.cases.push(Case::wire(n, bytes, set, 8));
                 }
@@ -343,26 +351,16 @@ impl Rows {
             let (n, bytes) = record(1, 1, value);
             self.plan_bytes(n, bytes);
         }
-        let million = 1_000_000;
-        for size in [
-            0,
-            1,
-            255,
-            256,
-            65_536,
-            million - 1,
-            million,
-            million + 1,
-            i32::MAX,
-        ] {
+        let most = MOST_COEFFICIENT as i32;
+        for size in [0, 1, 255, 256, 65_536, most - 1, most, most + 1, i32::MAX] {
             for coefficient in [size, -size] {
                 let mut bytes = bytes_of("x1' = x1");
-                bytes[8..].copy_from_slice(&i32::to_le_bytes(coefficient));
+                bytes[COEFFICIENT_AT..].copy_from_slice(&i32::to_le_bytes(coefficient));
                 self.given(1, bytes, set_of(&[]), 8);
             }
         }
         let mut bytes = bytes_of("x1' = x1");
-        bytes[8..].copy_from_slice(&i32::MIN.to_le_bytes());
+        bytes[COEFFICIENT_AT..].copy_from_slice(&i32::MIN.to_le_bytes());
         self.given(1, bytes, set_of(&[]), 8);
         // The same monomial in two equations is no repeat.
         self.plan(2, "x1' = x1 x2; x2' = x1 x2");
@@ -401,34 +399,38 @@ impl Rows {
             &["x2", "x1 x2", "x1^2"],
         ];
         for way in ways {
-            for n in [2, 6] {
+            for n in [2, MOST_N] {
                 self.given(n, bytes_of("x1' = 3 x1"), places_of(way), 80);
             }
         }
         // A single variable at each place, the rest in order.
-        for place in 0..6 {
+        for place in 0..CARDS {
             let mut names: Vec<String> = (0..place).map(|j| format!("x2^{}", j + 2)).collect();
             names.push("x1".to_string());
-            names.extend((place + 1..6).map(|j| format!("x1^{j} x2")));
+            names.extend((place + 1..CARDS).map(|j| format!("x1^{j} x2")));
             let names: Vec<&str> = names.iter().map(String::as_str).collect();
             self.given(2, Vec::new(), places_of(&names), 8);
         }
-        // Each byte of the record at 54 and at 55; each byte beyond xn at 1.
+        // Each byte of the record at the most and one above; each byte beyond xn
+        // at 1.
+        let powers: Vec<Monomial> = (2..).map(power).take(CARDS).collect();
         for byte in 0..SET_BYTES {
-            let six = ["x1^2", "x1^3", "x1^4", "x1^5", "x1^6", "x1^7"];
-            for value in [54, 55] {
-                let mut set = places_of(&six);
-                set[byte] = value;
-                self.cases.push(Case::check(6, Vec::new(), set));
+            let with = |value: u16| {
+                let mut set = write_places(&powers).to_vec();
+                set[byte] = value as u8;
+                set
+            };
+            for value in [MOST_SET_EXPONENT, MOST_SET_EXPONENT + 1] {
+                let set = with(value);
+                self.cases.push(Case::check(MOST_N, Vec::new(), set));
             }
-            for n in 1..=byte % 6 {
-                let mut set = places_of(&six);
-                set[byte] = 1;
+            for n in 1..=byte % VARIABLES {
+                let set = with(1);
                 self.cases.push(Case::check(n as u64, Vec::new(), set));
             }
         }
-        // A monomial in x1 to x6 fits six variables only.
-        for n in 1..=6 {
+        // A monomial in all variables fits no fewer.
+        for n in 1..=MOST_N {
             self.given(n, Vec::new(), set_of(&["x6^2"]), 0);
             self.given(n, Vec::new(), set_of(&["x1 x2 x3 x4 x5 x6"]), 0);
             let name = format!("x{n}^2");
@@ -438,7 +440,7 @@ impl Rows {
 
     /// Several faults at once: 1, 2, then 3 and 4 by record, then 8, 9, 6.
     fn sequence_of_checks(&mut self) {
-        let short = vec![0; 13];
+        let short = vec![0; TERM_BYTES + 1];
         let wrong = bytes_of("x1' = x1 + x1^10 + x1");
         let twice = bytes_of("x1' = x1 + x1 + x1^10");
         let both = bytes_of("x1' = x1 + 1000001 x1");
@@ -448,10 +450,10 @@ impl Rows {
             for n in [0, 1] {
                 self.plan_bytes(n, terms.clone());
                 self.cases
-                    .push(Case::plan(n, 7, LIMIT, SET_BYTES, terms.clone()));
+                    .push(Case::plan(n, CAP + 1, LIMIT, SET_BYTES, terms.clone()));
                 self.cases
                     .push(Case::plan(n, CAP, 0, SET_BYTES, terms.clone()));
-                self.given(n, terms.clone(), vec![1; 35], 0);
+                self.given(n, terms.clone(), vec![1; SET_BYTES - 1], 0);
                 self.given(n, terms.clone(), bad_set.clone(), 0);
                 self.given(n, terms.clone(), set_of(&[]), 0);
                 self.given(n, terms.clone(), set_of(&["x1^2"]), 0);
@@ -472,11 +474,11 @@ impl Rows {
             let exact = records * WIRE_BYTES;
             for buffer in [
                 0,
-                exact.saturating_sub(8),
+                exact.saturating_sub(WIRE_BYTES),
                 exact,
                 exact + 1,
-                exact + 7,
-                exact + 8,
+                exact + WIRE_BYTES - 1,
+                exact + WIRE_BYTES,
                 WIRES,
             ] {
                 self.cases
@@ -491,7 +493,7 @@ impl Rows {
 
     /// Lists of 80 and of 108 records.
     fn long_lists(&mut self) {
-        for n in 4..=6 {
+        for n in 4..=MOST_N {
             let set = set_of(&SIX_SIGNALS);
             for buffer in [639, 640, 641, WIRES] {
                 let terms = bytes_of(&own_variable_times_signals());
@@ -508,8 +510,8 @@ impl Rows {
     /// Code 9 for every n, size and place. Up to n the named equation is the
     /// first that is not quadratic; beyond it x1' = 1 leaves x1^29 over.
     fn places_of_code_9(&mut self) {
-        for n in 1..=6_usize {
-            for size in 0..=6_usize {
+        for n in 1..=VARIABLES {
+            for size in 0..=CARDS {
                 for place in 1..=n + size {
                     let (text, names) = if place <= n {
                         let text = format!("x1' = x1; x{place}' = x{n}^9; x{n}' = x1^8");
@@ -520,17 +522,14 @@ impl Rows {
                         let exponents: Vec<usize> = (1..=size).map(exponent).collect();
                         ("x1' = 1".to_string(), exponents)
                     };
-                    let set: Set = names
-                        .into_iter()
-                        .map(|e: usize| Monomial([e as u16, 0, 0, 0, 0, 0]))
-                        .collect();
+                    let set: Set = names.into_iter().map(power).collect();
                     let terms = bytes_of(&text);
                     let set = write_set(&set).to_vec();
-                    if size == 6 || (size + place).is_multiple_of(2) {
+                    if size == CARDS || (size + place).is_multiple_of(2) {
                         let case = Case::check(n as u64, terms.clone(), set.clone());
                         self.cases.push(case);
                     }
-                    if size == 6 || !(size + place).is_multiple_of(2) {
+                    if size == CARDS || !(size + place).is_multiple_of(2) {
                         self.cases.push(Case::wire(n as u64, terms, set, 24));
                     }
                 }
@@ -547,7 +546,7 @@ impl Rows {
         self.plan(3, "x1' = x2; x2' = - 2 x1 - 3 x2 - 5 x1^3 + x3");
         self.plan(3, "x1' = x1 + x1 x3; x2' = x1^2 x3");
         self.plan(3, "x1' = x2^2; x2' = x1 x3; x3' = - x1 x3^3");
-        for k in 2..=9 {
+        for k in 2..=u64::from(MOST_EXPONENT) {
             self.plan_with(1, &shifted_power(k), CAP, 20_000, 40 * SET_BYTES);
         }
         // 001, section 7: an unfed variable's powers feed another.
@@ -563,18 +562,18 @@ impl Rows {
     /// Document 001's appendix, as far as six variables go, and walks of some
     /// 10,000 to 200,000 steps.
     fn families(&mut self) {
-        for cap in 0..=5 {
+        for cap in 0..CAP {
             self.plan_with(4, &cubic_cycle(4), cap, LIMIT, SET_BYTES);
         }
-        for n in 2..=6 {
+        for n in 2..=VARIABLES {
             self.plan(n as u64, &cubic_cycle(n));
             self.plan(n as u64, &cubic_bicycle(n));
         }
-        for k in 3..=9 {
+        for k in 3..=usize::from(MOST_EXPONENT) {
             self.plan(2, &mutual_power(k));
         }
         self.plan_with(2, &mutual_power(8), CAP, 96_361, ROOM);
-        self.plan_with(2, &mutual_power(8), CAP, LIMIT, 3 * SET_BYTES + 35);
+        self.plan_with(2, &mutual_power(8), CAP, LIMIT, 4 * SET_BYTES - 1);
         self.plan(2, "x1' = x2^7; x2' = x1^3");
         self.plan(3, "x1' = x2^2 x3^2; x2' = x1^2 x3^2; x3' = x1^2 x2^2");
         self.plan(3, "x1' = x1 x2 x3; x2' = x1^2 x3^2; x3' = x2^4");
@@ -587,7 +586,7 @@ impl Rows {
         for products in 2..=6 {
             let text = unfed_products(products);
             self.plan_with(6, &text, CAP, 200_000, ROOM);
-            self.plan_with(6, &text, CAP, 200_000, 65_536);
+            self.plan_with(6, &text, CAP, 200_000, MOST_CASE_BUFFER);
         }
     }
 }
@@ -596,7 +595,8 @@ impl Rows {
 mod tests {
     use super::*;
     use crate::batch::{write_batch, Cases, Operation};
-    use crate::records::{read_terms, TERM_BYTES};
+    use crate::panel::MOST_TERMS_BYTES;
+    use crate::records::read_terms;
 
     #[test]
     fn rows_are_the_same_each_time_and_well_formed() {
@@ -612,10 +612,10 @@ mod tests {
         let mut rows = Rows { cases: Vec::new() };
         rows.places_of_code_9();
         let mut at = rows.cases.iter();
-        for n in 1..=6 {
-            for size in 0..=6 {
+        for n in 1..=MOST_N {
+            for size in 0..=CAP {
                 for place in 1..=n + size {
-                    for _ in 0..=size / 6 {
+                    for _ in 0..=size / CAP {
                         let (reply, _) = at.next().unwrap().answer();
                         assert_eq!(reply.numbers(), [9, size, 0, 0, place]);
                     }
@@ -627,7 +627,7 @@ mod tests {
 
     #[test]
     fn records_are_different_and_32_are_taken() {
-        let case = |count| Case::plan(2, 0, 10, 36, different_records(count));
+        let case = |count| Case::plan(2, 0, 10, SET_BYTES, different_records(count));
         assert_eq!(case(12).answer().0.numbers(), [0, 0, 1, 1, 0]);
         assert_eq!(case(32).answer().0.numbers(), [5, 1, 0, 1, 0]);
         assert_eq!(case(33).answer().0.numbers(), [2, 0, 0, 0, 0]);
@@ -655,7 +655,7 @@ mod tests {
     fn long_lists_are_long() {
         let mut rows = Rows { cases: Vec::new() };
         rows.long_lists();
-        assert_eq!(rows.cases[0].terms.len(), 32 * TERM_BYTES);
+        assert_eq!(rows.cases[0].terms.len(), MOST_TERMS_BYTES);
         for (index, case) in rows.cases.iter().enumerate() {
             let length = if index < 12 { 80 } else { 108 };
             let expected = match index % 4 {
@@ -667,10 +667,10 @@ mod tests {
     }
 
     #[test]
-    fn systems_of_six_variables_fill_the_records() {
+    fn a_system_fills_the_records() {
         let bytes = bytes_of(&cubes_of_six());
-        assert_eq!(bytes.len(), 32 * TERM_BYTES);
-        assert!(read_terms(6, &bytes).is_ok());
+        assert_eq!(bytes.len(), MOST_TERMS_BYTES);
+        assert!(read_terms(VARIABLES, &bytes).is_ok());
     }
 
     #[test]

@@ -4,10 +4,9 @@
 use crate::batch::{hex, Case, Operation};
 use crate::monomial::Monomial;
 use crate::notation::{write_members, write_system};
-use crate::records::{
-    read_terms, read_wires, set_places, terms_have_a_length, Fields, SET_BYTES, TERM_BYTES,
-    WIRE_BYTES,
-};
+use crate::operations::n_is_in_range;
+use crate::panel::{SET_BYTES, TERM_BYTES, VARIABLES, WIRE_BYTES};
+use crate::records::{read_terms, read_wires, set_places, terms_have_a_length, Fields};
 use crate::reply::Reply;
 
 /// The block of one case, counted from 1.
@@ -58,9 +57,9 @@ fn numbers(reply: &Reply) -> String {
 
 /// The equations; or the bare records where they are refused.
 fn system_lines(case: &Case) -> Vec<String> {
-    let n = match case.n {
-        1..=6 => case.n as usize,
-        _ => 6,
+    let n = match n_is_in_range(case.n) {
+        true => case.n as usize,
+        false => VARIABLES,
     };
     if terms_have_a_length(&case.terms) {
         if let Ok(system) = read_terms(n, &case.terms) {

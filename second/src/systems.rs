@@ -2,8 +2,8 @@
 //! differently, and random sets to go with them.
 
 use crate::monomial::Monomial;
+use crate::panel::{MOST_COEFFICIENT, MOST_EXPONENT, MOST_SET_EXPONENT, MOST_TERMS, VARIABLES};
 use crate::random::Random;
-use crate::records::{MOST_COEFFICIENT, MOST_EXPONENT, MOST_SET_EXPONENT, MOST_TERMS};
 use crate::system::{Set, System, Term};
 
 /// A system that takes a term only where the rules allow it.
@@ -70,7 +70,7 @@ fn product(random: &mut Random, n: usize, degree: usize) -> Monomial {
 }
 
 /// A power of x1.
-fn power(exponent: usize) -> Monomial {
+pub fn power(exponent: usize) -> Monomial {
     let mut monomial = Monomial::ONE;
     monomial.0[0] = exponent as u16;
     monomial
@@ -101,7 +101,7 @@ fn sparse(random: &mut Random) -> System {
 
 /// Linear equations with one or two terms of degree three.
 fn nearly_linear(random: &mut Random) -> System {
-    let n = random.between(2, 6);
+    let n = random.between(2, VARIABLES);
     let mut draft = Draft::of(n);
     for equation in 1..=n {
         draft.add(equation, product(random, n, 1), coefficient(random));
@@ -115,13 +115,13 @@ fn nearly_linear(random: &mut Random) -> System {
 
 /// Exponents up to the highest, few records.
 fn tall(random: &mut Random) -> System {
-    let n = random.between(1, 6);
+    let n = random.between(1, VARIABLES);
     let mut draft = Draft::of(n);
     for _ in 0..random.between(1, 3) {
         let mut monomial = Monomial::ONE;
         for i in 0..n {
             if random.chance(40) {
-                monomial.0[i] = random.between(0, 9) as u16;
+                monomial.0[i] = random.between(0, MOST_EXPONENT.into()) as u16;
             }
         }
         draft.add(random.between(1, n), monomial, coefficient(random));
@@ -131,7 +131,7 @@ fn tall(random: &mut Random) -> System {
 
 /// Many records of degree two at most: quadratic as it stands.
 fn flat(random: &mut Random) -> System {
-    let n = random.between(1, 6);
+    let n = random.between(1, VARIABLES);
     let mut draft = Draft::of(n);
     for _ in 0..random.between(0, 40) {
         let degree = random.below(3);
@@ -172,7 +172,11 @@ fn cancelling(random: &mut Random) -> System {
 fn powers_of_an_unfed_variable(random: &mut Random) -> System {
     let mut draft = Draft::of(2);
     for _ in 0..random.between(2, 4) {
-        draft.add(2, power(random.between(1, 9)), coefficient(random));
+        draft.add(
+            2,
+            power(random.between(1, MOST_EXPONENT.into())),
+            coefficient(random),
+        );
     }
     draft.finish(random)
 }
@@ -207,7 +211,7 @@ fn one_fed(random: &mut Random) -> System {
 
 /// One variable fed by even products of unfed ones: many smallest sets.
 fn many_sets(random: &mut Random) -> System {
-    let n = random.between(3, 6);
+    let n = random.between(3, VARIABLES);
     let mut draft = Draft::of(n);
     for _ in 0..random.between(1, 3) {
         let mut monomial = Monomial::ONE;
@@ -239,11 +243,11 @@ fn mutual(random: &mut Random) -> System {
 /// Moves the variables to other places among more variables, so that some are
 /// unused.
 fn spread(random: &mut Random, system: &System) -> System {
-    let n = random.between(system.n, 6);
+    let n = random.between(system.n, VARIABLES);
     let mut places: Vec<usize> = (0..n).collect();
     random.shuffle(&mut places);
     let moved = |monomial: Monomial| {
-        let mut exponents = [0; 6];
+        let mut exponents = [0; VARIABLES];
         for i in 0..system.n {
             exponents[places[i]] = monomial.0[i];
         }
@@ -286,16 +290,17 @@ pub fn any(random: &mut Random) -> System {
     system
 }
 
-/// So many different records that all rules allow. One variable has no more
-/// than ten monomials, so n is raised where `count` calls for it.
+/// So many different records that all rules allow. One variable has but few
+/// monomials, so n is raised where `count` calls for it.
 pub fn run(random: &mut Random, n: usize, count: usize) -> System {
-    let n = if count > 10 { n.max(2) } else { n };
+    let powers = usize::from(MOST_EXPONENT) + 1;
+    let n = if count > powers { n.max(2) } else { n };
     let mut draft = Draft::of(n);
     while draft.terms.len() < count {
         let mut monomial = Monomial::ONE;
         for exponent in &mut monomial.0[..n] {
             *exponent = match random.below(3) {
-                0 => random.below(10) as u16,
+                0 => random.below(powers) as u16,
                 _ => random.below(3) as u16,
             };
         }
@@ -314,7 +319,7 @@ pub fn member(random: &mut Random, n: usize) -> Monomial {
         for i in 0..n {
             monomial.0[i] = match random.below(20) {
                 0 => MOST_SET_EXPONENT,
-                1 => random.between(0, 54) as u16,
+                1 => random.between(0, MOST_SET_EXPONENT.into()) as u16,
                 2..=9 => random.between(1, 3) as u16,
                 _ => 0,
             };
@@ -368,7 +373,7 @@ pub fn decided_by_cancelling(random: &mut Random) -> (System, Set) {
     let most = MOST_COEFFICIENT / p.max(q) as i64;
     let scale = random.pick(&[2, 3, most - 1]);
     let miss = random.pick(&[0, 0, 1, -1]);
-    let n = random.between(4, 6);
+    let n = random.between(4, VARIABLES);
     let mut draft = Draft::of(n);
     draft.add(1, Monomial([1, 0, 1, 1, 0, 0]), q as i64 * scale);
     draft.add(2, Monomial([0, 1, 1, 1, 0, 0]), -(p as i64) * scale + miss);
@@ -384,6 +389,7 @@ pub fn decided_by_cancelling(random: &mut Random) -> (System, Set) {
 #[cfg(test)]
 mod tests {
     use super::*;
+    use crate::panel::CARDS;
     use crate::records::{read_terms, set_faults, write_set, write_terms};
 
     #[test]
@@ -391,7 +397,7 @@ mod tests {
         let mut random = Random::from_seed(2);
         for _ in 0..2000 {
             let system = any(&mut random);
-            assert!((1..=6).contains(&system.n));
+            assert!((1..=VARIABLES).contains(&system.n));
             let read = read_terms(system.n, &write_terms(&system.terms));
             assert_eq!(read, Ok(system));
         }
@@ -400,8 +406,8 @@ mod tests {
     #[test]
     fn runs_have_their_length_and_are_taken() {
         let mut random = Random::from_seed(3);
-        for count in 0..=32 {
-            for n in 1..=6 {
+        for count in 0..=MOST_TERMS {
+            for n in 1..=VARIABLES {
                 let system = run(&mut random, n, count);
                 assert_eq!(system.terms.len(), count);
                 let read = read_terms(system.n, &write_terms(&system.terms));
@@ -413,8 +419,8 @@ mod tests {
     #[test]
     fn a_system_around_a_set_is_made_quadratic_by_it() {
         let mut random = Random::from_seed(4);
-        for n in 1..=6 {
-            for size in 0..=6 {
+        for n in 1..=VARIABLES {
+            for size in 0..=CARDS {
                 for _ in 0..20 {
                     let (system, set) = around_a_set(&mut random, n, size);
                     assert!(set_faults(n, &write_set(&set)).is_empty());

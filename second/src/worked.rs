@@ -3,15 +3,16 @@
 
 use crate::batch::Case;
 use crate::notation::{monomial, terms, write_members};
-use crate::records::{read_wires, set_places, write_places, write_set, write_terms, SET_BYTES};
+use crate::panel::{
+    MOST_N, MOST_WIRES_BYTES, SET_BYTES, USUAL_CAP as CAP, USUAL_LIMIT as LIMIT,
+    USUAL_ROOM as ROOM, VARIABLES,
+};
+use crate::records::{read_wires, set_places, write_places, write_set, write_terms};
 use crate::rows::{
     cubic_bicycle, cubic_cycle, set_of, unfed_products, CANCELLING, CANCELLING_SET, EXAMPLE_3,
     NEARLY_CANCELLING, RABINOVICH_FABRIKANT,
 };
 use crate::system::Set;
-
-const LIMIT: u64 = 1_000_000;
-const ROOM: usize = 1_000;
 
 /// Plans and compares the five numbers and every byte of the buffer.
 fn row(n: u64, text: &str, settings: (u64, u64, usize), numbers: [u64; 5], sets: &[&[&str]]) {
@@ -36,7 +37,7 @@ fn row(n: u64, text: &str, settings: (u64, u64, usize), numbers: [u64; 5], sets:
 
 /// Plans with what a row has where it names nothing else.
 fn plain(n: u64, text: &str, numbers: [u64; 5], sets: &[&[&str]]) {
-    row(n, text, (6, LIMIT, ROOM), numbers, sets);
+    row(n, text, (CAP, LIMIT, ROOM), numbers, sets);
 }
 
 fn check(n: u64, text: &str, names: &[&str]) -> [u64; 5] {
@@ -46,7 +47,12 @@ fn check(n: u64, text: &str, names: &[&str]) -> [u64; 5] {
 
 /// The wiring as the program writes it: left, a, b, coefficient.
 fn wires(n: u64, text: &str, names: &[&str]) -> ([u64; 5], Vec<[i64; 4]>) {
-    let case = Case::wire(n, write_terms(&terms(text)), set_of(names), 224 * 8);
+    let case = Case::wire(
+        n,
+        write_terms(&terms(text)),
+        set_of(names),
+        MOST_WIRES_BYTES,
+    );
     let (reply, buffer) = case.answer();
     let list = read_wires(&buffer)
         .iter()
@@ -63,7 +69,7 @@ fn no_records() {
 #[test]
 fn square() {
     plain(1, "x1' = x1^2", [0, 0, 1, 1, 0], &[&[]]);
-    row(1, "x1' = x1^2", (6, LIMIT, 0), [6, 0, 0, 1, 0], &[]);
+    row(1, "x1' = x1^2", (CAP, LIMIT, 0), [6, 0, 0, 1, 0], &[]);
 }
 
 #[test]
@@ -74,15 +80,15 @@ fn cube() {
 
 #[test]
 fn spent_between_levels_names_the_next_level() {
-    row(1, "x1' = x1^3", (6, 1, ROOM), [7, 1, 0, 1, 0], &[]);
+    row(1, "x1' = x1^3", (CAP, 1, ROOM), [7, 1, 0, 1, 0], &[]);
     row(1, "x1' = x1^3", (0, 1, ROOM), [5, 1, 0, 1, 0], &[]);
 }
 
 #[test]
 fn fifth_power() {
     let found: &[&[&str]] = &[&["x1^4"]];
-    row(1, "x1' = x1^5", (6, 7, ROOM), [0, 1, 1, 7, 0], found);
-    row(1, "x1' = x1^5", (6, 6, ROOM), [7, 1, 0, 6, 0], &[]);
+    row(1, "x1' = x1^5", (CAP, 7, ROOM), [0, 1, 1, 7, 0], found);
+    row(1, "x1' = x1^5", (CAP, 6, ROOM), [7, 1, 0, 6, 0], &[]);
 }
 
 #[test]
@@ -90,12 +96,12 @@ fn fourth_and_third_power() {
     let text = "x1' = x1^4 + x1^3";
     let both: &[&[&str]] = &[&["x1^2", "x1^3"], &["x1^3", "x1^4"]];
     plain(1, text, [0, 2, 2, 23, 0], both);
-    row(1, text, (6, LIMIT, 2), [0, 2, 2, 23, 0], both);
-    row(1, text, (6, LIMIT, 1), [6, 2, 0, 15, 0], &[]);
-    row(1, text, (6, 15, 1), [6, 2, 0, 15, 0], &[]);
-    row(1, text, (6, 14, 1), [7, 2, 0, 14, 0], &[]);
-    row(1, text, (6, 23, 2), [0, 2, 2, 23, 0], both);
-    row(1, text, (6, 22, 2), [7, 2, 0, 22, 0], &[]);
+    row(1, text, (CAP, LIMIT, 2), [0, 2, 2, 23, 0], both);
+    row(1, text, (CAP, LIMIT, 1), [6, 2, 0, 15, 0], &[]);
+    row(1, text, (CAP, 15, 1), [6, 2, 0, 15, 0], &[]);
+    row(1, text, (CAP, 14, 1), [7, 2, 0, 14, 0], &[]);
+    row(1, text, (CAP, 23, 2), [0, 2, 2, 23, 0], both);
+    row(1, text, (CAP, 22, 2), [7, 2, 0, 22, 0], &[]);
 }
 
 #[test]
@@ -170,7 +176,7 @@ fn four_sets_of_one() {
 fn example_3_lies_outside_the_box() {
     let names = ["x2^3", "x1 x2^2", "x1^3"];
     plain(2, EXAMPLE_3, [0, 3, 1, 145, 0], &[&names]);
-    row(2, EXAMPLE_3, (6, LIMIT, 0), [6, 3, 0, 109, 0], &[]);
+    row(2, EXAMPLE_3, (CAP, LIMIT, 0), [6, 3, 0, 109, 0], &[]);
     assert_eq!(check(2, EXAMPLE_3, &names), [0, 3, 0, 0, 0]);
     // Signals: 3 is x2^3, 4 is x1 x2^2, 5 is x1^3 (document 001, Example 3).
     let (numbers, list) = wires(2, EXAMPLE_3, &names);
@@ -187,18 +193,18 @@ fn example_3_lies_outside_the_box() {
 }
 
 /// Document 001, appendix: the order of Cubic Cycle(n) and Cubic Bicycle(n) is
-/// 2n in its tables, for the n they show; so it is for 3, and for 4 to 6 the cap
+/// 2n in its tables, for the n they show; so it is for 3, and for more a cap of 6
 /// is passed.
 #[test]
 fn cubic_families() {
     let order = |n: u64, text: &str| {
-        let case = Case::plan(n, 6, LIMIT, 36_000, write_terms(&terms(text)));
+        let case = Case::plan(n, 6, LIMIT, ROOM * SET_BYTES, write_terms(&terms(text)));
         let [code, order, ..] = case.answer().0.numbers();
         (code, order)
     };
     for family in [cubic_cycle, cubic_bicycle] {
         assert_eq!(order(3, &family(3)), (0, 6));
-        for n in 4..=6 {
+        for n in 4..=VARIABLES {
             assert_eq!(order(n as u64, &family(n)), (5, 7));
         }
     }
@@ -209,7 +215,7 @@ fn cubic_families() {
 fn many_sets() {
     let numbers = |products: usize, room: usize| {
         let input = write_terms(&terms(&unfed_products(products)));
-        let case = Case::plan(6, 6, LIMIT, room * SET_BYTES, input);
+        let case = Case::plan(MOST_N, CAP, LIMIT, room * SET_BYTES, input);
         case.answer().0.numbers()
     };
     assert_eq!(numbers(2, ROOM)[..3], [0, 2, 16]);
@@ -235,7 +241,7 @@ fn cancelling_decides_whether_a_set_is_quadratic() {
 #[test]
 fn unused_variables_change_nothing() {
     let both: &[&[&str]] = &[&["x1^2", "x1^3"], &["x1^3", "x1^4"]];
-    for n in 1..=6 {
+    for n in 1..=MOST_N {
         plain(n, "x1' = x1^4 + x1^3", [0, 2, 2, 23, 0], both);
     }
 }

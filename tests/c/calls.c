@@ -1,13 +1,17 @@
 /*
- * Calls planning, checking and wiring as C sees them. Each case runs on junk between guard bytes, and compares the five numbers and every byte
- * of the buffer. Ends with status 1 where one differs.
+ * Calls planning, checking and wiring as C sees them. Each case runs on junk between guard bytes, and compares the five
+ * numbers and every byte of the buffer. Ends with status 1 where one differs.
  */
 #include "planner.h"
 
-/* Declared here and not by <stdio.h>: so the test is compiled for x86-64 on a machine that has only its own C headers. */
+/* Declared here and not by <stdio.h>: so the test is compiled for x86-64 on a machine that has only its own C
+   headers. */
 extern int printf(const char *format, ...);
 
-enum { GUARD = 64, MOST = 36 * 1000, JUNK = 0xa5, FENCE = 0x3c };
+/* What a case plans with where it names nothing else. */
+enum { CAP = SIRAGUMON_CARDS, LIMIT = 1000000, ROOM = 1000 * SIRAGUMON_SET_BYTES };
+
+enum { GUARD = 64, JUNK = 0xa5, FENCE = 0x3c };
 
 static int cases, failures;
 
@@ -20,7 +24,7 @@ static void expect(int ok, const char *name, const char *what) {
 /* ---- lent bytes, with guards before and after them */
 
 struct lent {
-    uint8_t area[GUARD + MOST + GUARD];
+    uint8_t area[GUARD + ROOM + GUARD];
     size_t len;
 };
 
@@ -71,7 +75,7 @@ static void expect_row(const char *name, const uint64_t *five) {
         printf("\n");
         failures++;
     }
-    expect(row[0] == 0xa5a5a5a5a5a5a5a5u && row[6] == 0xa5a5a5a5a5a5a5a5u, name, "wrote beside the five numbers");
+    expect(row[0] == 0xa5a5a5a5a5a5a5a5u && row[1 + SIRAGUMON_NUMBERS] == 0xa5a5a5a5a5a5a5a5u, name, "wrote beside the five numbers");
 }
 
 /* ---- systems and sets */
@@ -98,23 +102,33 @@ static const uint8_t waves[] = {
     TERM(1, 0, 1, 1, 1), TERM(1, 0, 1, 0, -1), TERM(1, 2, 1, 0, 1), TERM(1, 1, 0, 0, 1),  TERM(2, 1, 0, 1, 3),
     TERM(2, 1, 0, 0, 1), TERM(2, 3, 0, 0, -1), TERM(2, 0, 1, 0, 1), TERM(3, 0, 0, 1, -2), TERM(3, 1, 1, 1, -2),
 };
-static const uint8_t coefficient_in[] = {TERM(1, 1, 0, 0, 1000000)};
-static const uint8_t coefficient_out[] = {TERM(1, 1, 0, 0, 1000001)};
-static const uint8_t exponent_in[] = {TERM(1, 9, 0, 0, 1)};
-static const uint8_t exponent_out[] = {TERM(1, 10, 0, 0, 1)};
+static const uint8_t coefficient_in[] = {TERM(1, 1, 0, 0, SIRAGUMON_COEFFICIENT_MOST)};
+static const uint8_t coefficient_out[] = {TERM(1, 1, 0, 0, SIRAGUMON_COEFFICIENT_MOST + 1)};
+static const uint8_t exponent_in[] = {TERM(1, SIRAGUMON_EXPONENT_MOST, 0, 0, 1)};
+static const uint8_t exponent_out[] = {TERM(1, SIRAGUMON_EXPONENT_MOST + 1, 0, 0, 1)};
 static const uint8_t twice[] = {TERM(1, 1, 0, 0, 1), TERM(1, 1, 0, 0, 1)};
-/* up to 33 linear and square records, no two alike */
-static uint8_t many[33 * SIRAGUMON_TERM_BYTES];
+/* linear and square records, no two alike: one more than a system takes */
+enum { MANY = SIRAGUMON_TERMS_MOST + 1 };
+static uint8_t many[MANY * SIRAGUMON_TERM_BYTES];
 
-static const uint8_t empty[36] = {0};
-static const uint8_t set_x1[36] = {1};
-static const uint8_t set_x2[36] = {2};
-static const uint8_t set_x4[36] = {4};
-static const uint8_t set_x1x2[36] = {1, 1};
-static const uint8_t set_squares[36] = {0, 2, 0, 0, 0, 0, 2};
-static const uint8_t set_waves[36] = {0, 2, 0, 0, 0, 0, 1, 1, 0, 0, 0, 0, 2};
-static const uint8_t both_sets[72] = {[0] = 2, [6] = 3, [36] = 3, [42] = 4};
-static const uint8_t falling[36] = {3, 0, 0, 0, 0, 0, 2};
+/* Where a set record has the exponent of a variable, from 1, in a monomial, from 0. */
+#define X(variable, monomial) (SIRAGUMON_VARIABLES * (monomial) + (variable) - 1)
+
+static const uint8_t empty[SIRAGUMON_SET_BYTES] = {0};
+static const uint8_t set_x1[SIRAGUMON_SET_BYTES] = {1};
+static const uint8_t set_x2[SIRAGUMON_SET_BYTES] = {2};
+static const uint8_t set_x4[SIRAGUMON_SET_BYTES] = {4};
+static const uint8_t set_x1x2[SIRAGUMON_SET_BYTES] = {1, 1};
+static const uint8_t set_squares[SIRAGUMON_SET_BYTES] = {[X(2, 0)] = 2, [X(1, 1)] = 2};
+static const uint8_t set_waves[SIRAGUMON_SET_BYTES] = {[X(2, 0)] = 2, [X(1, 1)] = 1, [X(2, 1)] = 1, [X(1, 2)] = 2};
+static const uint8_t falling[SIRAGUMON_SET_BYTES] = {[X(1, 0)] = 3, [X(1, 1)] = 2};
+/* {x^2, x^3} and {x^3, x^4} */
+static const uint8_t both_sets[2 * SIRAGUMON_SET_BYTES] = {
+    [X(1, 0)] = 2,
+    [X(1, 1)] = 3,
+    [SIRAGUMON_SET_BYTES + X(1, 0)] = 3,
+    [SIRAGUMON_SET_BYTES + X(1, 1)] = 4,
+};
 
 /* ---- the calls */
 
@@ -162,23 +176,21 @@ static void refused(const char *name, uint64_t n, const uint8_t *system, size_t 
     wire(name, n, system, len, record, record_len, 101, five, NO_BYTES);
 }
 
-static const uint64_t M = 1000000;
-
 /* Document 01's sums worked by hand. */
 static void worked(void) {
-    plan("no records", 1, 6, M, NO_BYTES, MOST, FIVE(0, 0, 1, 1, 0), BYTES(empty));
-    plan("x'=x^2", 1, 6, M, BYTES(x2), MOST, FIVE(0, 0, 1, 1, 0), BYTES(empty));
-    plan("x'=x^2, room 0", 1, 6, M, BYTES(x2), 35, FIVE(6, 0, 0, 1, 0), NO_BYTES);
-    plan("x'=x^3", 1, 6, M, BYTES(x3), MOST, FIVE(0, 1, 1, 6, 0), BYTES(set_x2));
-    plan("x'=x^3, cap 0", 1, 0, M, BYTES(x3), MOST, FIVE(5, 1, 0, 1, 0), NO_BYTES);
-    plan("x'=x^5, limit 7", 1, 6, 7, BYTES(x5), MOST, FIVE(0, 1, 1, 7, 0), BYTES(set_x4));
-    plan("x'=x^5, limit 6", 1, 6, 6, BYTES(x5), MOST, FIVE(7, 1, 0, 6, 0), NO_BYTES);
-    plan("x'=x^4+x^3", 1, 6, M, BYTES(x4_x3), MOST, FIVE(0, 2, 2, 23, 0), BYTES(both_sets));
-    plan("x'=x^4+x^3, room 1", 1, 6, M, BYTES(x4_x3), 71, FIVE(6, 2, 0, 15, 0), NO_BYTES);
-    plan("document 000", 2, 6, M, BYTES(two), MOST, FIVE(0, 2, 1, 23, 0), BYTES(set_squares));
-    plan("two that cancel", 2, 6, M, BYTES(cancelling), MOST, FIVE(0, 1, 1, 8, 0), BYTES(set_x1x2));
-    plan("x2 unfed", 2, 6, M, BYTES(unfed), MOST, FIVE(0, 1, 1, 8, 0), BYTES(set_x1x2));
-    plan("six variables, five unused", 6, 6, M, BYTES(x4_x3), MOST, FIVE(0, 2, 2, 23, 0), BYTES(both_sets));
+    plan("no records", 1, CAP, LIMIT, NO_BYTES, ROOM, FIVE(0, 0, 1, 1, 0), BYTES(empty));
+    plan("x'=x^2", 1, CAP, LIMIT, BYTES(x2), ROOM, FIVE(0, 0, 1, 1, 0), BYTES(empty));
+    plan("x'=x^2, room 0", 1, CAP, LIMIT, BYTES(x2), SIRAGUMON_SET_BYTES - 1, FIVE(6, 0, 0, 1, 0), NO_BYTES);
+    plan("x'=x^3", 1, CAP, LIMIT, BYTES(x3), ROOM, FIVE(0, 1, 1, 6, 0), BYTES(set_x2));
+    plan("x'=x^3, cap 0", 1, 0, LIMIT, BYTES(x3), ROOM, FIVE(5, 1, 0, 1, 0), NO_BYTES);
+    plan("x'=x^5, limit 7", 1, CAP, 7, BYTES(x5), ROOM, FIVE(0, 1, 1, 7, 0), BYTES(set_x4));
+    plan("x'=x^5, limit 6", 1, CAP, 6, BYTES(x5), ROOM, FIVE(7, 1, 0, 6, 0), NO_BYTES);
+    plan("x'=x^4+x^3", 1, CAP, LIMIT, BYTES(x4_x3), ROOM, FIVE(0, 2, 2, 23, 0), BYTES(both_sets));
+    plan("x'=x^4+x^3, room 1", 1, CAP, LIMIT, BYTES(x4_x3), 2 * SIRAGUMON_SET_BYTES - 1, FIVE(6, 2, 0, 15, 0), NO_BYTES);
+    plan("document 000", 2, CAP, LIMIT, BYTES(two), ROOM, FIVE(0, 2, 1, 23, 0), BYTES(set_squares));
+    plan("two that cancel", 2, CAP, LIMIT, BYTES(cancelling), ROOM, FIVE(0, 1, 1, 8, 0), BYTES(set_x1x2));
+    plan("x2 unfed", 2, CAP, LIMIT, BYTES(unfed), ROOM, FIVE(0, 1, 1, 8, 0), BYTES(set_x1x2));
+    plan("six variables, five unused", 6, CAP, LIMIT, BYTES(x4_x3), ROOM, FIVE(0, 2, 2, 23, 0), BYTES(both_sets));
 
     static const uint8_t list[] = {1, 1, 3, 0, COEFFICIENT(1), 2, 2, 3, 0, COEFFICIENT(-1)};
     wire("two that cancel", 2, BYTES(cancelling), BYTES(set_x1x2), SIRAGUMON_WIRES_BYTES, FIVE(0, 1, 2, 0, 0), BYTES(list));
@@ -186,40 +198,40 @@ static void worked(void) {
         1, 0, 8, 0, COEFFICIENT(1), 1, 1, 8, 0, COEFFICIENT(1), 7, 1, 8, 0, COEFFICIENT(2),
         7, 7, 8, 0, COEFFICIENT(2), 8, 7, 8, 0, COEFFICIENT(3), 8, 8, 8, 0, COEFFICIENT(3),
     };
-    wire("x'=x^4+x^3 of six", 6, BYTES(x4_x3), both_sets, 36, SIRAGUMON_WIRES_BYTES, FIVE(0, 2, 6, 0, 0), BYTES(panel));
+    wire("x'=x^4+x^3 of six", 6, BYTES(x4_x3), both_sets, SIRAGUMON_SET_BYTES, SIRAGUMON_WIRES_BYTES, FIVE(0, 2, 6, 0, 0), BYTES(panel));
     check("Rabinovich-Fabrikant", 3, BYTES(waves), BYTES(set_waves), FIVE(0, 3, 0, 0, 0));
 
     check("coefficient 1,000,000", 1, BYTES(coefficient_in), BYTES(empty), FIVE(0, 0, 0, 0, 0));
     refused("coefficient 1,000,001", 1, BYTES(coefficient_out), BYTES(empty), FIVE(3, 0, 0, 0, 1));
     check("exponent 9", 1, BYTES(exponent_in), BYTES(empty), FIVE(9, 0, 0, 0, 1));
     refused("exponent 10", 1, BYTES(exponent_out), BYTES(empty), FIVE(3, 0, 0, 0, 1));
-    check("32 records", 6, many, 32 * SIRAGUMON_TERM_BYTES, BYTES(empty), FIVE(0, 0, 0, 0, 0));
-    plan("32 records", 6, 6, M, many, 32 * SIRAGUMON_TERM_BYTES, MOST, FIVE(0, 0, 1, 1, 0), BYTES(empty));
+    check("32 records", 6, many, SIRAGUMON_TERMS_BYTES, BYTES(empty), FIVE(0, 0, 0, 0, 0));
+    plan("32 records", 6, CAP, LIMIT, many, SIRAGUMON_TERMS_BYTES, ROOM, FIVE(0, 0, 1, 1, 0), BYTES(empty));
     refused("33 records", 6, BYTES(many), BYTES(empty), FIVE(2, 0, 0, 0, 0));
     refused("x'=x twice", 1, BYTES(twice), BYTES(empty), FIVE(4, 0, 0, 0, 2));
 }
 
 /* Every refusal leaves zeros where junk was. */
 static void refusals(void) {
-    plan("n 0", 0, 6, M, BYTES(x3), 101, FIVE(1, 0, 0, 0, 0), NO_BYTES);
-    plan("n 7", 7, 6, M, BYTES(x3), 101, FIVE(1, 0, 0, 0, 0), NO_BYTES);
-    plan("n of 64 bits", UINT64_MAX, 6, M, BYTES(x3), 101, FIVE(1, 0, 0, 0, 0), NO_BYTES);
-    plan("cap 7", 1, 7, M, BYTES(x3), 101, FIVE(1, 0, 0, 0, 0), NO_BYTES);
-    plan("cap of 64 bits", 1, (uint64_t)1 << 32, M, BYTES(x3), 101, FIVE(1, 0, 0, 0, 0), NO_BYTES);
-    plan("limit 0", 1, 6, 0, BYTES(x3), 101, FIVE(1, 0, 0, 0, 0), NO_BYTES);
-    plan("limit 1,000,000,000", 1, 6, 1000000000, BYTES(x3), 101, FIVE(0, 1, 1, 6, 0), BYTES(set_x2));
-    plan("limit 1,000,000,001", 1, 6, 1000000001, BYTES(x3), 101, FIVE(1, 0, 0, 0, 0), NO_BYTES);
-    plan("13 bytes", 1, 6, M, x4_x3, 13, 101, FIVE(2, 0, 0, 0, 0), NO_BYTES);
-    plan("33 records", 6, 6, M, BYTES(many), 101, FIVE(2, 0, 0, 0, 0), NO_BYTES);
-    plan("exponent 10", 1, 6, M, BYTES(exponent_out), 101, FIVE(3, 0, 0, 0, 1), NO_BYTES);
-    plan("equation 2 of 1", 1, 6, M, BYTES(two), 101, FIVE(3, 0, 0, 0, 2), NO_BYTES);
-    plan("x'=x twice", 1, 6, M, BYTES(twice), 101, FIVE(4, 0, 0, 0, 2), NO_BYTES);
-    plan("spent at once", 1, 6, 1, BYTES(x3), 101, FIVE(7, 1, 0, 1, 0), NO_BYTES);
+    plan("n 0", 0, CAP, LIMIT, BYTES(x3), 101, FIVE(1, 0, 0, 0, 0), NO_BYTES);
+    plan("n above the variables", SIRAGUMON_VARIABLES + 1, CAP, LIMIT, BYTES(x3), 101, FIVE(1, 0, 0, 0, 0), NO_BYTES);
+    plan("n of 64 bits", UINT64_MAX, CAP, LIMIT, BYTES(x3), 101, FIVE(1, 0, 0, 0, 0), NO_BYTES);
+    plan("cap above the cards", 1, SIRAGUMON_CARDS + 1, LIMIT, BYTES(x3), 101, FIVE(1, 0, 0, 0, 0), NO_BYTES);
+    plan("cap of 64 bits", 1, (uint64_t)1 << 32, LIMIT, BYTES(x3), 101, FIVE(1, 0, 0, 0, 0), NO_BYTES);
+    plan("limit 0", 1, CAP, 0, BYTES(x3), 101, FIVE(1, 0, 0, 0, 0), NO_BYTES);
+    plan("limit 1,000,000,000", 1, CAP, SIRAGUMON_STEPS_MOST, BYTES(x3), 101, FIVE(0, 1, 1, 6, 0), BYTES(set_x2));
+    plan("limit 1,000,000,001", 1, CAP, SIRAGUMON_STEPS_MOST + 1, BYTES(x3), 101, FIVE(1, 0, 0, 0, 0), NO_BYTES);
+    plan("13 bytes", 1, CAP, LIMIT, x4_x3, SIRAGUMON_TERM_BYTES + 1, 101, FIVE(2, 0, 0, 0, 0), NO_BYTES);
+    plan("33 records", 6, CAP, LIMIT, BYTES(many), 101, FIVE(2, 0, 0, 0, 0), NO_BYTES);
+    plan("exponent 10", 1, CAP, LIMIT, BYTES(exponent_out), 101, FIVE(3, 0, 0, 0, 1), NO_BYTES);
+    plan("equation 2 of 1", 1, CAP, LIMIT, BYTES(two), 101, FIVE(3, 0, 0, 0, 2), NO_BYTES);
+    plan("x'=x twice", 1, CAP, LIMIT, BYTES(twice), 101, FIVE(4, 0, 0, 0, 2), NO_BYTES);
+    plan("spent at once", 1, CAP, 1, BYTES(x3), 101, FIVE(7, 1, 0, 1, 0), NO_BYTES);
 
     refused("n 0", 0, BYTES(x3), BYTES(set_x2), FIVE(1, 0, 0, 0, 0));
-    refused("n 7", 7, BYTES(x3), BYTES(set_x2), FIVE(1, 0, 0, 0, 0));
-    refused("13 bytes", 1, x4_x3, 13, BYTES(set_x2), FIVE(2, 0, 0, 0, 0));
-    refused("a set of 35 bytes", 1, BYTES(x3), set_x2, 35, FIVE(2, 0, 0, 0, 0));
+    refused("n above the variables", SIRAGUMON_VARIABLES + 1, BYTES(x3), BYTES(set_x2), FIVE(1, 0, 0, 0, 0));
+    refused("13 bytes", 1, x4_x3, SIRAGUMON_TERM_BYTES + 1, BYTES(set_x2), FIVE(2, 0, 0, 0, 0));
+    refused("a set that lacks a byte", 1, BYTES(x3), set_x2, SIRAGUMON_SET_BYTES - 1, FIVE(2, 0, 0, 0, 0));
     refused("two sets", 1, BYTES(x3), BYTES(both_sets), FIVE(2, 0, 0, 0, 0));
     refused("a single variable", 1, BYTES(x3), BYTES(set_x1), FIVE(8, 0, 0, 0, 0));
     refused("a falling set", 1, BYTES(x3), BYTES(falling), FIVE(8, 0, 0, 0, 0));
@@ -230,33 +242,35 @@ static void refusals(void) {
 static void lengths(void) {
     static const uint8_t list[] = {1, 1, 2, 0, COEFFICIENT(1), 2, 2, 2, 0, COEFFICIENT(2)};
     for (size_t room = 0; room <= 80; room++) {
-        if (room < 36)
-            plan("x'=x^3, no room", 1, 6, M, BYTES(x3), room, FIVE(6, 1, 0, 6, 0), NO_BYTES);
+        if (room < SIRAGUMON_SET_BYTES)
+            plan("x'=x^3, no room", 1, CAP, LIMIT, BYTES(x3), room, FIVE(6, 1, 0, 6, 0), NO_BYTES);
         else
-            plan("x'=x^3, room", 1, 6, M, BYTES(x3), room, FIVE(0, 1, 1, 6, 0), BYTES(set_x2));
-        if (room < 16)
+            plan("x'=x^3, room", 1, CAP, LIMIT, BYTES(x3), room, FIVE(0, 1, 1, 6, 0), BYTES(set_x2));
+        if (room < sizeof list)
             wire("x'=x^3, no room", 1, BYTES(x3), BYTES(set_x2), room, FIVE(6, 1, 0, 0, 0), NO_BYTES);
         else
             wire("x'=x^3, room", 1, BYTES(x3), BYTES(set_x2), room, FIVE(0, 1, 2, 0, 0), BYTES(list));
     }
-    plan("x'=x^4+x^3, room 2", 1, 6, M, BYTES(x4_x3), 72, FIVE(0, 2, 2, 23, 0), BYTES(both_sets));
+    plan("x'=x^4+x^3, room 2", 1, CAP, LIMIT, BYTES(x4_x3), 2 * SIRAGUMON_SET_BYTES, FIVE(0, 2, 2, 23, 0), BYTES(both_sets));
 
     static const uint8_t six[] = {
         1, 0, 2, 0, COEFFICIENT(1), 1, 0, 3, 0, COEFFICIENT(1), 2, 1, 3, 0, COEFFICIENT(3),
         2, 2, 2, 0, COEFFICIENT(3), 3, 2, 2, 0, COEFFICIENT(4), 3, 2, 3, 0, COEFFICIENT(4),
     };
-    wire("{x^3, x^4}, 47 bytes", 1, BYTES(x4_x3), both_sets + 36, 36, 47, FIVE(6, 2, 0, 0, 0), NO_BYTES);
-    wire("{x^3, x^4}, 48 bytes", 1, BYTES(x4_x3), both_sets + 36, 36, 48, FIVE(0, 2, 6, 0, 0), BYTES(six));
+    const uint8_t *second = both_sets + SIRAGUMON_SET_BYTES;
+    size_t len = SIRAGUMON_SET_BYTES;
+    wire("{x^3, x^4}, 47 bytes", 1, BYTES(x4_x3), second, len, sizeof six - 1, FIVE(6, 2, 0, 0, 0), NO_BYTES);
+    wire("{x^3, x^4}, 48 bytes", 1, BYTES(x4_x3), second, len, sizeof six, FIVE(0, 2, 6, 0, 0), BYTES(six));
 }
 
 /* Where the length is 0, NULL will do. */
 static void null(void) {
     cases += 5;
     lend_row();
-    siragumon_plan(1, 6, M, NULL, 0, NULL, 0, row + 1);
+    siragumon_plan(1, CAP, LIMIT, NULL, 0, NULL, 0, row + 1);
     expect_row("NULL terms and buffer", FIVE(6, 0, 0, 1, 0));
     lend_row();
-    siragumon_plan(1, 6, M, x3, sizeof x3, NULL, 0, row + 1);
+    siragumon_plan(1, CAP, LIMIT, x3, sizeof x3, NULL, 0, row + 1);
     expect_row("NULL buffer", FIVE(6, 1, 0, 6, 0));
     lend_row();
     siragumon_check(1, NULL, 0, NULL, 0, row + 1);
@@ -269,17 +283,18 @@ static void null(void) {
     expect_row("a list into NULL", FIVE(6, 1, 0, 0, 0));
 }
 
-/* Record i is equation 1 + i / 6 with x1, .., x5 or x1^2: each system of them is quadratic as it is. */
+/* Each equation in turn gets all variables but the last, and x1^2: each system of them is quadratic as it is. */
 static void fill_many(void) {
-    for (int i = 0; i < 33; i++) {
-        uint8_t *r = many + SIRAGUMON_TERM_BYTES * i;
+    for (int i = 0; i < MANY; i++) {
+        uint8_t *r = many + SIRAGUMON_TERM_BYTES * i, *exponents = r + 2;
+        int equation = i / SIRAGUMON_VARIABLES, variable = i % SIRAGUMON_VARIABLES;
         for (int j = 0; j < SIRAGUMON_TERM_BYTES; j++) r[j] = 0;
-        r[0] = (uint8_t)(1 + i / 6);
-        if (i % 6 < 5)
-            r[2 + i % 6] = 1;
+        r[0] = (uint8_t)(1 + equation);
+        if (variable < SIRAGUMON_VARIABLES - 1)
+            exponents[variable] = 1;
         else
-            r[2] = 2;
-        r[8] = 1;
+            exponents[0] = 2;
+        exponents[SIRAGUMON_VARIABLES] = 1; /* the coefficient's low byte */
     }
 }
 

@@ -1,6 +1,7 @@
 -- How long the pieces of a line can be. Assumes nothing.
 use Prim.Native.Nat.{ℕ, suc, _*_}
-use Rattle.wiring.specs.Panel.{width, cards}
+use Rattle.monomial.specs.Monomial.{width}
+use Rattle.wiring.specs.Panel.{cards}
 
 -- a number below 2^64 in decimal; and with a byte before it, its sign or what joins it to the number before
 abbrev pub numberBytes : ℕ

@@ -9,9 +9,10 @@ use borrow.Author.Tests.{leb-true, leb-false}
 use lib.Dec.{T, leb, ltb, ltb→lt, lt→ltb}
 use lib.ListN.{length, getD, length-map}
 use Rattle.monomial.specs.Lists.{any, place, below}
+use Rattle.monomial.specs.Claims.{_∈_, Ascending, empty, first}
 use Rattle.monomial.proofs.Tests.{Tested, passed, failed, test, is→T, is→nT, or-e}
-use Rattle.monomial.proofs.Members.{_∈_, here, there}
-use Rattle.monomial.proofs.order.Ascending.{Ascending, empty, first, map-asc}
+use Rattle.monomial.proofs.Members.{here, there}
+use Rattle.monomial.proofs.order.Ascending.{map-asc}
 
 -- ---- 0, 1, .. below n
 pub below-in : (n i : ℕ) → i < n → i ∈ below n

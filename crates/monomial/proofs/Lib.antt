@@ -2,6 +2,8 @@
 pub mod Tests
 pub mod Members
 pub mod Rearranged
+pub mod Variables
+pub mod Within
 pub mod Counting
 pub mod Loops
 pub mod Strips

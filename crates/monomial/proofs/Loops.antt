@@ -213,3 +213,33 @@ module _ {A : Type 0} (f : A → A → A) where
       let first : f x y ≡ f x z = cc in
       let rest : pointwise f a b ≡ pointwise f a c = cc in
       ap₂ _∷_ (r x y z first) (pointwise-cancel r a b c (omega arith) (omega arith) rest)
+
+  -- by every place, where an entry beyond the end is one that f leaves
+  pub pointwise-everywhere : (d : A) → f d d ≡ d → (a b : List A) (i : ℕ) → length a ≡ length b → getD (pointwise f a b) i d ≡ f (getD a i d) (getD b i d)
+  unfolding pointwise
+  pointwise-everywhere d u [] [] i h = sym u
+  pointwise-everywhere d u [] (y ∷ b) i h = let o : ⊥ = omega arith in absurd o
+  pointwise-everywhere d u (x ∷ a) [] i h = let o : ⊥ = omega arith in absurd o
+  pointwise-everywhere d u (x ∷ a) (y ∷ b) zero h = refl
+  pointwise-everywhere d u (x ∷ a) (y ∷ b) (suc i) h = pointwise-everywhere d u a b i (omega arith)
+
+  -- a change of one entry before f is that change after it, where g passes through f
+  pub pointwise-change : (g : A → A) (d : A) (a b : List A) (i : ℕ) → ((x : A) → f x (g (getD b i d)) ≡ g (f x (getD b i d)))
+      → pointwise f a (set b i (g (getD b i d))) ≡ set (pointwise f a b) i (g (getD (pointwise f a b) i d))
+  unfolding pointwise
+  pointwise-change g d [] b i h = refl
+  pointwise-change g d (x ∷ a) [] i h = refl
+  pointwise-change g d (x ∷ a) (y ∷ b) zero h = ap (λ z. z ∷ pointwise f a b) (h x)
+  pointwise-change g d (x ∷ a) (y ∷ b) (suc i) h = ap (_∷_ (f x y)) (pointwise-change g d a b i h)
+
+  -- a list of units with one other entry changes one entry
+  pub pointwise-raise : (u : A) → ((x : A) → f u x ≡ x) → (a : List A) (i : ℕ) (s : A) → i < length a
+      → pointwise f (set (replicate (length a) u) i s) a ≡ set a i (f s (getD a i u))
+  unfolding pointwise
+  pointwise-raise u r [] i s h = let o : ⊥ = omega arith in absurd o
+  pointwise-raise u r (x ∷ a) zero s h = ap (_∷_ (f s x)) (units a)
+    where
+      units : (b : List A) → pointwise f (replicate (length b) u) b ≡ b
+      units [] = refl
+      units (y ∷ b) = ap₂ _∷_ (r y) (units b)
+  pointwise-raise u r (x ∷ a) (suc i) s h = ap₂ _∷_ (r x) (pointwise-raise u r a i s (omega arith))

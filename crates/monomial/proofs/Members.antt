@@ -2,19 +2,16 @@
 use mathlib.Core.Path.{_≡_, refl, sym, ap, ap₂, subst, _∙_}
 use mathlib.Core.Logic.{⊎-elim}
 use mathlib.Core.Bool.{Bool}
-use mathlib.Core.List.{List, [], _∷_, List·Memᴰ, List·Memᴰ·head, List·Memᴰ·tail, List·Memᴰ·cases-cons, List·Memᴰ·not-nil, List·Memᴰ·append-cases, Memᴰ·append-left, Memᴰ·append-right, _++_, map, append-assoc}
+use mathlib.Core.List.{List, [], _∷_, List·Memᴰ·head, List·Memᴰ·tail, List·Memᴰ·cases-cons, List·Memᴰ·not-nil, List·Memᴰ·append-cases, Memᴰ·append-left, Memᴰ·append-right, _++_, map, append-assoc}
 use lib.ListN.{length, getD, take, replicate}
 use Prim.Native.Nat.{ℕ, zero, suc, _<_, _≤_}
 use native.Mathlib.Omega.{arith}
 use lib.Dec.{T}
 use Rattle.monomial.specs.Lists.{any, some, all, keep, gather}
+use Rattle.monomial.specs.Claims.{_∈_}
 use Rattle.monomial.proofs.Tests.{and-l, and-r, and-i, or-l, or-r, or-e, cond-cases, T→is, nT→is, Tested, passed, failed, test}
 
 module _ {A : Type 0} where
-  abbrev pub _∈_ : A → List A → Type 0
-  x ∈ l = List·Memᴰ x l
-
-  infix 40 _∈_
   pub here : {x : A} {l : List A} → x ∈ (x ∷ l)
   here = List·Memᴰ·head refl
 
@@ -184,3 +181,10 @@ pub take-in : {A : Type 0} (n : ℕ) (l : List A) {x : A} → x ∈ take n l →
 take-in zero l h = absurd (List·Memᴰ·not-nil h)
 take-in (suc n) [] h = h
 take-in (suc n) (y ∷ l) h = ⊎-elim (λ e. List·Memᴰ·head e) (λ k. there (take-in n l k)) (List·Memᴰ·cases-cons h)
+
+-- the first entries are among more of them
+pub take-more : {A : Type 0} (a b : ℕ) (l : List A) → a ≤ b → {x : A} → x ∈ take a l → x ∈ take b l
+take-more zero b l h k = absurd (List·Memᴰ·not-nil k)
+take-more (suc a) zero l h k = let z : ⊥ = omega arith in absurd z
+take-more (suc a) (suc b) [] h k = k
+take-more (suc a) (suc b) (y ∷ l) h k = ⊎-elim (λ e. List·Memᴰ·head e) (λ j. there (take-more a b l (omega arith) j)) (List·Memᴰ·cases-cons k)

@@ -2,12 +2,8 @@
 use mathlib.Core.Path.{_≡_, refl, sym, subst}
 use mathlib.Core.Logic.{_⊎_, inl, inr, ⊎-elim}
 use mathlib.Core.List.{List, [], _∷_, _++_, List·Memᴰ·head, List·Memᴰ·cases-cons, List·Memᴰ·not-nil, Memᴰ·append-left, Memᴰ·append-right, List·Memᴰ·append-cases}
-use Rattle.monomial.proofs.Members.{_∈_, there}
-
--- the first entry stands between two parts, which together are the rest in another order
-abbrev pub Rearranged : {A : Type 0} → List A → List A → Type 0
-Rearranged [] l' = l' ≡ []
-Rearranged {A} (x ∷ l) l' = (front : List A) × (back : List A) × (l' ≡ front ++ (x ∷ back)) × Rearranged l (front ++ back)
+use Rattle.monomial.specs.Claims.{_∈_, Rearranged}
+use Rattle.monomial.proofs.Members.{there}
 
 module _ {A : Type 0} where
   between-in : (front back : List A) (x : A) {y : A} → (y ≡ x) ⊎ (y ∈ (front ++ back)) → y ∈ (front ++ (x ∷ back))

@@ -7,7 +7,8 @@ use native.Mathlib.Nat.{mul-suc, mul-zero}
 use lib.ListN.{length, getD, take, drop, length-append, take-append-drop}
 use lib.Seq.{drop-cons, take-at, drop-at, length-take-le}
 use Rattle.monomial.specs.Lists.{gather}
-use Rattle.monomial.proofs.Members.{_∈_, here, there, take-in, gather-append}
+use Rattle.monomial.specs.Claims.{_∈_}
+use Rattle.monomial.proofs.Members.{here, there, take-in, gather-append}
 use Rattle.monomial.proofs.Counting.{at-in}
 
 module _ {A : Type 0} (f : A → List ℕ) (w : ℕ) where

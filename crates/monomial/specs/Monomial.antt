@@ -1,4 +1,4 @@
--- A monomial is the list of its exponents, that of x1 first. Its width is the number of variables; six on the panel.
+-- A monomial is the list of its exponents, that of x1 first. Its width is the number of variables.
 -- Assumes nothing.
 use mathlib.Core.List.{List, [], _∷_, map}
 use Prim.Native.Nat.{ℕ, zero, suc}
@@ -6,6 +6,10 @@ use lib.ListN.{replicate}
 
 abbrev pub Mono : Type 0
 Mono = List ℕ
+
+-- the panel's variables: so many exponents has a monomial of the panel
+abbrev pub width : ℕ
+width = 6
 
 -- the constant 1
 abbrev pub one : ℕ → Mono

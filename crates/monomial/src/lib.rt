@@ -12,7 +12,7 @@ pub mod width;
 use width::WIDTH;
 ghost use mathlib.Core.Path.{_≡_};
 ghost use lib.ListN.{getD};
-ghost use Rattle.monomial.specs.Monomial.{one, constants};
+ghost use Rattle.monomial.specs.Monomial.{one, constants, width};
 
 pub struct Monomial {
     pub e: [u8; WIDTH],
@@ -56,7 +56,7 @@ impl Monomial {
 
     // The constant of a signal number: 1 for 0, then x1 to x6; 1 again for a number that no variable has.
     pub fn constant(i: usize) -> Monomial
-        ensures { λ r. ⌜ r .e ≡ getD (constants 6) i (one 6) ⌝ }
+        ensures { λ r. ⌜ r .e ≡ getD (constants width) i (one width) ⌝ }
     {
         match i {
             1 => Monomial::X1,

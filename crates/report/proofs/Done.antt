@@ -17,9 +17,10 @@ use Rattle.wiring.specs.Wires.{Wire, wireRecord, wireList}
 use Rattle.wiring.specs.Answers.{wired}
 use Rattle.wiring.specs.declared.reply.Reply.{Reply}
 use Rattle.wiring.specs.declared.reply.Reply.the-variants.{Done}
+use Rattle.wiring.specs.Claims.{listIn}
 use Rattle.wiring.proofs.wires.Sheets.{list-length}
 use Rattle.wiring.proofs.wires.Correct.{list-at}
-use Rattle.wiring.proofs.answers.Wired.{listIn, wire-length}
+use Rattle.wiring.proofs.answers.Wired.{wire-length}
 use Rattle.walk.specs.Walk.{Finds}
 use Rattle.walk.specs.Plan.{planned}
 use Rattle.walk.proofs.plan.Exact.{plan-finds, plan-length}

@@ -1,5 +1,6 @@
 -- Document 01's program: n = 6, K = 6, limit 1,000,000, 1,000 sets of room, and the first set wired. Assumes nothing.
-use Rattle.wiring.specs.Panel.{width, cards}
+use Rattle.monomial.specs.Monomial.{width}
+use Rattle.wiring.specs.Panel.{cards}
 use Rattle.report.specs.declared.prepare.Settings.{Settings}
 
 abbrev pub program : Settings

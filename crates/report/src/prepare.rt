@@ -1,11 +1,11 @@
 // Plans and wires once, into lent buffers: what the lines of a report are made of.
 use walk::plan;
 use wiring::answers;
+use wiring::buffer;
 use wiring::panel::SET_BYTES;
 use wiring::panel::WIRES_BYTES;
 use wiring::reply;
 use wiring::reply::Reply;
-use wiring::wires;
 ghost use mathlib.Core.Path.{_≡_};
 ghost use Prim.Native.Nat.{_*_, _≤_, min};
 ghost use lib.ListN.{length};
@@ -46,7 +46,7 @@ fn wire_set(
     requires { ⌜ setBytes * count ≤ length (now sets) ⌝ }
     ensures { λ r. ⌜ counted r (now (out .exit)) ≡ wiringOf n (now (terms .entry)) which count (now (sets .entry)) ⌝ }
 {
-    wires::clear(out);
+    buffer::clear(out);
     if which < 1 {
         return 0;
     }

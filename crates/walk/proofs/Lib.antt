@@ -1,6 +1,8 @@
 -- Laws that belong to no module of src/. Those of a module stand under its name.
 pub mod Rules
 pub mod Steps
+pub mod Openings
+pub mod Limits
 pub mod Sound
 pub mod Complete
 pub mod Runs

@@ -2,35 +2,28 @@
 use mathlib.Core.Path.{_≡_, refl, sym, subst}
 use mathlib.Core.Logic.{_⊎_, inl, inr, ⊎-elim}
 use mathlib.Core.Bool.{Bool, true, false, _&&_, _||_}
-use mathlib.Core.List.{List, [], List·Memᴰ·not-nil, Memᴰ·cast}
-use Prim.Native.Nat.{ℕ, _+_, _-_, _<_, _≤_}
+use mathlib.Core.List.{List, List·Memᴰ·not-nil, Memᴰ·cast}
+use Prim.Native.Nat.{ℕ, _-_, _<_, _≤_}
 use borrow.Author.Tests.{lt-leb, leb-true, leb-false}
 use lib.Dec.{T, leb, leb→le, le→leb}
 use lib.ListN.{length}
 use Rattle.monomial.specs.Lists.{any}
-use Rattle.monomial.specs.Monomial.{Mono}
-use Rattle.monomial.specs.Order.{same, before}
+use Rattle.monomial.specs.Monomial.{Mono, width}
+use Rattle.monomial.specs.Order.{same}
 use Rattle.monomial.specs.Divisors.{pairs}
+use Rattle.monomial.specs.Claims.{_∈_, _⊆_}
 use Rattle.monomial.proofs.Tests.{Tested, passed, failed, test, T→is, is→T, is→nT, and-l, and-r, and-i, or-l, or-r, or-e}
-use Rattle.monomial.proofs.Members.{_∈_}
-use Rattle.monomial.proofs.Rearranged.{Rearranged, rearranged-self, rearranged-in, rearranged-out}
+use Rattle.monomial.proofs.Rearranged.{rearranged-self, rearranged-in, rearranged-out}
 use Rattle.monomial.proofs.order.Laws.{mono-order}
-use Rattle.monomial.proofs.order.Ascending.{_⊆_, Ascending, among-in, among-out}
+use Rattle.monomial.proofs.order.Ascending.{among-in, among-out}
 use Rattle.wiring.specs.Poly.{Poly}
 use Rattle.wiring.specs.Signals.{signals}
-use Rattle.wiring.specs.Answers.{missing}
 use Rattle.wiring.proofs.signals.Laws.{set-in}
 use Rattle.walk.specs.Walk.{Rules, bare, child, opens, ends}
+use Rattle.walk.specs.Claims.{Orderly, Extends, Counts, Sparing}
 use Rattle.walk.proofs.children.Laws.{child-sub, Grown, old, left, right, child-out, Placed, was, now, child-left, child-right}
 
--- monomials of six exponents
-abbrev pub Wide : List Mono → Type 0
-Wide s = (m : Mono) → m ∈ s → length m ≡ 6
-
 -- ---- the pairs that are tried are those of the nonsquare, in some order
-abbrev pub Orderly : Rules → Type 0
-Orderly r = (v : List Mono) (m : Mono) → Rearranged (pairs m) (r .tries v m)
-
 module _ (r : Rules) (o : Orderly r) (v : List Mono) (m : Mono) (p : Mono × Mono) where
   pub tries-in : p ∈ pairs m → p ∈ r .tries v m
   tries-in h = rearranged-in (pairs m) (r .tries v m) (o v m) p h
@@ -39,14 +32,6 @@ module _ (r : Rules) (o : Orderly r) (v : List Mono) (m : Mono) (p : Mono × Mon
   tries-out h = rearranged-out (pairs m) (r .tries v m) (o v m) p h
 
 -- ---- what may be added: t holds s, and each of its further monomials may be
-pub record Extends (r : Rules) (s t : List Mono) : Type 0 where
-  pub holds : s ⊆ t
-  pub may : (m : Mono) → m ∈ t → (m ∈ s) ⊎ T (r .may m)
-
--- the lists of which the rules speak: those that hold the start and besides only what may be
-abbrev pub Counts : Rules → List Mono → Type 0
-Counts r s = Extends r (r .start) s
-
 module _ (r : Rules) where
   pub extends-self : (s : List Mono) → Extends r s s
   extends-self s = record { holds = λ x h. h; may = λ x h. inl h }
@@ -68,16 +53,16 @@ module _ (r : Rules) where
 -- a child is opened exactly where what it adds may be, and it has at most k monomials
 module _ (r : Rules) (n k : ℕ) (s : List Mono) (p : Mono × Mono) where
   abbrev fine : Mono → Bool
-  fine m = r .may m || any (same m) (signals 6 n s)
+  fine m = r .may m || any (same m) (signals width n s)
 
   pub opens-fits : T (opens r n k s p) → length (child n s p) ≤ k
   unfolding opens
   opens-fits t = leb→le (length (child n s p)) k (search (and-l, and-r, t))
 
-  fine-new : (m x : Mono) → x ≡ m → (x ∈ signals 6 n s → ⊥) → T (fine m) → T (r .may x)
+  fine-new : (m x : Mono) → x ≡ m → (x ∈ signals width n s → ⊥) → T (fine m) → T (r .may x)
   fine-new m x e f t =
-      ⊎-elim (λ y. subst (λ (z : Mono). T (r .may z)) (sym e) y) (λ y. absurd (f (Memᴰ·cast e (among-out mono-order m (signals 6 n s) y))))
-      (or-e (r .may m) (any (same m) (signals 6 n s)) t)
+      ⊎-elim (λ y. subst (λ (z : Mono). T (r .may z)) (sym e) y) (λ y. absurd (f (Memᴰ·cast e (among-out mono-order m (signals width n s) y))))
+      (or-e (r .may m) (any (same m) (signals width n s)) t)
 
   pub opens-extends : T (opens r n k s p) → Extends r s (child n s p)
   unfolding opens
@@ -88,9 +73,9 @@ module _ (r : Rules) (n k : ℕ) (s : List Mono) (p : Mono × Mono) where
       go x (left e f) = inr (fine-new (p .0) x e f (search (and-l, and-r, t)))
       go x (right e f) = inr (fine-new (p .1) x e f (search (and-l, and-r, t)))
 
-  fine-of : (m : Mono) → Extends r s (child n s p) → Placed (signals 6 n s) m (child n s p) → T (fine m)
-  fine-of m e (was h) = or-r (r .may m) (any (same m) (signals 6 n s)) (among-in mono-order h)
-  fine-of m e (now f h) = or-l (r .may m) (any (same m) (signals 6 n s)) (⊎-elim (λ i. absurd (f (set-in n s i))) (λ y. y) (e .may m h))
+  fine-of : (m : Mono) → Extends r s (child n s p) → Placed (signals width n s) m (child n s p) → T (fine m)
+  fine-of m e (was h) = or-r (r .may m) (any (same m) (signals width n s)) (among-in mono-order h)
+  fine-of m e (now f h) = or-l (r .may m) (any (same m) (signals width n s)) (⊎-elim (λ i. absurd (f (set-in n s i))) (λ y. y) (e .may m h))
 
   pub opens-is : Extends r s (child n s p) → length (child n s p) ≤ k → opens r n k s p ≡ true
   unfolding opens
@@ -102,13 +87,13 @@ module _ (r : Rules) (n k : ℕ) (s : List Mono) (p : Mono × Mono) where
 
 -- a set that is not closed, and has fewer than k monomials, goes on
 module _ (r : Rules) (n k : ℕ) (s ns : List Mono) where
-  pub goes-on : length s < k → r .closed (k - length s) (signals 6 n s) ns ≡ false → ends r n k s ns ≡ false
+  pub goes-on : length s < k → r .closed (k - length s) (signals width n s) ns ≡ false → ends r n k s ns ≡ false
   unfolding ends
   goes-on h e = rw (e, lt-leb k (length s) h)
 
   pub at-its-level : k ≤ length s → ends r n k s ns ≡ true
   unfolding ends
-  at-its-level h = T→is (ends r n k s ns) (or-r (r .closed (k - length s) (signals 6 n s) ns) (leb k (length s)) (le→leb k (length s) h))
+  at-its-level h = T→is (ends r n k s ns) (or-r (r .closed (k - length s) (signals width n s) ns) (leb k (length s)) (le→leb k (length s) h))
 
   pub below-its-level : ends r n k s ns ≡ false → length s < k
   below-its-level e = go (test (leb k (length s)))
@@ -116,11 +101,6 @@ module _ (r : Rules) (n k : ℕ) (s ns : List Mono) where
       go : Tested (leb k (length s)) → length s < k
       go (passed t) = absurd (is→nT (ends r n k s ns) e (is→T (ends r n k s ns) (at-its-level (leb-true k (length s) t))))
       go (failed t) = leb-false k (length s) t
-
--- ---- closing leaves out nothing: a closed set is in no quadratic set for which there is room and whose further monomials may be
-abbrev pub Sparing : Rules → ℕ → List (Poly Mono) → Type 0
-Sparing r n fs = (room : ℕ) (s t : List Mono) → Ascending before s → Ascending before t → Wide t → Extends r s t → missing n fs t ≡ [] → length t ≤ length s + room
-    → r .closed room (signals 6 n s) (missing n fs s) ≡ true → ⊥
 
 -- ---- document 01's rules
 pub bare-orderly : Orderly bare

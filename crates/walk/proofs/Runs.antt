@@ -2,7 +2,6 @@
 -- is no room. Assumes nothing.
 use mathlib.Core.Path.{_≡_, refl, sym, ap, ap₂, _∙_, subst}
 use mathlib.Core.Logic.{_↔_, _⊎_, inl, inr, ⊎-elim}
-use mathlib.Core.Bool.{cond}
 use mathlib.Core.List.{List, [], _∷_, List·Memᴰ·head, List·Memᴰ·cases-cons, List·Memᴰ·not-nil}
 use Prim.Native.Nat.{ℕ, zero, suc, _+_, _-_, _<_, _≤_}
 use native.Mathlib.Omega.{arith}
@@ -13,31 +12,20 @@ use lib.Seq.{take-all}
 use Rattle.monomial.specs.Lists.{any, insertBy}
 use Rattle.monomial.specs.Monomial.{Mono}
 use Rattle.monomial.specs.Order.{sameSet, beforeSet}
+use Rattle.monomial.specs.Claims.{_∈_, _⊆_, Ascending, empty}
 use Rattle.monomial.proofs.Tests.{Tested, passed, failed, test, is→nT, cond-cases}
-use Rattle.monomial.proofs.Members.{_∈_, there}
+use Rattle.monomial.proofs.Members.{there}
 use Rattle.monomial.proofs.order.Laws.{set-order}
-use Rattle.monomial.proofs.order.Ascending.{_⊆_, Ascending, empty, insert-out, insert-new, insert-old, insert-asc, insert-length, among-in, among-out}
+use Rattle.monomial.proofs.order.Ascending.{insert-out, insert-new, insert-old, insert-asc, insert-length, among-in, among-out}
 use Rattle.walk.specs.Walk.{Finds, Step, found, other, Run, ended, spent, full, kept, onward, run}
+use Rattle.walk.specs.Claims.{noted, listed, distinct, RunEnds, RunStops, RunFills, RunFate}
 use Rattle.walk.proofs.Steps.{run-stops, run-other, run-found}
 
 -- ---- the sets that steps find, ascending, each once
--- with one step more
-unfoldable pub noted : Step → Finds → Finds
-noted other finds = finds
-noted (found s) finds = cond (any (sameSet s) finds) finds (insertBy sameSet beforeSet s finds)
-
--- with those found before
-unfoldable pub listed : Finds → List Step → Finds
-listed finds [] = finds
-listed finds (e ∷ es) = listed (noted e finds) es
-
-abbrev pub distinct : List Step → Finds
-distinct es = listed [] es
-
 -- a step finds one set or none
 noted-length : (e : Step) (finds : Finds) → (length finds ≤ length (noted e finds)) × (length (noted e finds) ≤ suc (length finds))
 unfolding noted
-noted-length other finds = (omega arith, omega arith)
+noted-length (other t) finds = (omega arith, omega arith)
 noted-length (found s) finds = go (test (any (sameSet s) finds))
   where
     go : Tested (any (sameSet s) finds) → (length finds ≤ length (noted (found s) finds)) × (length (noted (found s) finds) ≤ suc (length finds))
@@ -68,13 +56,13 @@ listed-more (e ∷ es) finds (suc a) (suc b) h = listed-more es (noted e finds) 
 -- they ascend, those found before stay, and each is one of these or a find of the steps
 noted-asc : (e : Step) (finds : Finds) → Ascending beforeSet finds → Ascending beforeSet (noted e finds)
 unfolding noted
-noted-asc other finds a = a
+noted-asc (other t) finds a = a
 noted-asc (found s) finds a =
     cond-cases (Ascending beforeSet) (any (sameSet s) finds) finds (insertBy sameSet beforeSet s finds) (λ t. a) (λ f. insert-asc set-order s finds a)
 
 noted-keeps : (e : Step) (finds : Finds) → finds ⊆ noted e finds
 unfolding noted
-noted-keeps other finds x h = h
+noted-keeps (other t) finds x h = h
 noted-keeps (found s) finds x h =
     cond-cases (λ r. x ∈ r) (any (sameSet s) finds) finds (insertBy sameSet beforeSet s finds) (λ t. h) (λ f. insert-old set-order s finds h)
 
@@ -86,7 +74,7 @@ noted-new s finds =
 
 noted-out : (e : Step) (finds : Finds) (x : List Mono) → x ∈ noted e finds → (x ∈ finds) ⊎ (found x ≡ e)
 unfolding noted
-noted-out other finds x = λ h. inl h
+noted-out (other t) finds x = λ h. inl h
 noted-out (found s) finds x =
     cond-cases (λ r. x ∈ r → (x ∈ finds) ⊎ (found x ≡ found s)) (any (sameSet s) finds) finds (insertBy sameSet beforeSet s finds)
     (λ t h. inl h)
@@ -135,7 +123,7 @@ module _ (limit room : ℕ) where
   step-on : (e : Step) (es : List Step) (taken : ℕ) (finds : Finds) → taken < limit → length finds ≤ room → length (noted e finds) ≤ room
       → run limit room (e ∷ es) taken finds ≡ run limit room es (suc taken) (noted e finds)
   unfolding noted kept onward
-  step-on other es taken finds h r f = run-other limit room es taken finds h
+  step-on (other t) es taken finds h r f = run-other limit room es taken finds t h
   step-on (found s) es taken finds h r f = run-found limit room es taken finds s h ∙ go (test (any (sameSet s) finds))
     where
       go : Tested (any (sameSet s) finds) → onward (kept room s (suc taken) finds) (run limit room es) ≡ run limit room es (suc taken) (noted (found s) finds)
@@ -150,7 +138,7 @@ module _ (limit room : ℕ) where
   step-full : (e : Step) (es : List Step) (taken : ℕ) (finds : Finds) → taken < limit → length finds ≤ room → room < length (noted e finds)
       → run limit room (e ∷ es) taken finds ≡ full (suc taken)
   unfolding noted kept onward
-  step-full other es taken finds h r f = let z : ⊥ = omega arith in absurd z
+  step-full (other t) es taken finds h r f = let z : ⊥ = omega arith in absurd z
   step-full (found s) es taken finds h r f = run-found limit room es taken finds s h ∙ go (test (any (sameSet s) finds))
     where
       go : Tested (any (sameSet s) finds) → onward (kept room s (suc taken) finds) (run limit room es) ≡ full (suc taken)
@@ -162,34 +150,8 @@ module _ (limit room : ℕ) where
           let all : room ≤ length finds = omega arith in
           rw (b, le-leb room (length finds) all)
 
-  -- all steps are taken, and all finds have room
-  pub record RunEnds (es : List Step) (taken : ℕ) (finds : Finds) (t : ℕ) (l : Finds) : Type 0 where
-    pub steps : t ≡ taken + length es
-    pub within : t ≤ limit
-    pub sets : l ≡ listed finds es
-    pub roomy : length l ≤ room
-
-  -- there are more steps than the limit allows, and all finds up to it have room
-  pub record RunStops (es : List Step) (taken : ℕ) (finds : Finds) : Type 0 where
-    pub over : limit < taken + length es
-    pub roomy : length (listed finds (take (limit - taken) es)) ≤ room
-
-  -- a step within the limit finds the first set for which there is no room
-  pub record RunFills (es : List Step) (taken : ℕ) (finds : Finds) (t : ℕ) : Type 0 where
-    pub at : ℕ
-    pub inside : at < length es
-    pub steps : t ≡ taken + suc at
-    pub within : t ≤ limit
-    pub filled : length (listed finds (take at es)) ≡ room
-    pub more : length (listed finds (take (suc at) es)) ≡ suc room
-
-  abbrev pub RunFate : List Step → ℕ → Finds → Run → Type 0
-  RunFate es taken finds (ended t l) = RunEnds es taken finds t l
-  RunFate es taken finds spent = RunStops es taken finds
-  RunFate es taken finds (full t) = RunFills es taken finds t
-
   -- one step before a run
-  earlier : (e : Step) (es : List Step) (taken : ℕ) (finds : Finds) (r : Run) → taken < limit → RunFate es (suc taken) (noted e finds) r → RunFate (e ∷ es) taken finds r
+  earlier : (e : Step) (es : List Step) (taken : ℕ) (finds : Finds) (r : Run) → taken < limit → RunFate limit room es (suc taken) (noted e finds) r → RunFate limit room (e ∷ es) taken finds r
   unfolding listed
   earlier e es taken finds (ended t l) h f = let s : t ≡ suc taken + length es = f .steps in record { steps = omega arith; within = f .within; sets = f .sets; roomy = f .roomy }
   earlier e es taken finds spent h f =
@@ -201,38 +163,38 @@ module _ (limit room : ℕ) where
       let i : f .at < length es = f .inside in
       record { at = suc (f .at); inside = omega arith; steps = omega arith; within = f .within; filled = f .filled; more = f .more }
 
-  run-fate : (es : List Step) (taken : ℕ) (finds : Finds) → taken ≤ limit → length finds ≤ room → RunFate es taken finds (run limit room es taken finds)
+  run-fate : (es : List Step) (taken : ℕ) (finds : Finds) → taken ≤ limit → length finds ≤ room → RunFate limit room es taken finds (run limit room es taken finds)
   unfolding run listed
   run-fate [] taken finds h r = record { steps = omega arith; within = h; sets = refl; roomy = r }
   run-fate (e ∷ es) taken finds h r = go (test (leb limit taken)) (test (leb (length (noted e finds)) room)) (run-fate es (suc taken) (noted e finds))
     where
       go : Tested (leb limit taken) → Tested (leb (length (noted e finds)) room)
-          → (suc taken ≤ limit → length (noted e finds) ≤ room → RunFate es (suc taken) (noted e finds) (run limit room es (suc taken) (noted e finds)))
-          → RunFate (e ∷ es) taken finds (run limit room (e ∷ es) taken finds)
+          → (suc taken ≤ limit → length (noted e finds) ≤ room → RunFate limit room es (suc taken) (noted e finds) (run limit room es (suc taken) (noted e finds)))
+          → RunFate limit room (e ∷ es) taken finds (run limit room (e ∷ es) taken finds)
       go (passed p) q ih =
           let k : limit ≤ taken = leb-true limit taken p in
           let z : limit - taken ≡ 0 = omega arith in
-          let stop : RunStops (e ∷ es) taken finds = record { over = omega arith; roomy = rw z r } in
-          subst (RunFate (e ∷ es) taken finds) (sym (run-stops limit room es taken finds e k)) stop
+          let stop : RunStops limit room (e ∷ es) taken finds = record { over = omega arith; roomy = rw z r } in
+          subst (RunFate limit room (e ∷ es) taken finds) (sym (run-stops limit room es taken finds e k)) stop
       go (failed p) (passed q) ih =
           let k : taken < limit = leb-false limit taken p in
           let f : length (noted e finds) ≤ room = leb-true (length (noted e finds)) room q in
           let later = earlier e es taken finds (run limit room es (suc taken) (noted e finds)) k (ih (omega arith) f) in
-          subst (RunFate (e ∷ es) taken finds) (sym (step-on e es taken finds k r f)) later
+          subst (RunFate limit room (e ∷ es) taken finds) (sym (step-on e es taken finds k r f)) later
       go (failed p) (failed q) ih =
           let k : taken < limit = leb-false limit taken p in
           let f : room < length (noted e finds) = leb-false (length (noted e finds)) room q in
           let one : length (noted e finds) ≤ suc (length finds) = noted-length e finds .1 in
-          let fill : RunFills (e ∷ es) taken finds (suc taken) =
+          let fill : RunFills limit room (e ∷ es) taken finds (suc taken) =
           record { at = 0; inside = omega arith; steps = omega arith; within = omega arith; filled = omega arith; more = omega arith } in
-          subst (RunFate (e ∷ es) taken finds) (sym (step-full e es taken finds k r f)) fill
+          subst (RunFate limit room (e ∷ es) taken finds) (sym (step-full e es taken finds k r f)) fill
 
   -- one of the three holds, and of one run
   module _ (es : List Step) (taken : ℕ) (finds : Finds) where
     whole : listed finds es ≡ listed finds (take (length es) es)
     whole = ap (listed finds) (sym (take-all (length es) es (omega arith)))
 
-    not-both : (t u : ℕ) (l : Finds) → RunEnds es taken finds t l → RunFills es taken finds u → ⊥
+    not-both : (t u : ℕ) (l : Finds) → RunEnds limit room es taken finds t l → RunFills limit room es taken finds u → ⊥
     not-both t u l a b =
         let more : length (listed finds (take (suc (b .at)) es)) ≤ length (listed finds (take (length es) es)) = listed-more es finds (suc (b .at)) (length es) (b .inside) in
         let e : length l ≡ length (listed finds (take (length es) es)) = ap length (a .sets ∙ whole) in
@@ -240,7 +202,7 @@ module _ (limit room : ℕ) where
         let m : length (listed finds (take (suc (b .at)) es)) ≡ suc room = b .more in
         omega arith
 
-    not-after : (u : ℕ) → RunStops es taken finds → RunFills es taken finds u → ⊥
+    not-after : (u : ℕ) → RunStops limit room es taken finds → RunFills limit room es taken finds u → ⊥
     not-after u a b =
         let s : u ≡ taken + suc (b .at) = b .steps in
         let w : u ≤ limit = b .within in
@@ -249,7 +211,7 @@ module _ (limit room : ℕ) where
         let m : length (listed finds (take (suc (b .at)) es)) ≡ suc room = b .more in
         omega arith
 
-    not-over : (t : ℕ) (l : Finds) → RunEnds es taken finds t l → RunStops es taken finds → ⊥
+    not-over : (t : ℕ) (l : Finds) → RunEnds limit room es taken finds t l → RunStops limit room es taken finds → ⊥
     not-over t l a b =
         let s : t ≡ taken + length es = a .steps in
         let w : t ≤ limit = a .within in
@@ -261,7 +223,7 @@ module _ (limit room : ℕ) where
         let more : length (listed finds (take (suc a) es)) ≤ length (listed finds (take b es)) = listed-more es finds (suc a) b h in
         omega arith
 
-    run-one : (r r' : Run) → RunFate es taken finds r → RunFate es taken finds r' → r ≡ r'
+    run-one : (r r' : Run) → RunFate limit room es taken finds r → RunFate limit room es taken finds r' → r ≡ r'
     run-one (ended t l) (ended u k) a b = ap₂ ended (a .steps ∙ sym (b .steps)) (a .sets ∙ sym (b .sets))
     run-one (ended t l) spent a b = absurd (not-over t l a b)
     run-one (ended t l) (full u) a b = absurd (not-both t u l a b)
@@ -277,7 +239,7 @@ module _ (limit room : ℕ) where
         let w : u ≡ taken + suc (b .at) = b .steps in
         ap full (omega arith)
 
-    pub run-exact : (r : Run) → taken ≤ limit → length finds ≤ room → (run limit room es taken finds ≡ r) ↔ RunFate es taken finds r
+    pub run-exact : (r : Run) → taken ≤ limit → length finds ≤ room → (run limit room es taken finds ≡ r) ↔ RunFate limit room es taken finds r
     run-exact r h k =
         let own = run-fate es taken finds h k in
-        (λ e. subst (RunFate es taken finds) e own, λ f. run-one (run limit room es taken finds) r own f)
+        (λ e. subst (RunFate limit room es taken finds) e own, λ f. run-one (run limit room es taken finds) r own f)

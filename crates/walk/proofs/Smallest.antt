@@ -9,42 +9,39 @@ use borrow.Author.Tests.{leb-true, leb-false}
 use lib.Dec.{leb}
 use lib.ListN.{length}
 use Rattle.monomial.specs.Lists.{arrangeBy}
-use Rattle.monomial.specs.Monomial.{Mono}
+use Rattle.monomial.specs.Monomial.{Mono, width}
 use Rattle.monomial.specs.Order.{same, before, beforeSet}
+use Rattle.monomial.specs.Claims.{_∈_, _⊆_, Ascending}
 use Rattle.monomial.proofs.Tests.{Tested, passed, failed, test}
-use Rattle.monomial.proofs.Members.{_∈_, here}
+use Rattle.monomial.proofs.Members.{here}
 use Rattle.monomial.proofs.order.Laws.{mono-order, set-order}
-use Rattle.monomial.proofs.order.Ascending.{_⊆_, Ascending, arrange-asc, arrange-in, arrange-out, arrange-length, sub-length, sub-equal}
+use Rattle.monomial.proofs.order.Ascending.{arrange-asc, arrange-in, arrange-out, arrange-length, sub-length, sub-equal}
+use Rattle.wiring.specs.Panel.{cards}
 use Rattle.wiring.specs.Poly.{Poly, plain}
 use Rattle.wiring.specs.Derivative.{derivative}
-use Rattle.wiring.specs.Quadratic.{Quadratic}
 use Rattle.wiring.specs.Signals.{signals}
 use Rattle.wiring.specs.Terms.{records, fault, system}
 use Rattle.wiring.specs.Answers.{missing}
 use Rattle.wiring.specs.declared.terms.Fault.the-variants.{Clean}
+use Rattle.wiring.specs.Claims.{Wide}
 use Rattle.wiring.proofs.quadratic.Definition1.{definition1}
 use Rattle.wiring.proofs.terms.Laws.{clean-widens}
-use Rattle.wiring.proofs.sets.Exact.{Recordable}
 use Rattle.walk.specs.Walk.{Finds, Rules, found, level, walked}
 use Rattle.walk.specs.Turns.{Walked}
 use Rattle.walk.specs.Plan.{done, plan}
-use Rattle.walk.proofs.Rules.{Wide, Orderly, Extends, Counts, Sparing}
+use Rattle.walk.specs.Claims.{Orderly, Extends, Counts, Sparing, distinct, Barren, Ends, QuadraticList, NoneSmaller, Listed, Smallest, Finished, Proper, Sound}
 use Rattle.walk.proofs.Steps.{level-opens, level-out}
-use Rattle.walk.proofs.Sound.{Proper, Sound, opened-sound, opened-recordable}
+use Rattle.walk.proofs.Sound.{opened-sound, opened-recordable}
 use Rattle.walk.proofs.Complete.{same-members, complete}
-use Rattle.walk.proofs.Runs.{distinct, distinct-asc, distinct-in, distinct-out}
-use Rattle.walk.proofs.Stops.{Barren, Ends, done-exact}
+use Rattle.walk.proofs.Runs.{distinct-asc, distinct-in, distinct-out}
+use Rattle.walk.proofs.Stops.{done-exact}
 
 module _ (n : ℕ) (fs : List (Poly Mono)) where
-  -- Definition 1 for V of a list of monomials
-  abbrev pub QuadraticList : List Mono → Type 0
-  QuadraticList s = Quadratic plain (signals 6 n s) (derivative plain fs)
+  no-gap : (s : List Mono) → QuadraticList n fs s → missing n fs s ≡ []
+  no-gap s = definition1 plain mono-order (signals width n s) (derivative plain fs) .0
 
-  no-gap : (s : List Mono) → QuadraticList s → missing n fs s ≡ []
-  no-gap s = definition1 plain mono-order (signals 6 n s) (derivative plain fs) .0
-
-  pub gapless : (s : List Mono) → missing n fs s ≡ [] → QuadraticList s
-  gapless s = definition1 plain mono-order (signals 6 n s) (derivative plain fs) .1
+  pub gapless : (s : List Mono) → missing n fs s ≡ [] → QuadraticList n fs s
+  gapless s = definition1 plain mono-order (signals width n s) (derivative plain fs) .1
 
   -- ---- any list of monomials, by its members in order, each once
   abbrev arranged : List Mono → List Mono
@@ -56,12 +53,8 @@ module _ (n : ℕ) (fs : List (Poly Mono)) where
   arranged-extends : (r : Rules) (s t : List Mono) → Extends r s t → Extends r s (arranged t)
   arranged-extends r s t e = record { holds = λ x h. arrange-in mono-order t (e .holds x h); may = λ x h. e .may x (arrange-out mono-order t h) }
 
-  arranged-quadratic : (s : List Mono) → QuadraticList s → missing n fs (arranged s) ≡ []
+  arranged-quadratic : (s : List Mono) → QuadraticList n fs s → missing n fs (arranged s) ≡ []
   arranged-quadratic s q = same-members n fs s (arranged s) (λ x h. arrange-in mono-order s h) (λ x h. arrange-out mono-order s h) (no-gap s q)
-
--- of the lists that count, no quadratic one has fewer than j members
-abbrev pub NoneSmaller : Rules → ℕ → List (Poly Mono) → ℕ → Type 0
-NoneSmaller r n fs j = (s : List Mono) → Wide s → Counts r s → QuadraticList n fs s → j ≤ length s
 
 -- ---- rules that try every pair, close no set that is needed, and begin with an ascending set
 module _ (r : Rules) (o : Orderly r) (begins : Ascending before (r .start)) (n : ℕ) (fs : List (Poly Mono)) (spares : Sparing r n fs) where
@@ -112,21 +105,6 @@ module _ (r : Rules) (o : Orderly r) (begins : Ascending before (r .start)) (n :
       distinct-in (level r n fs j) u (level-has j u a wu xu qu (omega arith) (least j b))
 
 -- ---- the sets that done lists
--- one of them: it can stand in a set record of n variables
-pub record Listed (r : Rules) (n : ℕ) (terms : List ℕ) (j : ℕ) (s : List Mono) : Type 0 where
-  pub recordable : Recordable n s
-  pub extends : Counts r s
-  pub quadratic : QuadraticList n (system (records terms)) s
-  pub size : length s ≡ j
-
-pub record Smallest (r : Rules) (n : ℕ) (terms : List ℕ) (j : ℕ) (l : Finds) : Type 0 where
-  pub none-smaller : NoneSmaller r n (system (records terms)) j
-  -- every quadratic list of that many members that counts, put in order, is listed
-  pub all : (s : List Mono) → Wide s → Counts r s → QuadraticList n (system (records terms)) s → length s ≡ j → arrangeBy same before s ∈ l
-  pub each : (s : List Mono) → s ∈ l → Listed r n terms j s
-  pub ascending : Ascending beforeSet l
-  pub some : l ≡ [] → ⊥
-
 -- a quadratic set, ascending, of that many monomials is listed as it stands
 arranged-self : (s : List Mono) → Ascending before s → arrangeBy same before s ≡ s
 arranged-self s a =
@@ -161,20 +139,13 @@ module _ (r : Rules) (n : ℕ) (terms : List ℕ) where
       let back : length l' ≤ length l = sub-length set-order l' l (m' .ascending) (m .ascending) (inside j l' l m' m) in
       sub-equal set-order l l' (m .ascending) (m' .ascending) (inside j l l' m m') back
 
-pub record Done (r : Rules) (n : ℕ) (terms : List ℕ) (cap limit room j u : ℕ) (l : Finds) : Type 0 where
-  pub low : j ≤ cap
-  pub steps : u ≡ walked r n (system (records terms)) (suc j)
-  pub within : u ≤ limit
-  pub roomy : length l ≤ room
-  pub sets : Smallest r n terms j l
-
 -- ---- plans of clean records, from a start that is a set of the walk
-module _ (r : Rules) (o : Orderly r) (begins : Walked (r .start)) (n : ℕ) (proper : Proper n (r .start)) (terms : List ℕ) (few : n ≤ 6)
-    (clean : fault n (records terms) ≡ Clean) (spares : Sparing r n (system (records terms))) (cap limit room : ℕ) (low : cap ≤ 6) where
+module _ (r : Rules) (o : Orderly r) (begins : Walked (r .start)) (n : ℕ) (proper : Proper n (r .start)) (terms : List ℕ) (few : n ≤ width)
+    (clean : fault n (records terms) ≡ Clean) (spares : Sparing r n (system (records terms))) (cap limit room : ℕ) (low : cap ≤ cards) where
   abbrev fs : List (Poly Mono)
   fs = system (records terms)
 
-  each-listed : (j : ℕ) → j ≤ 6 → Barren r n fs j → (s : List Mono) → found s ∈ level r n fs j → Listed r n terms j s
+  each-listed : (j : ℕ) → j ≤ cards → Barren r n fs j → (s : List Mono) → found s ∈ level r n fs j → Listed r n terms j s
   each-listed j h b s m =
       let at = level-out r n fs j (found s) m in
       let x : Sound r n terms j (r .start) s = opened-sound r o n terms (clean-widens n (records terms) few clean) j h (suc j) (r .start) s begins (at .0) (at .1) in
@@ -187,7 +158,7 @@ module _ (r : Rules) (o : Orderly r) (begins : Walked (r .start)) (n : ℕ) (pro
         size = omega arith;
       }
 
-  pub plan-done : (j u : ℕ) (l : Finds) → plan r n fs limit room cap ≡ done j u l → Done r n terms cap limit room j u l
+  pub plan-done : (j u : ℕ) (l : Finds) → plan r n fs limit room cap ≡ done j u l → Finished r n terms cap limit room j u l
   plan-done j u l e =
       let f : Ends r n fs limit room cap j u l = done-exact r n fs limit room cap j u l .0 e in
       let h : j ≤ cap = f .low in

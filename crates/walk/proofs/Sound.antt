@@ -1,212 +1,44 @@
 -- By any rules: what is found is quadratic, holds the set that was opened and besides only what may be, and is a set of the walk: it has a record,
--- its exponents are small, and it says nothing of variables beyond xn. Whatever each child keeps of its set, each find keeps. Assumes nothing.
-use mathlib.Core.Path.{_≡_, refl, sym, ap, _∙_, subst}
+-- its exponents are small, and it says nothing of variables beyond xn. Assumes nothing.
+use mathlib.Core.Path.{_≡_, sym, _∙_, subst}
 use mathlib.Core.Logic.{⊎-elim}
-use mathlib.Core.Bool.{true, false}
-use mathlib.Core.List.{List, [], _∷_, map, List·Memᴰ·head, List·Memᴰ·cases-cons, List·Memᴰ·not-nil, Memᴰ·map, Memᴰ·of-map}
-use Prim.Native.Nat.{ℕ, zero, suc, _-_, _<_, _≤_}
+use mathlib.Core.List.{List, [], List·Memᴰ·not-nil}
+use Prim.Native.Nat.{ℕ, zero, _-_, _≤_}
 use native.Mathlib.Omega.{arith}
-use lib.Dec.{T, leb}
-use lib.IntN.{natAbs}
-use lib.ListN.{length, getD, set, take}
-use Rattle.monomial.specs.Lists.{pairwise, pointwise}
-use Rattle.monomial.specs.Monomial.{Mono, one, vars, constants}
-use Rattle.monomial.specs.Product.{mul, AtMost}
+use lib.Dec.{T}
+use lib.ListN.{length, set}
+use Rattle.monomial.specs.Monomial.{Mono, constants, width}
+use Rattle.monomial.specs.Product.{mul}
 use Rattle.monomial.specs.Quotient.{divides}
-use Rattle.monomial.specs.Divisors.{pairs}
-use Rattle.monomial.proofs.Tests.{Tested, passed, failed, test, is→T, and-r}
-use Rattle.monomial.proofs.Members.{_∈_, here, there, gather-in, gather-out, Gathered, take-in}
-use Rattle.monomial.proofs.product.Laws.{mul-comm, atMost-weaken, atMost-mul, atMost-at, atMost-all}
-use Rattle.monomial.proofs.quotient.Laws.{factor-divides, atMost-divides}
-use Rattle.monomial.proofs.divisors.Pairs.{Splits, pairs-out}
-use Rattle.wiring.specs.Poly.{Poly, plain, coeff}
-use Rattle.wiring.specs.Choice.{chosen}
-use Rattle.wiring.specs.Derivative.{derivative, power}
-use Rattle.wiring.specs.Signals.{signals}
+use Rattle.monomial.specs.Claims.{_∈_, IsPair, Within}
+use Rattle.monomial.proofs.product.Laws.{mul-comm, atMost-at}
+use Rattle.monomial.proofs.quotient.Laws.{factor-divides}
+use Rattle.monomial.proofs.divisors.Pairs.{pairs-out}
+use Rattle.monomial.proofs.Within.{within-at, at-within, within-mul, within-set, within-divides, first-within, within-first}
+use Rattle.wiring.specs.Panel.{cards, setExponent, termExponent}
+use Rattle.wiring.specs.Poly.{Poly}
+use Rattle.wiring.specs.Derivative.{power}
 use Rattle.wiring.specs.Terms.{Record, records, fault, system, CleanTerms}
 use Rattle.wiring.specs.Answers.{missing}
 use Rattle.wiring.specs.declared.terms.Fault.the-variants.{Clean}
+use Rattle.wiring.specs.Claims.{Recordable, base}
 use Rattle.wiring.proofs.terms.Laws.{Fields, fields-out, clean-right, clean-widens, exponents-everywhere}
-use Rattle.wiring.proofs.signals.Laws.{base, base-in, signals-cases, constants-fit}
-use Rattle.wiring.proofs.derivative.Records.{summed}
-use Rattle.wiring.proofs.derivative.Bounds.{sum-fits, total-fits}
-use Rattle.wiring.proofs.sets.Exact.{Recordable}
-use Rattle.walk.specs.Walk.{Rules, child, Step, found, other, opens, ends, tried, triedAll, opened}
+use Rattle.wiring.proofs.signals.Laws.{base-in, signals-cases}
+use Rattle.walk.specs.Walk.{Rules, child, found, opened}
 use Rattle.walk.specs.Turns.{Walked}
-use Rattle.walk.proofs.Rules.{Orderly, tries-in, tries-out, Extends, extends-self, extends-on, opens-fits, opens-extends}
-use Rattle.walk.proofs.Steps.{opened-found, opened-ends, opened-split, tried-open, tried-shut}
-use Rattle.walk.proofs.children.Laws.{chosen-in, Grown, old, left, right, child-out, Imaged, imaged, nonsquare-fits, child-walked, walked-54}
-
--- ---- steps told apart
-pub other-found : {C : Type 0} {x : List Mono} → found x ≡ other → C
-other-found e = let z : _≡_ {A = ℕ} 0 1 = cc in let y : ⊥ = omega arith in absurd y
-
-pub found-is : {x y : List Mono} → found x ≡ found y → x ≡ y
-found-is e = cc
-
--- each child that the walk opens keeps P of its set
-abbrev pub Kept : Rules → ℕ → List (Poly Mono) → ℕ → (List Mono → Type 0) → Type 0
-Kept r n fs k P = (s : List Mono) (m : Mono) (p : Mono × Mono) → P s → m ∈ missing n fs s → p ∈ pairs m → T (opens r n k s p) → P (child n s p)
-
-module _ (r : Rules) (o : Orderly r) (n : ℕ) (fs : List (Poly Mono)) (k : ℕ) where
-  -- a find behind the opening of a set with nonsquares is one below a child
-  pub record Below (below : List Mono → List Step) (s : List Mono) (m : Mono) (t : List Mono) : Type 0 where
-    pub pair : Mono × Mono
-    pub listed : pair ∈ pairs m
-    pub taken : T (opens r n k s pair)
-    pub inside : found t ∈ below (child n s pair)
-
-  tried-out : (below : List Mono → List Step) (s : List Mono) (m : Mono) (p : Mono × Mono) (t : List Mono) → p ∈ pairs m
-      → found t ∈ tried r n fs k below s p → Below below s m t
-  tried-out below s m p t i h = go (test (opens r n k s p))
-    where
-      go : Tested (opens r n k s p) → Below below s m t
-      go (passed e) =
-          ⊎-elim (λ q. other-found q) (λ j. record { pair = p; listed = i; taken = is→T (opens r n k s p) e; inside = j })
-          (List·Memᴰ·cases-cons (subst (λ es. found t ∈ es) (tried-open r n fs k below s p e) h))
-      go (failed e) =
-          ⊎-elim (λ q. other-found q) (λ j. absurd (List·Memᴰ·not-nil j))
-          (List·Memᴰ·cases-cons (subst (λ es. found t ∈ es) (tried-shut r n fs k below s p e) h))
-
-  -- of a set without nonsquares the set is found, and no other
-  module _ (d : ℕ) (s : List Mono) (e : missing n fs s ≡ []) where
-    pub find-in : found s ∈ opened r n fs k (suc d) s
-    find-in = subst (λ es. found s ∈ es) (sym (opened-found r n fs k d s e)) here
-
-    pub find-out : (t : List Mono) → found t ∈ opened r n fs k (suc d) s → t ≡ s
-    find-out t h =
-        ⊎-elim (λ q. found-is q) (λ j. absurd (List·Memᴰ·not-nil j))
-        (List·Memᴰ·cases-cons (subst (λ es. found t ∈ es) (opened-found r n fs k d s e) h))
-
-  -- of a set with nonsquares what is found below a child that is opened, and no other
-  module _ (d : ℕ) (s : List Mono) (m : Mono) (l : List Mono) (e : missing n fs s ≡ m ∷ l) (t : List Mono) where
-    abbrev below : List Mono → List Step
-    below = opened r n fs k d
-
-    abbrev two : List (Mono × Mono)
-    two = r .tries (signals 6 n s) (chosen m l)
-
-    pub find-on : (p : Mono × Mono) → ends r n k s (m ∷ l) ≡ false → p ∈ pairs (chosen m l) → opens r n k s p ≡ true
-        → found t ∈ opened r n fs k d (child n s p) → found t ∈ opened r n fs k (suc d) s
-    find-on p h i j x =
-        let own : found t ∈ tried r n fs k below s p = subst (λ es. found t ∈ es) (sym (tried-open r n fs k below s p j)) (there x) in
-        let tried-in = gather-in (tried r n fs k below s) two (tries-in r o (signals 6 n s) (chosen m l) p i) own in
-        subst (λ es. found t ∈ es) (sym (opened-split r n fs k d s m l e h)) (there tried-in)
-
-    pub find-below : found t ∈ opened r n fs k (suc d) s → Below (opened r n fs k d) s (chosen m l) t
-    find-below h = go (test (ends r n k s (m ∷ l)))
-      where
-        split : found t ∈ triedAll r n fs k (opened r n fs k d) s (chosen m l) → Below (opened r n fs k d) s (chosen m l) t
-        split j =
-            let g : Gathered (tried r n fs k below s) (found t) two = gather-out (tried r n fs k below s) two j in
-            tried-out below s (chosen m l) (g .entry) t (tries-out r o (signals 6 n s) (chosen m l) (g .entry) (g .member)) (g .inside)
-
-        go : Tested (ends r n k s (m ∷ l)) → Below (opened r n fs k d) s (chosen m l) t
-        go (passed b) =
-            ⊎-elim (λ q. other-found q) (λ j. absurd (List·Memᴰ·not-nil j))
-            (List·Memᴰ·cases-cons (subst (λ es. found t ∈ es) (opened-ends r n fs k d s m l e b) h))
-        go (failed b) = ⊎-elim (λ q. other-found q) split (List·Memᴰ·cases-cons (subst (λ es. found t ∈ es) (opened-split r n fs k d s m l e b) h))
-
-  pub sound : (P : List Mono → Type 0) → Kept r n fs k P → (d : ℕ) (s t : List Mono) → P s → found t ∈ opened r n fs k d s → P t × (missing n fs t ≡ [])
-  unfolding opened
-  sound P keeps zero s t p h = absurd (List·Memᴰ·not-nil h)
-  sound P keeps (suc d) s t p h = go (missing n fs s) refl (λ c. sound P keeps d c t)
-    where
-      go : (l : List Mono) → missing n fs s ≡ l → ((c : List Mono) → P c → found t ∈ opened r n fs k d c → P t × (missing n fs t ≡ [])) → P t × (missing n fs t ≡ [])
-      go [] e ih = let i : t ≡ s = find-out d s e t h in (subst P (sym i) p, ap (missing n fs) i ∙ e)
-      go (m ∷ l) e ih =
-          let b : Below (opened r n fs k d) s (chosen m l) t = find-below d s m l e t h in
-          let gap : chosen m l ∈ missing n fs s = subst (λ x. chosen m l ∈ x) (sym e) (chosen-in m l) in
-          ih (child n s (b .pair)) (keeps s (chosen m l) (b .pair) p gap (b .listed) (b .taken)) (b .inside)
+use Rattle.walk.specs.Claims.{Orderly, Extends, Proper, Sound}
+use Rattle.walk.proofs.Rules.{extends-self, extends-on, opens-fits, opens-extends}
+use Rattle.walk.proofs.Openings.{Inherited, steps-keep}
+use Rattle.walk.proofs.children.Laws.{Grown, old, left, right, child-out, Imaged, imaged, child-walked, walked-fits}
 
 -- ---- variables beyond xn
--- no exponent from number n on
-abbrev pub Within : ℕ → Mono → Type 0
-Within zero m = AtMost 0 m
-Within (suc n) [] = Unit {0}
-Within (suc n) (e ∷ m) = Within n m
-
-pub within-at : (n : ℕ) (m : Mono) → Within n m → (i : ℕ) → n ≤ i → getD m i 0 ≡ 0
-within-at zero m h i k = let z : getD m i 0 ≤ 0 = atMost-at 0 m i h in omega arith
-within-at (suc n) [] h i k = refl
-within-at (suc n) (e ∷ m) h zero k = let z : ⊥ = omega arith in absurd z
-within-at (suc n) (e ∷ m) h (suc i) k = within-at n m h i (omega arith)
-
-pub at-within : (n : ℕ) (m : Mono) → ((i : ℕ) → n ≤ i → getD m i 0 ≡ 0) → Within n m
-at-within zero m h = atMost-all 0 m (λ i. let z : getD m i 0 ≡ 0 = h i (omega arith) in omega arith)
-at-within (suc n) [] h = tt
-at-within (suc n) (e ∷ m) h = at-within n m (λ i k. h (suc i) (omega arith))
-
-within-mul : (n : ℕ) (a b : Mono) → Within n a → Within n b → Within n (mul a b)
-unfolding pointwise
-within-mul zero a b h k = atMost-mul 0 0 a b h k
-within-mul (suc n) [] b h k = tt
-within-mul (suc n) (x ∷ a) [] h k = tt
-within-mul (suc n) (x ∷ a) (y ∷ b) h k = within-mul n a b h k
-
-within-set : (n : ℕ) (m : Mono) (i e : ℕ) → i < n → Within n m → Within n (set m i e)
-within-set zero m i e h k = let z : ⊥ = omega arith in absurd z
-within-set (suc n) [] i e h k = tt
-within-set (suc n) (x ∷ m) zero e h k = k
-within-set (suc n) (x ∷ m) (suc i) e h k = within-set n m i e (omega arith) k
-
-pub within-divides : (n : ℕ) (d m : Mono) → T (divides d m) → Within n m → Within n d
-unfolding pairwise
-within-divides zero d m t h = atMost-divides 0 d m t h
-within-divides (suc n) [] m t h = tt
-within-divides (suc n) (x ∷ d) [] t h = absurd t
-within-divides (suc n) (x ∷ d) (e ∷ m) t h = within-divides n d m (and-r (leb x e) (divides d m) t) h
-
--- 1 and the first n variables are those constants that have no exponent beyond
-pub one-within : (n w : ℕ) → Within n (one w)
-one-within zero zero = tt
-one-within zero (suc w) = (omega arith, one-within zero w)
-one-within (suc n) zero = tt
-one-within (suc n) (suc w) = one-within n w
-
-take-map : {A B : Type 0} (f : A → B) (n : ℕ) (l : List A) → take n (map f l) ≡ map f (take n l)
-take-map f zero l = refl
-take-map f (suc n) [] = refl
-take-map f (suc n) (x ∷ l) = ap (_∷_ (f x)) (take-map f n l)
-
-vars-within : (n w : ℕ) (x : Mono) → x ∈ take n (vars w) → Within n x
-unfolding vars
-vars-within zero w x h = absurd (List·Memᴰ·not-nil h)
-vars-within (suc n) zero x h = absurd (List·Memᴰ·not-nil h)
-vars-within (suc n) (suc w) x h = ⊎-elim (λ e. rw e (one-within n w)) (later (vars-within n w)) (List·Memᴰ·cases-cons h)
-  where
-    later : ((y : Mono) → y ∈ take n (vars w) → Within n y) → x ∈ take n (map (_∷_ 0) (vars w)) → Within (suc n) x
-    later ih k =
-        let q : (y : Mono) × (y ∈ take n (vars w)) × (0 ∷ y ≡ x) = Memᴰ·of-map (_∷_ 0) (take n (vars w)) (rw (take-map (_∷_ 0) n (vars w)) at k) in
-        rw (sym (q .2)) (ih (q .0) (q .1))
-
-within-vars : (n w : ℕ) (x : Mono) → x ∈ vars w → Within n x → x ∈ take n (vars w)
-unfolding vars
-within-vars n zero x h k = absurd (List·Memᴰ·not-nil h)
-within-vars n (suc w) x h k = ⊎-elim (λ e. first n e k) (λ i. later n (λ j y. within-vars j w y) k (Memᴰ·of-map (_∷_ 0) (vars w) i)) (List·Memᴰ·cases-cons h)
-  where
-    first : (j : ℕ) → x ≡ 1 ∷ one w → Within j x → x ∈ take j (vars (suc w))
-    first zero e g = let b : AtMost 0 (1 ∷ one w) = rw e at g in let z : ⊥ = omega (arith, b .0) in absurd z
-    first (suc j) e g = List·Memᴰ·head e
-
-    later : (j : ℕ) → ((i : ℕ) (y : Mono) → y ∈ vars w → Within i y → y ∈ take i (vars w)) → Within j x → (y : Mono) × (y ∈ vars w) × (0 ∷ y ≡ x) → x ∈ take j (vars (suc w))
-    later zero ih g q = let b : AtMost 0 (0 ∷ q .0) = rw (sym (q .2)) at g in absurd (List·Memᴰ·not-nil (ih zero (q .0) (q .1) (b .1)))
-    later (suc j) ih g q =
-        let b : Within j (q .0) = subst (Within (suc j)) (sym (q .2)) g in
-        there (subst (λ (z : Mono). z ∈ take j (map (_∷_ 0) (vars w))) (q .2) (rw (take-map (_∷_ 0) j (vars w)) (Memᴰ·map (_∷_ 0) (ih j (q .0) (q .1) b))))
-
 pub base-within : (n : ℕ) (x : Mono) → x ∈ base n → Within n x
-base-within n x h = ⊎-elim (λ e. rw e (one-within n 6)) (vars-within n 6 x) (List·Memᴰ·cases-cons h)
+base-within n x h = first-within n width x h
 
-pub within-base : (n : ℕ) (x : Mono) → x ∈ constants 6 → Within n x → x ∈ base n
-within-base n x h k = ⊎-elim (λ e. List·Memᴰ·head e) (λ i. there (within-vars n 6 x i k)) (List·Memᴰ·cases-cons h)
+pub within-base : (n : ℕ) (x : Mono) → x ∈ constants width → Within n x → x ∈ base n
+within-base n x h k = within-first n width x h k
 
 -- ---- what is found
--- none of the set is in V of the empty set, and none has an exponent beyond xn
-pub record Proper (n : ℕ) (s : List Mono) : Type 0 where
-  pub new : (m : Mono) → m ∈ s → m ∈ base n → ⊥
-  pub within : (m : Mono) → m ∈ s → Within n m
-
 pub empty-proper : (n : ℕ) → Proper n []
 empty-proper n = record { new = λ x i. absurd (List·Memᴰ·not-nil i); within = λ x i. absurd (List·Memᴰ·not-nil i) }
 
@@ -223,15 +55,15 @@ module _ (n : ℕ) (terms : List ℕ) (clean : fault n (records terms) ≡ Clean
         let e : ℕ = power r (i .of) - 1 in
         let f : Fields n r = fields-out n r (clean-right n [] (records terms) clean r (i .from .listed)) in
         let own : Within n (i .of) = ⊎-elim (base-within n (i .of)) (q .within (i .of)) (signals-cases n s (i .of-in)) in
-        let term : Within n (r .monomial) = at-within n (r .monomial) (λ j l. exponents-everywhere 9 n (r .monomial) (f .exponents) j .zero l) in
+        let term : Within n (r .monomial) = at-within n (r .monomial) (λ j l. exponents-everywhere termExponent n (r .monomial) (f .exponents) j .zero l) in
         let low : 1 ≤ r .equation = f .low in
         let high : r .equation ≤ n = f .high in
         subst (Within n) (i .from .is) (within-mul n (set (i .of) at e) (r .monomial) (within-set n (i .of) at e (omega arith) own) term)
 
-    pub keeps-proper : (r : Rules) (k : ℕ) → Kept r n fs k (Proper n)
+    pub keeps-proper : (r : Rules) (k : ℕ) → Inherited r n fs k (Proper n)
     keeps-proper r k s m p q h j f = record { new = λ x i. new-of x (child-out n s p i); within = λ x i. within-of x (child-out n s p i) }
       where
-        two : Splits p m
+        two : IsPair p m
         two = pairs-out p m j
 
         gap : Within n m
@@ -250,20 +82,13 @@ module _ (n : ℕ) (terms : List ℕ) (clean : fault n (records terms) ≡ Clean
         within-of x (left e o) = subst (Within n) (sym e) (factor (p .0) (p .1) (two .left ∙ sym (two .right)) (two .product))
         within-of x (right e o) = subst (Within n) (sym e) (factor (p .1) (p .0) (two .right ∙ sym (two .left)) (mul-comm (p .1) (p .0) ∙ two .product))
 
--- what a find t below the opened set s is like, at level k
-pub record Sound (r : Rules) (n : ℕ) (terms : List ℕ) (k : ℕ) (s t : List Mono) : Type 0 where
-  pub quadratic : missing n (system (records terms)) t ≡ []
-  pub extends : Extends r s t
-  pub short : length t ≤ k
-  pub walked : Walked t
-
-module _ (r : Rules) (o : Orderly r) (n : ℕ) (terms : List ℕ) (six : CleanTerms terms) (k : ℕ) (low : k ≤ 6) where
+module _ (r : Rules) (o : Orderly r) (n : ℕ) (terms : List ℕ) (six : CleanTerms terms) (k : ℕ) (low : k ≤ cards) where
   pub record Climbed (s₀ s : List Mono) : Type 0 where
     pub extends : Extends r s₀ s
     pub short : length s ≤ k
     pub walked : Walked s
 
-  keeps-climbed : (s₀ : List Mono) → Kept r n (system (records terms)) k (Climbed s₀)
+  keeps-climbed : (s₀ : List Mono) → Inherited r n (system (records terms)) k (Climbed s₀)
   keeps-climbed s₀ s m p c h j f =
       let fits : length (child n s p) ≤ k = opens-fits r n k s p f in
       record {
@@ -276,49 +101,11 @@ module _ (r : Rules) (o : Orderly r) (n : ℕ) (terms : List ℕ) (six : CleanTe
   pub opened-sound : (d : ℕ) (s t : List Mono) → Walked s → length s ≤ k → found t ∈ opened r n (system (records terms)) k d s → Sound r n terms k s t
   opened-sound d s t w l h =
       let start : Climbed s s = record { extends = extends-self r s; short = l; walked = w } in
-      let x = sound r o n (system (records terms)) k (Climbed s) (keeps-climbed s) d s t start h in
+      let x = steps-keep r o n (system (records terms)) k (Climbed s) (keeps-climbed s) d s (found t) start h in
       record { quadratic = x .1; extends = x .0 .extends; short = x .0 .short; walked = x .0 .walked }
 
--- ---- every set that level k opens, found or not
-module _ (r : Rules) (begins : Walked (r .start)) (n : ℕ) (terms : List ℕ) (six : CleanTerms terms) (k : ℕ) (low : k ≤ 6) where
-  -- the start, and the children of opened sets that are opened
-  pub data Opened : List Mono → Type 0 where
-    first : Opened (r .start)
-    next : (s : List Mono) (m : Mono) (p : Mono × Mono) → Opened s → m ∈ missing n (system (records terms)) s → p ∈ pairs m → T (opens r n k s p)
-        → Opened (child n s p)
-
-  pub opened-walked : (s : List Mono) → Opened s → Walked s
-  opened-walked c first = begins
-  opened-walked c (next s m p o h j f) = child-walked terms six n s (opened-walked s o) m h p j (omega (arith, opens-fits r n k s p f))
-
-  module _ (s : List Mono) (o : Opened s) where
-    -- exponents of sets to 54, of nonsquares to 63
-    pub set-54 : (m : Mono) → m ∈ s → AtMost 54 m
-    set-54 m h = walked-54 s (opened-walked s o) m h
-
-    pub nonsquare-63 : (m : Mono) → m ∈ missing n (system (records terms)) s → AtMost 63 m
-    nonsquare-63 m h = nonsquare-fits terms six n s (opened-walked s o) m h .1
-
-    -- totals of coefficients, and the sums of the first records on the way to them, in 32 bits
-    signal-72 : (z : Mono) → z ∈ signals 6 n s → (length z ≡ 6) × AtMost 72 z
-    signal-72 z h =
-        ⊎-elim
-        (λ b. constants-fit 72 6 (omega arith) z (take-in (suc n) (constants 6) b))
-        (λ i. (opened-walked s o .recorded .wide z i, atMost-weaken z (omega arith) (set-54 z i)))
-        (signals-cases n s h)
-
-    pub total-32 : (z m : Mono) → z ∈ signals 6 n s → natAbs (coeff plain (derivative plain (system (records terms)) z) m) < 2147483648
-    total-32 z m h = let f = signal-72 z h in total-fits terms six z m (f .0) (f .1)
-
-    pub sum-32 : (z m : Mono) → z ∈ signals 6 n s → (t : ℕ) → natAbs (summed (take t (records terms)) z m) < 2147483648
-    sum-32 z m h t = let f = signal-72 z h in sum-fits terms six z m (f .0) (f .1) t
-
-  -- what is found was opened
-  pub found-opened : Orderly r → (d : ℕ) (s t : List Mono) → Opened s → found t ∈ opened r n (system (records terms)) k d s → Opened t
-  found-opened u d s t o h = sound r u n (system (records terms)) k Opened (λ u m p q i j f. next u m p q i j f) d s t o h .0
-
 -- and what may stand in a record of n variables stands in one
-module _ (r : Rules) (o : Orderly r) (n : ℕ) (terms : List ℕ) (few : n ≤ 6) (clean : fault n (records terms) ≡ Clean) where
+module _ (r : Rules) (o : Orderly r) (n : ℕ) (terms : List ℕ) (few : n ≤ width) (clean : fault n (records terms) ≡ Clean) where
   six : CleanTerms terms
   six = clean-widens n (records terms) few clean
 
@@ -329,13 +116,13 @@ module _ (r : Rules) (o : Orderly r) (n : ℕ) (terms : List ℕ) (few : n ≤ 6
     permitted = record {
       ascends = w .recorded .ascending;
       new = λ m h c. q .new m h (within-base n m c (q .within m h));
-      small = λ m h i. atMost-at 54 m i (walked-54 s w m h);
+      small = λ m h i. atMost-at setExponent m i (walked-fits s w m h);
       within = λ m h i l. within-at n m (q .within m h) i l;
     };
   }
 
-  pub opened-recordable : (k d : ℕ) → k ≤ 6 → (s t : List Mono) → Walked s → Proper n s → length s ≤ k
+  pub opened-recordable : (k d : ℕ) → k ≤ cards → (s t : List Mono) → Walked s → Proper n s → length s ≤ k
       → found t ∈ opened r n (system (records terms)) k d s → Recordable n t
   opened-recordable k d low s t w q l h =
       let x : Sound r n terms k s t = opened-sound r o n terms six k low d s t w l h in
-      recordable t (x .walked) (sound r o n (system (records terms)) k (Proper n) (keeps-proper n terms clean six r k) d s t q h .0)
+      recordable t (x .walked) (steps-keep r o n (system (records terms)) k (Proper n) (keeps-proper n terms clean six r k) d s (found t) q h .0)

@@ -8,18 +8,19 @@ use native.Mathlib.Omega.{arith}
 use borrow.Author.Tests.{leb-true, leb-false, le-leb, lt-leb}
 use lib.Dec.{leb}
 use lib.ListN.{length}
-use Rattle.monomial.specs.Monomial.{Mono}
+use Rattle.monomial.specs.Monomial.{Mono, width}
 use Rattle.monomial.specs.Order.{before}
 use Rattle.monomial.specs.Divisors.{pairs}
+use Rattle.monomial.specs.Claims.{_∈_, Ascending}
 use Rattle.monomial.proofs.Tests.{Tested, passed, failed, test, is→T}
-use Rattle.monomial.proofs.Members.{_∈_, gather-same}
-use Rattle.monomial.proofs.order.Ascending.{Ascending}
+use Rattle.monomial.proofs.Members.{gather-same}
 use Rattle.wiring.specs.Poly.{Poly}
 use Rattle.wiring.specs.Signals.{signals}
 use Rattle.wiring.specs.Choice.{chosen}
 use Rattle.wiring.specs.Answers.{missing}
-use Rattle.walk.specs.Walk.{Finds, Rules, child, Step, found, other, opens, ends, tried, triedAll, after, opened, level, Run, ended, spent, full, kept, onward, run}
-use Rattle.walk.proofs.Rules.{Orderly, tries-out, opens-fits}
+use Rattle.walk.specs.Walk.{Finds, Rules, child, Taken, pair, opening, Step, found, other, opens, ends, tried, triedAll, after, opened, level, Run, ended, spent, full, kept, onward, run}
+use Rattle.walk.specs.Claims.{Orderly}
+use Rattle.walk.proofs.Rules.{tries-out, opens-fits}
 use Rattle.walk.proofs.children.Laws.{chosen-in, child-asc, split-longer}
 
 -- ---- runs one after the other
@@ -37,7 +38,7 @@ onward-chain (full t) f g h e = refl
 pub run-append : (limit room : ℕ) (es fs : List Step) (taken : ℕ) (finds : Finds) → run limit room (es ++ fs) taken finds ≡ onward (run limit room es taken finds) (run limit room fs)
 unfolding run onward
 run-append limit room [] fs taken finds = refl
-run-append limit room (other ∷ es) fs taken finds =
+run-append limit room (other x ∷ es) fs taken finds =
     ap (λ (r : Run). cond (leb limit taken) spent r) (run-append limit room es fs (suc taken) finds)
     ∙ sym (onward-cond (leb limit taken) spent (run limit room es (suc taken) finds) (run limit room fs))
 run-append limit room (found s ∷ es) fs taken finds =
@@ -50,12 +51,12 @@ module _ (limit room : ℕ) (es : List Step) (taken : ℕ) (finds : Finds) where
   -- the next step would pass the limit
   pub run-stops : (e : Step) → limit ≤ taken → run limit room (e ∷ es) taken finds ≡ spent
   unfolding run
-  run-stops other h = rw (le-leb limit taken h)
+  run-stops (other x) h = rw (le-leb limit taken h)
   run-stops (found s) h = rw (le-leb limit taken h)
 
-  pub run-other : taken < limit → run limit room (other ∷ es) taken finds ≡ run limit room es (suc taken) finds
+  pub run-other : (x : Taken) → taken < limit → run limit room (other x ∷ es) taken finds ≡ run limit room es (suc taken) finds
   unfolding run
-  run-other h = rw (lt-leb limit taken h)
+  run-other x h = rw (lt-leb limit taken h)
 
   pub run-found : (s : List Mono) → taken < limit → run limit room (found s ∷ es) taken finds ≡ onward (kept room s (suc taken) finds) (run limit room es)
   unfolding run
@@ -78,22 +79,22 @@ module _ (r : Rules) (n : ℕ) (fs : List (Poly Mono)) (k d : ℕ) (s : List Mon
   unfolding opened after
   opened-found e = rw e
 
-  pub opened-ends : (m : Mono) (l : List Mono) → missing n fs s ≡ m ∷ l → ends r n k s (m ∷ l) ≡ true → opened r n fs k (suc d) s ≡ other ∷ []
+  pub opened-ends : (m : Mono) (l : List Mono) → missing n fs s ≡ m ∷ l → ends r n k s (m ∷ l) ≡ true → opened r n fs k (suc d) s ≡ other (opening s) ∷ []
   unfolding opened after
   opened-ends m l e h = rw (e, h)
 
   pub opened-split : (m : Mono) (l : List Mono) → missing n fs s ≡ m ∷ l → ends r n k s (m ∷ l) ≡ false
-      → opened r n fs k (suc d) s ≡ other ∷ triedAll r n fs k (opened r n fs k d) s (chosen m l)
+      → opened r n fs k (suc d) s ≡ other (opening s) ∷ triedAll r n fs k (opened r n fs k d) s (chosen m l)
   unfolding opened after
   opened-split m l e h = rw (e, h)
 
 -- ---- the steps of a pair
 module _ (r : Rules) (n : ℕ) (fs : List (Poly Mono)) (k : ℕ) (below : List Mono → List Step) (s : List Mono) (p : Mono × Mono) where
-  pub tried-open : opens r n k s p ≡ true → tried r n fs k below s p ≡ other ∷ below (child n s p)
+  pub tried-open : opens r n k s p ≡ true → tried r n fs k below s p ≡ other pair ∷ below (child n s p)
   unfolding tried
   tried-open h = rw h
 
-  pub tried-shut : opens r n k s p ≡ false → tried r n fs k below s p ≡ other ∷ []
+  pub tried-shut : opens r n k s p ≡ false → tried r n fs k below s p ≡ other pair ∷ []
   unfolding tried
   tried-shut h = rw h
 
@@ -121,18 +122,18 @@ module _ (r : Rules) (n b : ℕ) (fs : List (Poly Mono)) (k : ℕ) (f g : List M
   tried-alike p o e = go (test (opens r n k s p))
     where
       go : Tested (opens r n k s p) → tried r n fs k f s p ≡ tried r b fs k g s p
-      go (passed t) = tried-open r n fs k f s p t ∙ ap (λ (x : List Step). other ∷ x) (e t) ∙ sym (tried-open r b fs k g s p (sym o ∙ t))
+      go (passed t) = tried-open r n fs k f s p t ∙ ap (λ (x : List Step). other pair ∷ x) (e t) ∙ sym (tried-open r b fs k g s p (sym o ∙ t))
       go (failed t) = tried-shut r n fs k f s p t ∙ sym (tried-shut r b fs k g s p (sym o ∙ t))
 
   pub after-alike : (m : Mono) (l : List Mono) → ends r n k s (m ∷ l) ≡ ends r b k s (m ∷ l)
-      → r .tries (signals 6 n s) (chosen m l) ≡ r .tries (signals 6 b s) (chosen m l)
-      → ((p : Mono × Mono) → p ∈ r .tries (signals 6 n s) (chosen m l) → tried r n fs k f s p ≡ tried r b fs k g s p)
+      → r .tries (signals width n s) (chosen m l) ≡ r .tries (signals width b s) (chosen m l)
+      → ((p : Mono × Mono) → p ∈ r .tries (signals width n s) (chosen m l) → tried r n fs k f s p ≡ tried r b fs k g s p)
       → after r n fs k f s (m ∷ l) ≡ after r b fs k g s (m ∷ l)
   unfolding after
   after-alike m l stop order h =
       rw (← stop, ← order)
-      (ap (λ (x : List Step). other ∷ cond (ends r n k s (m ∷ l)) [] x)
-      (gather-same (tried r n fs k f s) (tried r b fs k g s) (r .tries (signals 6 n s) (chosen m l)) h))
+      (ap (λ (x : List Step). other (opening s) ∷ cond (ends r n k s (m ∷ l)) [] x)
+      (gather-same (tried r n fs k f s) (tried r b fs k g s) (r .tries (signals width n s) (chosen m l)) h))
 
 -- ---- how deep the walk may go does not matter, where it may go deep enough
 module _ (r : Rules) (o : Orderly r) (n : ℕ) (fs : List (Poly Mono)) (k : ℕ) where
@@ -145,7 +146,7 @@ module _ (r : Rules) (o : Orderly r) (n : ℕ) (fs : List (Poly Mono)) (k : ℕ)
   after-same f g s (m ∷ l) e =
       after-alike r n n fs k f g s m l refl refl
       (λ p h. tried-alike r n n fs k f g s p refl
-      (λ t. e (chosen m l) p (chosen-in m l) (tries-out r o (signals 6 n s) (chosen m l) p h) (opens-fits r n k s p (is→T (opens r n k s p) t))))
+      (λ t. e (chosen m l) p (chosen-in m l) (tries-out r o (signals width n s) (chosen m l) p h) (opens-fits r n k s p (is→T (opens r n k s p) t))))
 
   pub deep : (d e : ℕ) (s : List Mono) → Ascending before s → length s ≤ k → k < length s + d → k < length s + e → opened r n fs k d s ≡ opened r n fs k e s
   unfolding opened

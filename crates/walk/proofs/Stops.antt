@@ -7,19 +7,16 @@ use Prim.Native.Nat.{ℕ, zero, suc, _+_, _-_, _<_, _≤_}
 use native.Mathlib.Omega.{arith}
 use borrow.Author.Tests.{leb-true, leb-false}
 use lib.Dec.{leb}
-use lib.ListN.{length, take}
+use lib.ListN.{length}
 use Rattle.monomial.specs.Monomial.{Mono}
 use Rattle.monomial.proofs.Tests.{Tested, passed, failed, test}
 use Rattle.wiring.specs.Poly.{Poly}
 use Rattle.walk.specs.Walk.{Finds, Rules, Step, level, walked, Run, ended, spent, full, run}
 use Rattle.walk.specs.Plan.{Ending, done, none, fullAt, spentAt, settled, levels, plan}
-use Rattle.walk.proofs.Runs.{distinct, RunEnds, RunStops, RunFills, RunFate, run-exact}
+use Rattle.walk.specs.Claims.{distinct, RunEnds, RunStops, RunFills, RunFate, Barren, Ends, Lacks, Fills, Spends, Fate, stepsOf, endless, SpentBy}
+use Rattle.walk.proofs.Runs.{run-exact}
 
 -- ---- the levels
--- no level below k has a find
-abbrev pub Barren : Rules → ℕ → List (Poly Mono) → ℕ → Type 0
-Barren r n fs k = (i : ℕ) → i < k → distinct (level r n fs i) ≡ []
-
 module _ (r : Rules) (n : ℕ) (fs : List (Poly Mono)) where
   walked-next : (k : ℕ) → walked r n fs (suc k) ≡ walked r n fs k + length (level r n fs k)
   unfolding walked
@@ -44,49 +41,6 @@ module _ (r : Rules) (n : ℕ) (fs : List (Poly Mono)) where
       go (failed p) = b i (leb-false k i p)
 
 module _ (r : Rules) (n : ℕ) (fs : List (Poly Mono)) (limit room cap : ℕ) where
-  -- level j is the first with a find, it is walked to its end within the limit, and its sets have room
-  pub record Ends (j u : ℕ) (l : Finds) : Type 0 where
-    pub low : j ≤ cap
-    pub barren : Barren r n fs j
-    pub steps : u ≡ walked r n fs (suc j)
-    pub within : u ≤ limit
-    pub sets : l ≡ distinct (level r n fs j)
-    pub some : l ≡ [] → ⊥
-    pub roomy : length l ≤ room
-
-  -- all levels up to the cap are walked within the limit, and none has a find
-  pub record Lacks (j u : ℕ) : Type 0 where
-    pub last : j ≡ suc cap
-    pub barren : Barren r n fs j
-    pub steps : u ≡ walked r n fs j
-    pub within : u ≤ limit
-
-  -- level j is the first with a find, and step number u, within the limit, finds there the first set for which there is no room
-  pub record Fills (j u : ℕ) : Type 0 where
-    pub low : j ≤ cap
-    pub barren : Barren r n fs j
-    pub at : ℕ
-    pub inside : at < length (level r n fs j)
-    pub steps : u ≡ walked r n fs j + suc at
-    pub within : u ≤ limit
-    pub filled : length (distinct (take at (level r n fs j))) ≡ room
-    pub more : length (distinct (take (suc at) (level r n fs j))) ≡ suc room
-
-  -- no level below j has a find, the step that would pass the limit is one of level j, and the sets found up to the limit have room
-  pub record Spends (j u : ℕ) : Type 0 where
-    pub low : j ≤ cap
-    pub barren : Barren r n fs j
-    pub steps : u ≡ limit
-    pub reached : walked r n fs j ≤ limit
-    pub over : limit < walked r n fs (suc j)
-    pub roomy : length (distinct (take (limit - walked r n fs j) (level r n fs j))) ≤ room
-
-  abbrev pub Fate : Ending → Type 0
-  Fate (done j u l) = Ends j u l
-  Fate (none j u) = Lacks j u
-  Fate (fullAt j u) = Fills j u
-  Fate (spentAt j u) = Spends j u
-
   abbrev levelOf : Ending → ℕ
   levelOf (done j u l) = j
   levelOf (none j u) = j
@@ -94,7 +48,7 @@ module _ (r : Rules) (n : ℕ) (fs : List (Poly Mono)) (limit room cap : ℕ) wh
   levelOf (spentAt j u) = j
 
   -- ---- what the levels come to has its fate
-  levels-fate : (left k : ℕ) → k + left ≡ suc cap → Barren r n fs k → walked r n fs k ≤ limit → Fate (levels r n fs limit room left k (walked r n fs k))
+  levels-fate : (left k : ℕ) → k + left ≡ suc cap → Barren r n fs k → walked r n fs k ≤ limit → Fate r n fs limit room cap (levels r n fs limit room left k (walked r n fs k))
   unfolding levels settled
   levels-fate zero k c b h = record { last = omega arith; barren = b; steps = refl; within = h }
   levels-fate (suc left) k c b h =
@@ -104,12 +58,12 @@ module _ (r : Rules) (n : ℕ) (fs : List (Poly Mono)) (limit room cap : ℕ) wh
       steps = level r n fs k
 
       go : (y : Run) → RunFate limit room (level r n fs k) (walked r n fs k) [] y
-          → (Barren r n fs (suc k) → walked r n fs (suc k) ≤ limit → Fate (levels r n fs limit room left (suc k) (walked r n fs (suc k))))
-          → Fate (settled limit k (levels r n fs limit room left (suc k)) y)
+          → (Barren r n fs (suc k) → walked r n fs (suc k) ≤ limit → Fate r n fs limit room cap (levels r n fs limit room left (suc k) (walked r n fs (suc k))))
+          → Fate r n fs limit room cap (settled limit k (levels r n fs limit room left (suc k)) y)
       go (ended t []) f ih =
           let e : walked r n fs (suc k) ≡ t = walked-next r n fs k ∙ sym (f .steps) in
           let w : walked r n fs (suc k) ≤ limit = subst (λ (x : ℕ). x ≤ limit) (sym e) (f .within) in
-          subst (λ (x : ℕ). Fate (levels r n fs limit room left (suc k) x)) e (ih (barren-next r n fs k b (sym (f .sets))) w)
+          subst (λ (x : ℕ). Fate r n fs limit room cap (levels r n fs limit room left (suc k) x)) e (ih (barren-next r n fs k b (sym (f .sets))) w)
       go (ended t (s ∷ l)) f ih = record {
         low = omega arith;
         barren = b;
@@ -133,12 +87,12 @@ module _ (r : Rules) (n : ℕ) (fs : List (Poly Mono)) (limit room cap : ℕ) wh
         more = f .more;
       }
 
-  pub fate : Fate (plan r n fs limit room cap)
+  pub fate : Fate r n fs limit room cap (plan r n fs limit room cap)
   unfolding plan walked
   fate = levels-fate (suc cap) 0 (omega arith) (λ i h. let z : ⊥ = omega arith in absurd z) (omega arith)
 
   -- ---- and a fate is that of one ending
-  reached-of : (e : Ending) → Fate e → walked r n fs (levelOf e) ≤ limit
+  reached-of : (e : Ending) → Fate r n fs limit room cap e → walked r n fs (levelOf e) ≤ limit
   reached-of (done j u l) f =
       let w : u ≤ limit = f .within in
       let s : u ≡ walked r n fs (suc j) = f .steps in
@@ -147,7 +101,7 @@ module _ (r : Rules) (n : ℕ) (fs : List (Poly Mono)) (limit room cap : ℕ) wh
   reached-of (fullAt j u) f = let w : u ≤ limit = f .within in let s : u ≡ walked r n fs j + suc (f .at) = f .steps in omega arith
   reached-of (spentAt j u) f = f .reached
 
-  barren-of : (e : Ending) → Fate e → Barren r n fs (levelOf e)
+  barren-of : (e : Ending) → Fate r n fs limit room cap e → Barren r n fs (levelOf e)
   barren-of (done j u l) f = f .barren
   barren-of (none j u) f = f .barren
   barren-of (fullAt j u) f = f .barren
@@ -169,7 +123,7 @@ module _ (r : Rules) (n : ℕ) (fs : List (Poly Mono)) (limit room cap : ℕ) wh
   abbrev here : ℕ → (ℕ → Ending) → Ending
   here k next = settled limit k next (runOf k)
 
-  here-done : (k u : ℕ) (l : Finds) (next : ℕ → Ending) → Ends k u l → here k next ≡ done k u l
+  here-done : (k u : ℕ) (l : Finds) (next : ℕ → Ending) → Ends r n fs limit room cap k u l → here k next ≡ done k u l
   unfolding settled
   here-done k u [] next f = absurd (f .some refl)
   here-done k u (s ∷ l) next f =
@@ -177,39 +131,39 @@ module _ (r : Rules) (n : ℕ) (fs : List (Poly Mono)) (limit room cap : ℕ) wh
       record { steps = f .steps ∙ walked-next r n fs k; within = f .within; sets = f .sets; roomy = f .roomy } in
       ap (settled limit k next) (run-is k (ended u (s ∷ l)) (reached-of (done k u (s ∷ l)) f) y)
 
-  here-full : (k u : ℕ) (next : ℕ → Ending) → Fills k u → here k next ≡ fullAt k u
+  here-full : (k u : ℕ) (next : ℕ → Ending) → Fills r n fs limit room cap k u → here k next ≡ fullAt k u
   unfolding settled
   here-full k u next f =
       let y : RunFills limit room (level r n fs k) (walked r n fs k) [] u =
       record { at = f .at; inside = f .inside; steps = f .steps; within = f .within; filled = f .filled; more = f .more } in
       ap (settled limit k next) (run-is k (full u) (reached-of (fullAt k u) f) y)
 
-  here-spent : (k u : ℕ) (next : ℕ → Ending) → Spends k u → here k next ≡ spentAt k u
+  here-spent : (k u : ℕ) (next : ℕ → Ending) → Spends r n fs limit room cap k u → here k next ≡ spentAt k u
   unfolding settled
   here-spent k u next f =
       let o : limit < walked r n fs (suc k) = f .over in
       let y : RunStops limit room (level r n fs k) (walked r n fs k) [] = record { over = omega (arith, walked-next r n fs k); roomy = f .roomy } in
       ap (settled limit k next) (run-is k spent (f .reached) y) ∙ ap (spentAt k) (sym (f .steps))
 
-  here-is : (k : ℕ) (next : ℕ → Ending) (e : Ending) → k ≤ cap → levelOf e ≡ k → Fate e → here k next ≡ e
+  here-is : (k : ℕ) (next : ℕ → Ending) (e : Ending) → k ≤ cap → levelOf e ≡ k → Fate r n fs limit room cap e → here k next ≡ e
   here-is k next (done j u l) h q f = rw (sym q) (here-done j u l next f)
   here-is k next (none j u) h q f = let s : j ≡ suc cap = f .last in let z : ⊥ = omega arith in absurd z
   here-is k next (fullAt j u) h q f = rw (sym q) (here-full j u next f)
   here-is k next (spentAt j u) h q f = rw (sym q) (here-spent j u next f)
 
   -- beyond the cap there is none
-  beyond-is : (k : ℕ) (e : Ending) → k ≡ suc cap → k ≤ levelOf e → Fate e → none k (walked r n fs k) ≡ e
+  beyond-is : (k : ℕ) (e : Ending) → k ≡ suc cap → k ≤ levelOf e → Fate r n fs limit room cap e → none k (walked r n fs k) ≡ e
   beyond-is k (done j u l) c h f = let s : j ≤ cap = f .low in let z : ⊥ = omega arith in absurd z
   beyond-is k (none j u) c h f = let q : k ≡ j = c ∙ sym (f .last) in rw q (ap (none j) (sym (f .steps)))
   beyond-is k (fullAt j u) c h f = let s : j ≤ cap = f .low in let z : ⊥ = omega arith in absurd z
   beyond-is k (spentAt j u) c h f = let s : j ≤ cap = f .low in let z : ⊥ = omega arith in absurd z
 
-  levels-is : (left k : ℕ) (e : Ending) → k + left ≡ suc cap → k ≤ levelOf e → Fate e → levels r n fs limit room left k (walked r n fs k) ≡ e
+  levels-is : (left k : ℕ) (e : Ending) → k + left ≡ suc cap → k ≤ levelOf e → Fate r n fs limit room cap e → levels r n fs limit room left k (walked r n fs k) ≡ e
   unfolding levels settled
   levels-is zero k e c h f = beyond-is k e (omega arith) h f
   levels-is (suc left) k e c h f = go (test (leb (suc k) (levelOf e))) (levels-is left (suc k) e (omega arith))
     where
-      go : Tested (leb (suc k) (levelOf e)) → (suc k ≤ levelOf e → Fate e → levels r n fs limit room left (suc k) (walked r n fs (suc k)) ≡ e)
+      go : Tested (leb (suc k) (levelOf e)) → (suc k ≤ levelOf e → Fate r n fs limit room cap e → levels r n fs limit room left (suc k) (walked r n fs (suc k)) ≡ e)
           → here k (levels r n fs limit room left (suc k)) ≡ e
       go (passed p) ih =
           let above : suc k ≤ levelOf e = leb-true (suc k) (levelOf e) p in
@@ -219,35 +173,24 @@ module _ (r : Rules) (n : ℕ) (fs : List (Poly Mono)) (limit room cap : ℕ) wh
       go (failed p) ih = let w : levelOf e < suc k = leb-false (suc k) (levelOf e) p in here-is k (levels r n fs limit room left (suc k)) e (omega arith) (omega arith) f
 
   -- each ending comes exactly under its condition
-  pub fate-exact : (e : Ending) → (plan r n fs limit room cap ≡ e) ↔ Fate e
+  pub fate-exact : (e : Ending) → (plan r n fs limit room cap ≡ e) ↔ Fate r n fs limit room cap e
   unfolding plan walked
-  fate-exact e = ((λ p. subst Fate p fate), (λ f. levels-is (suc cap) 0 e (omega arith) (omega arith) f))
+  fate-exact e = ((λ p. subst (Fate r n fs limit room cap) p fate), (λ f. levels-is (suc cap) 0 e (omega arith) (omega arith) f))
 
-  pub done-exact : (j u : ℕ) (l : Finds) → (plan r n fs limit room cap ≡ done j u l) ↔ Ends j u l
+  pub done-exact : (j u : ℕ) (l : Finds) → (plan r n fs limit room cap ≡ done j u l) ↔ Ends r n fs limit room cap j u l
   done-exact j u l = fate-exact (done j u l)
 
-  pub none-exact : (j u : ℕ) → (plan r n fs limit room cap ≡ none j u) ↔ Lacks j u
+  pub none-exact : (j u : ℕ) → (plan r n fs limit room cap ≡ none j u) ↔ Lacks r n fs limit room cap j u
   none-exact j u = fate-exact (none j u)
 
-  pub full-exact : (j u : ℕ) → (plan r n fs limit room cap ≡ fullAt j u) ↔ Fills j u
+  pub full-exact : (j u : ℕ) → (plan r n fs limit room cap ≡ fullAt j u) ↔ Fills r n fs limit room cap j u
   full-exact j u = fate-exact (fullAt j u)
 
-  pub spent-exact : (j u : ℕ) → (plan r n fs limit room cap ≡ spentAt j u) ↔ Spends j u
+  pub spent-exact : (j u : ℕ) → (plan r n fs limit room cap ≡ spentAt j u) ↔ Spends r n fs limit room cap j u
   spent-exact j u = fate-exact (spentAt j u)
 
 -- ---- what the limit does
-abbrev pub stepsOf : Ending → ℕ
-stepsOf (done j u l) = u
-stepsOf (none j u) = u
-stepsOf (fullAt j u) = u
-stepsOf (spentAt j u) = u
-
 module _ (r : Rules) (n : ℕ) (fs : List (Poly Mono)) (room cap : ℕ) where
-  -- the plan under a limit that allows every step of every level: it ends after the first find that has no room, or else after all steps
-  -- up to and with the first level that has a find, or up to the cap
-  abbrev pub endless : Ending
-  endless = plan r n fs (walked r n fs (suc cap)) room cap
-
   abbrev Lasting : Ending → Type 0
   Lasting (done j u l) = Unit {0}
   Lasting (none j u) = Unit {0}
@@ -293,29 +236,25 @@ module _ (r : Rules) (n : ℕ) (fs : List (Poly Mono)) (room cap : ℕ) where
       omega (arith, walked-more r n fs (suc j) (suc cap) (omega arith))
 
   -- a limit that allows the steps of the endless plan changes nothing
-  pub limit-allows : (limit : ℕ) → stepsOf endless ≤ limit → plan r n fs limit room cap ≡ endless
+  pub limit-allows : (limit : ℕ) → stepsOf (endless r n fs room cap) ≤ limit → plan r n fs limit room cap ≡ endless r n fs room cap
   limit-allows limit h =
-      let own : Fate r n fs (walked r n fs (suc cap)) room cap endless = fate r n fs (walked r n fs (suc cap)) room cap in
-      fate-exact r n fs limit room cap endless .1 (relimit (walked r n fs (suc cap)) limit endless (endless-lasts endless own) h own)
-
-  pub record SpentBy (limit : ℕ) : Type 0 where
-    pub level : ℕ
-    pub is : plan r n fs limit room cap ≡ spentAt level limit
+      let own : Fate r n fs (walked r n fs (suc cap)) room cap (endless r n fs room cap) = fate r n fs (walked r n fs (suc cap)) room cap in
+      fate-exact r n fs limit room cap (endless r n fs room cap) .1 (relimit (walked r n fs (suc cap)) limit (endless r n fs room cap) (endless-lasts (endless r n fs room cap) own) h own)
 
   -- and any lower limit is spent
-  pub limit-spends : (limit : ℕ) → limit < stepsOf endless → SpentBy limit
+  pub limit-spends : (limit : ℕ) → limit < stepsOf (endless r n fs room cap) → SpentBy r n fs room cap limit
   limit-spends limit h = go (plan r n fs limit room cap) refl
     where
-      lasting : (e : Ending) → plan r n fs limit room cap ≡ e → Lasting e → stepsOf e ≤ limit → SpentBy limit
+      lasting : (e : Ending) → plan r n fs limit room cap ≡ e → Lasting e → stepsOf e ≤ limit → SpentBy r n fs room cap limit
       lasting e p t w =
           let f : Fate r n fs limit room cap e = fate-exact r n fs limit room cap e .0 p in
           let all : ℕ = walked r n fs (suc cap) in
-          let same : endless ≡ e = fate-exact r n fs all room cap e .1 (relimit limit all e t (steps-bound limit e t f) f) in
-          let steps : stepsOf endless ≡ stepsOf e = ap stepsOf same in
+          let same : endless r n fs room cap ≡ e = fate-exact r n fs all room cap e .1 (relimit limit all e t (steps-bound limit e t f) f) in
+          let steps : stepsOf (endless r n fs room cap) ≡ stepsOf e = ap stepsOf same in
           let z : ⊥ = omega arith in
           absurd z
 
-      go : (e : Ending) → plan r n fs limit room cap ≡ e → SpentBy limit
+      go : (e : Ending) → plan r n fs limit room cap ≡ e → SpentBy r n fs room cap limit
       go (done j u l) p = lasting (done j u l) p tt (done-exact r n fs limit room cap j u l .0 p .within)
       go (none j u) p = lasting (none j u) p tt (none-exact r n fs limit room cap j u .0 p .within)
       go (fullAt j u) p = lasting (fullAt j u) p tt (full-exact r n fs limit room cap j u .0 p .within)

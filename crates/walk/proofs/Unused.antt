@@ -3,24 +3,27 @@
 use mathlib.Core.Path.{_≡_, refl, sym, ap, _∙_, subst}
 use mathlib.Core.Logic.{⊎-elim}
 use mathlib.Core.Bool.{cond}
-use mathlib.Core.List.{List, [], _∷_, List·Memᴰ·head, List·Memᴰ·cases-cons, List·Memᴰ·not-nil, Memᴰ·of-map}
-use Prim.Native.Nat.{ℕ, zero, suc, _-_, _/_, _<_, _≤_}
+use mathlib.Core.List.{List, [], _∷_, List·Memᴰ·not-nil}
+use Prim.Native.Nat.{ℕ, zero, suc, _-_, _/_, _≤_}
 use native.Mathlib.Omega.{arith}
 use lib.Dec.{T, leb}
-use lib.ListN.{length, getD, take}
+use lib.ListN.{length, getD}
 use Rattle.monomial.specs.Lists.{any}
-use Rattle.monomial.specs.Monomial.{Mono, vars, constants}
+use Rattle.monomial.specs.Monomial.{Mono, constants, width}
 use Rattle.monomial.specs.Order.{same}
 use Rattle.monomial.specs.Product.{mul}
 use Rattle.monomial.specs.Quotient.{divides}
 use Rattle.monomial.specs.Divisors.{pairs}
+use Rattle.monomial.specs.Claims.{_∈_, _⊆_, IsPair, Within}
 use Rattle.monomial.proofs.Tests.{is→T, same-test}
-use Rattle.monomial.proofs.Members.{_∈_, there, take-in}
+use Rattle.monomial.proofs.Members.{take-in, take-more}
 use Rattle.monomial.proofs.order.Laws.{mono-order}
-use Rattle.monomial.proofs.order.Ascending.{_⊆_, sub-length, sub-equal, among-in, among-out}
+use Rattle.monomial.proofs.order.Ascending.{sub-length, sub-equal, among-in, among-out}
 use Rattle.monomial.proofs.product.Laws.{mul-comm}
 use Rattle.monomial.proofs.quotient.Laws.{factor-divides}
-use Rattle.monomial.proofs.divisors.Pairs.{Splits, pairs-out}
+use Rattle.monomial.proofs.divisors.Pairs.{pairs-out}
+use Rattle.monomial.proofs.Within.{within-divides, constant-within}
+use Rattle.wiring.specs.Panel.{setBytes}
 use Rattle.wiring.specs.Poly.{Poly, plain, support}
 use Rattle.wiring.specs.Quadratic.{inV2}
 use Rattle.wiring.specs.Derivative.{derivative}
@@ -29,61 +32,40 @@ use Rattle.wiring.specs.Choice.{chosen}
 use Rattle.wiring.specs.Terms.{Record, records, fault, system, CleanTerms}
 use Rattle.wiring.specs.Answers.{missing}
 use Rattle.wiring.specs.declared.terms.Fault.the-variants.{Clean}
+use Rattle.wiring.specs.Claims.{Keeps, Alike, Flawless, beyond, base, Wide}
 use Rattle.wiring.proofs.quadratic.Laws.{Factors, inV2-in, inV2-out, unmet-in, unmet-out, Nonsquare, nonsquares-in, nonsquares-out, nonsquares-asc}
 use Rattle.wiring.proofs.Poly.{support-out}
 use Rattle.wiring.proofs.derivative.Records.{Derived, derived}
-use Rattle.wiring.proofs.terms.Exact.{Keeps, Alike, Flawless, clean-exact}
-use Rattle.wiring.proofs.answers.Exact.{count-in, beyond}
+use Rattle.wiring.proofs.terms.Exact.{clean-exact}
+use Rattle.wiring.proofs.answers.Exact.{count-in}
 use Rattle.wiring.proofs.terms.Laws.{Fields, fields-out, clean-right, clean-widens}
-use Rattle.wiring.proofs.signals.Laws.{base, base-in, set-in, signals-cases}
+use Rattle.wiring.proofs.signals.Laws.{base-in, set-in, signals-cases}
 use Rattle.walk.specs.Walk.{Rules, bare, added, child, Step, opens, ends, tried, after, opened, level, Run, ended, spent, full, run}
 use Rattle.walk.specs.Plan.{Ending, settled, levels, plan, settingsRight, planned}
+use Rattle.walk.specs.Claims.{Orderly, Proper, Heedless}
 use Rattle.walk.proofs.children.Laws.{chosen-in, signals-wide, Grown, old, left, right, child-out, nonsquare-wide}
 use Rattle.walk.proofs.Steps.{tried-alike, after-alike}
-use Rattle.walk.proofs.Rules.{Wide, Orderly, tries-out, bare-orderly}
-use Rattle.walk.proofs.Sound.{Within, one-within, within-divides, within-base, Proper, empty-proper, gap-within, keeps-proper}
-
--- the first entries are among more of them
-take-more : {A : Type 0} (a b : ℕ) (l : List A) → a ≤ b → {x : A} → x ∈ take a l → x ∈ take b l
-take-more zero b l h k = absurd (List·Memᴰ·not-nil k)
-take-more (suc a) zero l h k = let z : ⊥ = omega arith in absurd z
-take-more (suc a) (suc b) [] h k = k
-take-more (suc a) (suc b) (y ∷ l) h k = ⊎-elim (λ e. List·Memᴰ·head e) (λ j. there (take-more a b l (omega arith) j)) (List·Memᴰ·cases-cons k)
-
--- a constant that holds one of the first n variables holds no other
-raised-within : (n w i : ℕ) (z : Mono) → z ∈ vars w → i < n → 0 < getD z i 0 → Within n z
-unfolding vars
-raised-within n zero i z h k r = absurd (List·Memᴰ·not-nil h)
-raised-within zero (suc w) i z h k r = let x : ⊥ = omega arith in absurd x
-raised-within (suc n) (suc w) i z h k r =
-    ⊎-elim (λ e. rw e (one-within n w)) (λ j. later i (raised-within n w) (Memᴰ·of-map (_∷_ 0) (vars w) j) k r) (List·Memᴰ·cases-cons h)
-  where
-    later : (i : ℕ) → ((i : ℕ) (y : Mono) → y ∈ vars w → i < n → 0 < getD y i 0 → Within n y)
-        → (y : Mono) × (y ∈ vars w) × (0 ∷ y ≡ z) → i < suc n → 0 < getD z i 0 → Within (suc n) z
-    later zero ih q l g = let b : 0 < 0 = rw (sym (q .2)) at g in let x : ⊥ = omega arith in absurd x
-    later (suc i) ih q l g = rw (sym (q .2)) (ih i (q .0) (q .1) (omega arith) (rw (sym (q .2)) at g))
-
-constant-within : (n i : ℕ) (z : Mono) → z ∈ constants 6 → i < n → 0 < getD z i 0 → Within n z
-constant-within n i z h k r = ⊎-elim (λ e. rw e (one-within n 6)) (λ j. raised-within n 6 i z j k r) (List·Memᴰ·cases-cons h)
+use Rattle.walk.proofs.Rules.{tries-out, bare-orderly}
+use Rattle.walk.proofs.Sound.{within-base, empty-proper, gap-within, keeps-proper}
 
 -- V has more in it, but nothing more that says nothing of the further variables
 module _ (n b : ℕ) (more : n ≤ b) (s : List Mono) where
-  grow : signals 6 n s ⊆ signals 6 b s
-  grow x h = ⊎-elim (λ j. base-in b s (take-more (suc n) (suc b) (constants 6) (omega arith) j)) (λ j. set-in b s j) (signals-cases n s h)
+  grow : signals width n s ⊆ signals width b s
+  grow x h = ⊎-elim (λ j. base-in b s (take-more (suc n) (suc b) (constants width) (omega arith) j)) (λ j. set-in b s j) (signals-cases n s h)
 
-  shrink : (x : Mono) → x ∈ signals 6 b s → Within n x → x ∈ signals 6 n s
-  shrink x h w = ⊎-elim (λ j. base-in n s (within-base n x (take-in (suc b) (constants 6) j) w)) (λ j. set-in n s j) (signals-cases b s h)
+  shrink : (x : Mono) → x ∈ signals width b s → Within n x → x ∈ signals width n s
+  shrink x h w = ⊎-elim (λ j. base-in n s (within-base n x (take-in (suc b) (constants width) j) w)) (λ j. set-in n s j) (signals-cases b s h)
 
-  pub signal-same : (x : Mono) → Within n x → any (same x) (signals 6 n s) ≡ any (same x) (signals 6 b s)
+  pub signal-same : (x : Mono) → Within n x → any (same x) (signals width n s) ≡ any (same x) (signals width b s)
   signal-same x w =
-      same-test (any (same x) (signals 6 n s)) (any (same x) (signals 6 b s))
-      (λ t. among-in mono-order (grow x (among-out mono-order x (signals 6 n s) t)))
-      (λ t. among-in mono-order (shrink x (among-out mono-order x (signals 6 b s) t) w))
+      same-test (any (same x) (signals width n s)) (any (same x) (signals width b s))
+      (λ t. among-in mono-order (grow x (among-out mono-order x (signals width n s) t)))
+      (λ t. among-in mono-order (shrink x (among-out mono-order x (signals width b s) t) w))
 
 pub factor-within : (n : ℕ) (m x y : Mono) → Within n m → length x ≡ length y → mul x y ≡ m → Within n x
 factor-within n m x y w l e = within-divides n x m (subst (λ (z : Mono). T (divides x z)) e (factor-divides x y l)) w
 
-module _ (n b : ℕ) (terms : List ℕ) (more : n ≤ b) (few : b ≤ 6) (clean : fault n (records terms) ≡ Clean) where
+module _ (n b : ℕ) (terms : List ℕ) (more : n ≤ b) (few : b ≤ width) (clean : fault n (records terms) ≡ Clean) where
   abbrev fs : List (Poly Mono)
   fs = system (records terms)
 
@@ -91,10 +73,10 @@ module _ (n b : ℕ) (terms : List ℕ) (more : n ≤ b) (few : b ≤ 6) (clean 
   six = clean-widens n (records terms) (omega arith) clean
 
   module _ (s : List Mono) (q : Proper n s) (wide : Wide s) where
-    factors-grow : (m : Mono) → Factors plain mono-order (signals 6 n s) m → Factors plain mono-order (signals 6 b s) m
+    factors-grow : (m : Mono) → Factors plain mono-order (signals width n s) m → Factors plain mono-order (signals width b s) m
     factors-grow m f = record { a = f .a; b = f .b; a-in = grow n b more s (f .a) (f .a-in); b-in = grow n b more s (f .b) (f .b-in); is = f .is }
 
-    factors-shrink : (m : Mono) → Within n m → Factors plain mono-order (signals 6 b s) m → Factors plain mono-order (signals 6 n s) m
+    factors-shrink : (m : Mono) → Within n m → Factors plain mono-order (signals width b s) m → Factors plain mono-order (signals width n s) m
     factors-shrink m w f =
         let long : length (f .a) ≡ length (f .b) = signals-wide b s wide (f .a) (f .a-in) ∙ sym (signals-wide b s wide (f .b) (f .b-in)) in
         let first : Within n (f .a) = factor-within n m (f .a) (f .b) w long (f .is) in
@@ -102,7 +84,7 @@ module _ (n b : ℕ) (terms : List ℕ) (more : n ≤ b) (few : b ≤ 6) (clean 
         record { a = f .a; b = f .b; a-in = shrink n b more s (f .a) (f .a-in) first; b-in = shrink n b more s (f .b) (f .b-in) second; is = f .is }
 
     -- a member of V whose derivative has a monomial holds a variable with a record
-    derived-member : (z m : Mono) → z ∈ signals 6 b s → m ∈ support plain (derivative plain fs z) → z ∈ signals 6 n s
+    derived-member : (z m : Mono) → z ∈ signals width b s → m ∈ support plain (derivative plain fs z) → z ∈ signals width n s
     derived-member z m h k = shrink n b more s z h (⊎-elim constant (q .within z) (signals-cases b s h))
       where
         from : Derived (records terms) z m
@@ -115,31 +97,31 @@ module _ (n b : ℕ) (terms : List ℕ) (more : n ≤ b) (few : b ≤ 6) (clean 
         constant j =
             let low : 1 ≤ from .by .equation = own .low in
             let high : from .by .equation ≤ n = own .high in
-            constant-within n (from .by .equation - 1) z (take-in (suc b) (constants 6) j) (omega arith) (from .raised)
+            constant-within n width (from .by .equation - 1) z (take-in (suc b) (constants width) j) (omega arith) (from .raised)
 
     gaps-grow : missing n fs s ⊆ missing b fs s
     gaps-grow m h =
         let d = derivative plain fs in
-        let w : Nonsquare plain mono-order (signals 6 n s) d m = nonsquares-out plain mono-order (signals 6 n s) d m h in
-        let u = unmet-out plain mono-order (signals 6 n s) (d (w .of)) m (w .missing) in
-        let out : T (inV2 plain (signals 6 b s) m) → ⊥ = λ t.
-        u .1 (inV2-in plain mono-order (signals 6 n s) m (factors-shrink m (gap-within n terms clean six s q m h) (inV2-out plain mono-order (signals 6 b s) m t))) in
-        nonsquares-in plain mono-order (signals 6 b s) d (w .of) m (grow n b more s (w .of) (w .of-in)) (unmet-in plain mono-order (signals 6 b s) (d (w .of)) m (u .0) out)
+        let w : Nonsquare plain mono-order (signals width n s) d m = nonsquares-out plain mono-order (signals width n s) d m h in
+        let u = unmet-out plain mono-order (signals width n s) (d (w .of)) m (w .missing) in
+        let out : T (inV2 plain (signals width b s) m) → ⊥ = λ t.
+        u .1 (inV2-in plain mono-order (signals width n s) m (factors-shrink m (gap-within n terms clean six s q m h) (inV2-out plain mono-order (signals width b s) m t))) in
+        nonsquares-in plain mono-order (signals width b s) d (w .of) m (grow n b more s (w .of) (w .of-in)) (unmet-in plain mono-order (signals width b s) (d (w .of)) m (u .0) out)
 
     gaps-shrink : missing b fs s ⊆ missing n fs s
     gaps-shrink m h =
         let d = derivative plain fs in
-        let w : Nonsquare plain mono-order (signals 6 b s) d m = nonsquares-out plain mono-order (signals 6 b s) d m h in
-        let u = unmet-out plain mono-order (signals 6 b s) (d (w .of)) m (w .missing) in
-        let out : T (inV2 plain (signals 6 n s) m) → ⊥ = λ t.
-        u .1 (inV2-in plain mono-order (signals 6 b s) m (factors-grow m (inV2-out plain mono-order (signals 6 n s) m t))) in
-        let member : w .of ∈ signals 6 n s = derived-member (w .of) m (w .of-in) (u .0) in
-        nonsquares-in plain mono-order (signals 6 n s) d (w .of) m member (unmet-in plain mono-order (signals 6 n s) (d (w .of)) m (u .0) out)
+        let w : Nonsquare plain mono-order (signals width b s) d m = nonsquares-out plain mono-order (signals width b s) d m h in
+        let u = unmet-out plain mono-order (signals width b s) (d (w .of)) m (w .missing) in
+        let out : T (inV2 plain (signals width n s) m) → ⊥ = λ t.
+        u .1 (inV2-in plain mono-order (signals width b s) m (factors-grow m (inV2-out plain mono-order (signals width n s) m t))) in
+        let member : w .of ∈ signals width n s = derived-member (w .of) m (w .of-in) (u .0) in
+        nonsquares-in plain mono-order (signals width n s) d (w .of) m member (unmet-in plain mono-order (signals width n s) (d (w .of)) m (u .0) out)
 
     missing-same : missing n fs s ≡ missing b fs s
     missing-same =
-        let small = nonsquares-asc plain mono-order (signals 6 n s) (derivative plain fs) in
-        let large = nonsquares-asc plain mono-order (signals 6 b s) (derivative plain fs) in
+        let small = nonsquares-asc plain mono-order (signals width n s) (derivative plain fs) in
+        let large = nonsquares-asc plain mono-order (signals width b s) (derivative plain fs) in
         sub-equal mono-order (missing n fs s) (missing b fs s) small large gaps-grow (sub-length mono-order (missing b fs s) (missing n fs s) large small gaps-shrink)
 
     child-same : (p : Mono × Mono) → Within n (p .0) → Within n (p .1) → child n s p ≡ child b s p
@@ -148,7 +130,7 @@ module _ (n b : ℕ) (terms : List ℕ) (more : n ≤ b) (few : b ≤ 6) (clean 
 
     -- ---- the children by a pair of a nonsquare
     module _ (m : Mono) (h : m ∈ missing n fs s) (p : Mono × Mono) (k : p ∈ pairs m) where
-      two : Splits p m
+      two : IsPair p m
       two = pairs-out p m k
 
       pair-same : child n s p ≡ child b s p
@@ -160,10 +142,10 @@ module _ (n b : ℕ) (terms : List ℕ) (more : n ≤ b) (few : b ≤ 6) (clean 
       child-wide : Wide (child n s p)
       child-wide x i = go (child-out n s p i)
         where
-          six-of : length m ≡ 6
+          six-of : length m ≡ width
           six-of = nonsquare-wide terms six n s wide m h
 
-          go : Grown n s p x → length x ≡ 6
+          go : Grown n s p x → length x ≡ width
           go (old j) = wide x j
           go (left e f) = ap length e ∙ two .left ∙ six-of
           go (right e f) = ap length e ∙ two .right ∙ six-of
@@ -177,13 +159,6 @@ settled-same limit k f g spent e = refl
 settled-same limit k f g (full t) e = refl
 
 -- ---- rules that heed no unused variable: of a set and nonsquares that hold none they say the same for n and for b variables
-pub record Heedless (r : Rules) (n b : ℕ) : Type 0 where
-  pub proper : Proper n (r .start)
-  pub wide : Wide (r .start)
-  pub closing : (room : ℕ) (s ns : List Mono) → Proper n s → Wide s → ((m : Mono) → m ∈ ns → Within n m) → Wide ns
-      → r .closed room (signals 6 n s) ns ≡ r .closed room (signals 6 b s) ns
-  pub trying : (s : List Mono) (m : Mono) → Proper n s → Wide s → Within n m → length m ≡ 6 → r .tries (signals 6 n s) m ≡ r .tries (signals 6 b s) m
-
 pub bare-heedless : (n b : ℕ) → Heedless bare n b
 bare-heedless n b = record {
   proper = empty-proper n;
@@ -192,7 +167,7 @@ bare-heedless n b = record {
   trying = λ s m q w i x. refl;
 }
 
-module _ (r : Rules) (o : Orderly r) (n b : ℕ) (heed : Heedless r n b) (terms : List ℕ) (more : n ≤ b) (few : b ≤ 6) (clean : fault n (records terms) ≡ Clean) where
+module _ (r : Rules) (o : Orderly r) (n b : ℕ) (heed : Heedless r n b) (terms : List ℕ) (more : n ≤ b) (few : b ≤ width) (clean : fault n (records terms) ≡ Clean) where
   abbrev system-of : List (Poly Mono)
   system-of = system (records terms)
 
@@ -204,7 +179,7 @@ module _ (r : Rules) (o : Orderly r) (n b : ℕ) (heed : Heedless r n b) (terms 
     gap-in : (m : Mono) → m ∈ missing n system-of s → Within n m
     gap-in m h = gap-within n terms clean clean-6 s q m h
 
-    gap-long : (m : Mono) → m ∈ missing n system-of s → length m ≡ 6
+    gap-long : (m : Mono) → m ∈ missing n system-of s → length m ≡ width
     gap-long m h = nonsquare-wide terms clean-6 n s w m h
 
     ends-same : ends r n k s (missing n system-of s) ≡ ends r b k s (missing n system-of s)
@@ -215,13 +190,13 @@ module _ (r : Rules) (o : Orderly r) (n b : ℕ) (heed : Heedless r n b) (terms 
       child-is : child n s p ≡ child b s p
       child-is = pair-same n b terms more few clean s q w m h p i
 
-      part : (x y : Mono) → length x ≡ length y → mul x y ≡ m → any (same x) (signals 6 n s) ≡ any (same x) (signals 6 b s)
+      part : (x y : Mono) → length x ≡ length y → mul x y ≡ m → any (same x) (signals width n s) ≡ any (same x) (signals width b s)
       part x y l e = signal-same n b more s x (factor-within n m x y (gap-in m h) l e)
 
       opens-same : opens r n k s p ≡ opens r b k s p
       unfolding opens
       opens-same =
-          let two : Splits p m = pairs-out p m i in
+          let two : IsPair p m = pairs-out p m i in
           let long : length (p .0) ≡ length (p .1) = two .left ∙ sym (two .right) in
           rw (part (p .0) (p .1) long (two .product), part (p .1) (p .0) (sym long) (mul-comm (p .1) (p .0) ∙ two .product), child-is)
 
@@ -236,8 +211,8 @@ module _ (r : Rules) (o : Orderly r) (n b : ℕ) (heed : Heedless r n b) (terms 
     after-same f g (m ∷ l) e h =
         let gap : chosen m l ∈ missing n system-of s = subst (λ x. chosen m l ∈ x) (sym e) (chosen-in m l) in
         let stop : ends r n k s (m ∷ l) ≡ ends r b k s (m ∷ l) = subst (λ (x : List Mono). ends r n k s x ≡ ends r b k s x) e ends-same in
-        let order : r .tries (signals 6 n s) (chosen m l) ≡ r .tries (signals 6 b s) (chosen m l) = heed .trying s (chosen m l) q w (gap-in (chosen m l) gap) (gap-long (chosen m l) gap) in
-        after-alike r n b system-of k f g s m l stop order (λ p i. h (chosen m l) gap p (tries-out r o (signals 6 n s) (chosen m l) p i))
+        let order : r .tries (signals width n s) (chosen m l) ≡ r .tries (signals width b s) (chosen m l) = heed .trying s (chosen m l) q w (gap-in (chosen m l) gap) (gap-long (chosen m l) gap) in
+        after-alike r n b system-of k f g s m l stop order (λ p i. h (chosen m l) gap p (tries-out r o (signals width n s) (chosen m l) p i))
 
   opened-same : (k d : ℕ) (s : List Mono) → Proper n s → Wide s → opened r n system-of k d s ≡ opened r b system-of k d s
   unfolding opened
@@ -290,11 +265,11 @@ clean-more n b rs h e = clean-exact b rs beyond .1 (record { keeps = λ i k. wid
     }
 
 -- the same numbers, and every byte of the buffer
-pub planned-same : (n b cap limit : ℕ) (terms : List ℕ) (size : ℕ) → 1 ≤ n → n ≤ b → b ≤ 6 → fault n (records terms) ≡ Clean
+pub planned-same : (n b cap limit : ℕ) (terms : List ℕ) (size : ℕ) → 1 ≤ n → n ≤ b → b ≤ width → fault n (records terms) ≡ Clean
     → planned n cap limit terms size ≡ planned b cap limit terms size
 unfolding planned settingsRight
 planned-same n b cap limit terms size low more few clean =
-    let high : n ≤ 6 = omega arith in
+    let high : n ≤ width = omega arith in
     let low' : 1 ≤ b = omega arith in
-    let plans = plan-same bare bare-orderly n b (bare-heedless n b) terms more few clean limit (size / 36) cap in
+    let plans = plan-same bare bare-orderly n b (bare-heedless n b) terms more few clean limit (size / setBytes) cap in
     rw (count-in n (low, high), count-in b (low', few), clean, clean-more n b (records terms) more clean, plans)

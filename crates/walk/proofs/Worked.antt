@@ -19,6 +19,7 @@ use Rattle.wiring.specs.Terms.{records, lengthRight, exponentsRight, coefficien
 use Rattle.wiring.specs.Sets.{places, sizeOf, setOf, ascending, monomialRight, setRight, setRecord}
 use Rattle.wiring.specs.Wires.{firstOf, secondOf, row as rowOf, rowsFrom, wiring, wireRecord}
 use Rattle.wiring.specs.Answers.{countRight, firstUnmet, judged, recordJudged, verdict, listed, wired}
+use Rattle.wiring.specs.Panel.{setBytes}
 use Rattle.walk.specs.Walk.{added, child, opens, ends, tried, after, opened, level, kept, onward, run}
 use Rattle.walk.specs.Plan.{settled, levels, plan, setsBytes, said, settingsRight, planned}
 
@@ -144,8 +145,8 @@ worked = refl
 
 -- one reply does not do for all: x' = x^2 and x' = x^3 with cap 0 have different ones
 pub record TwoSystems : Type 0 where
-  pub square : planned 1 0 1 (plus 1 (2 ∷ [])) 36 .said ≡ five 0 0 1 1 0
-  pub cube : planned 1 0 1 (plus 1 (3 ∷ [])) 36 .said ≡ five 5 1 0 1 0
+  pub square : planned 1 0 1 (plus 1 (2 ∷ [])) setBytes .said ≡ five 0 0 1 1 0
+  pub cube : planned 1 0 1 (plus 1 (3 ∷ [])) setBytes .said ≡ five 5 1 0 1 0
 
 pub two-systems : TwoSystems
 unfolding plus padded planned settingsRight said setsBytes plan levels settled run onward kept level opened after ends tried opens child added cheaper
@@ -156,7 +157,7 @@ two-systems = record { square = refl; cube = refl }
 
 pub plan-not-constant : (x : Numbers) → ((n cap limit : ℕ) (terms : List ℕ) (size : ℕ) → x ≡ planned n cap limit terms size .said) → ⊥
 plan-not-constant x h =
-    let done : x ≡ five 0 0 1 1 0 = h 1 0 1 (plus 1 (2 ∷ [])) 36 ∙ two-systems .square in
-    let none : x ≡ five 5 1 0 1 0 = h 1 0 1 (plus 1 (3 ∷ [])) 36 ∙ two-systems .cube in
+    let done : x ≡ five 0 0 1 1 0 = h 1 0 1 (plus 1 (2 ∷ [])) setBytes ∙ two-systems .square in
+    let none : x ≡ five 5 1 0 1 0 = h 1 0 1 (plus 1 (3 ∷ [])) setBytes ∙ two-systems .cube in
     let codes : _≡_ {A = ℕ} 0 5 = ap (λ (y : Numbers). y .code) (sym done ∙ none) in
     omega arith

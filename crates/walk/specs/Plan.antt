@@ -6,7 +6,7 @@ use lib.Dec.{leb}
 use lib.ListN.{length, replicate}
 use Rattle.monomial.specs.Lists.{gather}
 use Rattle.monomial.specs.Monomial.{Mono}
-use Rattle.wiring.specs.Panel.{cards, setBytes}
+use Rattle.wiring.specs.Panel.{cards, setBytes, mostSteps}
 use Rattle.wiring.specs.Reply.{Outcome, outcome, refused}
 use Rattle.wiring.specs.Poly.{Poly}
 use Rattle.wiring.specs.Terms.{records, lengthRight, fault, system}
@@ -50,9 +50,9 @@ said (none order steps) size = refused (Nothing order steps) size
 said (fullAt order steps) size = refused (Full order steps) size
 said (spentAt order steps) size = refused (Spent order steps) size
 
--- n 1 to 6, the cap at most 6, the limit 1 to 1,000,000,000
+-- the number of variables, the cap and the limit are in range
 unfoldable pub settingsRight : ℕ → ℕ → ℕ → Bool
-settingsRight n cap limit = countRight n && leb cap cards && leb 1 limit && leb limit 1000000000
+settingsRight n cap limit = countRight n && leb cap cards && leb 1 limit && leb limit mostSteps
 
 unfoldable pub planned : ℕ → ℕ → ℕ → List ℕ → ℕ → Outcome
 planned n cap limit terms size =

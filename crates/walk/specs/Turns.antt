@@ -1,13 +1,14 @@
 -- What the functions of the walk ask and tell of a run. Assumes nothing.
 use mathlib.Core.Path.{_≡_}
 use mathlib.Core.Bool.{Bool, true, false}
-use mathlib.Core.List.{List, _∷_, List·Memᴰ}
+use mathlib.Core.List.{List, _∷_}
 use Prim.Native.Nat.{ℕ, _*_, _/_, _≤_, _<_}
 use lib.Dec.{leb}
 use lib.ListN.{length}
-use Rattle.monomial.specs.Monomial.{Mono}
+use Rattle.monomial.specs.Monomial.{Mono, width}
 use Rattle.monomial.specs.Product.{AtMost}
-use Rattle.wiring.specs.Panel.{width, cards, termExponent}
+use Rattle.monomial.specs.Claims.{_∈_}
+use Rattle.wiring.specs.Panel.{cards, termExponent, setBytes}
 use Rattle.wiring.specs.Poly.{plain}
 use Rattle.wiring.specs.Derivative.{derivative}
 use Rattle.wiring.specs.Quadratic.{nonsquares}
@@ -27,7 +28,7 @@ use Rattle.walk.specs.Listing.{Recorded, Shown}
 -- what each set of the walk keeps: it has a record, and its exponents are at most 9 for each of its monomials
 pub record Walked (s : List Mono) : Type 0 where
   pub recorded : Recorded s
-  pub small : (m : Mono) → List·Memᴰ m s → AtMost (termExponent * length s) m
+  pub small : (m : Mono) → m ∈ s → AtMost (termExponent * length s) m
 
 -- the child c, where it has at most `level` monomials
 pub record Child (level : ℕ) (c : List Mono) (t : Tried) : Type 0 where
@@ -48,7 +49,7 @@ Tells Spent out r = r ≡ spent
 Tells (Full steps) out r = r ≡ full steps
 
 -- the buffer shows some finds
-pub record Sheet (count : ℕ) (out : List ℕ) : Type 0 where
+pub record Showing (count : ℕ) (out : List ℕ) : Type 0 where
   pub finds : Finds
   pub shown : Shown finds count out
 
@@ -60,17 +61,17 @@ pub record Ready (n : ℕ) (terms : List ℕ) (level : ℕ) (set : Set) (count :
   pub few : n ≤ width
   pub clean : CleanTerms terms
   pub walked : Walked (monomialsOf set)
-  pub sheet : Sheet count out
+  pub showing : Showing count out
 
 -- a found set, with the buffer that is to show it
 pub record Found (set : Set) (count : ℕ) (out : List ℕ) : Type 0 where
   pub recorded : Recorded (monomialsOf set)
-  pub sheet : Sheet count out
+  pub showing : Showing count out
 
 -- what the pair runner asks besides
 pub record Splits (n : ℕ) (terms : List ℕ) (level : ℕ) (set : Set) (m : Mono) : Type 0 where
   pub below : set .len < level
-  pub member : List·Memᴰ m (nonsquares plain (signals width n (monomialsOf set)) (derivative plain (system (records terms))))
+  pub member : m ∈ nonsquares plain (signals width n (monomialsOf set)) (derivative plain (system (records terms)))
 
 -- ---- what taking the step of an opening tells, by given rules
 module _ (r : Rules) (n : ℕ) (terms : List ℕ) (level limit : ℕ) (set : Set) (st : State) (out₀ : List ℕ) where
@@ -78,12 +79,12 @@ module _ (r : Rules) (n : ℕ) (terms : List ℕ) (level limit : ℕ) (set : Set
   gaps = nonsquares plain (signals width n (monomialsOf set)) (derivative plain (system (records terms)))
 
   -- nothing follows: the turn is that of the opening, whatever the bound on the depth
-  abbrev pub Closed : Turn → List ℕ → Type 0
-  Closed turn out = (d : ℕ) (finds : Finds) → 0 < d → Shown finds (st .count) out₀
-      → Tells turn out (run limit (length out₀ / 36) (opened r n (system (records terms)) level d (monomialsOf set)) (st .steps) finds)
+  abbrev pub NothingFollows : Turn → List ℕ → Type 0
+  NothingFollows turn out = (d : ℕ) (finds : Finds) → 0 < d → Shown finds (st .count) out₀
+      → Tells turn out (run limit (length out₀ / setBytes) (opened r n (system (records terms)) level d (monomialsOf set)) (st .steps) finds)
 
   -- the pairs of a nonsquare follow: the step is taken, the set goes on, and the buffer is as it was
-  pub record Split (m : Mono) (out : List ℕ) : Type 0 where
+  pub record PairsFollow (m : Mono) (out : List ℕ) : Type 0 where
     pub taken : st .steps < limit
     pub first : Mono
     pub others : List Mono
@@ -92,9 +93,9 @@ module _ (r : Rules) (n : ℕ) (terms : List ℕ) (level limit : ℕ) (set : Set
     pub is : m ≡ chosen first others
     pub kept : out ≡ out₀
 
-  abbrev pub JudgedBy : Bool → Opened → List ℕ → Type 0
-  JudgedBy false o out = Closed (o .turn) out
-  JudgedBy true o out = Split (o .m .e) out
+  abbrev pub SteppedBy : Bool → Opened → List ℕ → Type 0
+  SteppedBy false o out = NothingFollows (o .turn) out
+  SteppedBy true o out = PairsFollow (o .m .e) out
 
-  abbrev pub Judged : Opened → List ℕ → Type 0
-  Judged o out = JudgedBy (o .split) o out
+  abbrev pub Stepped : Opened → List ℕ → Type 0
+  Stepped o out = SteppedBy (o .split) o out

@@ -6,10 +6,9 @@ use Prim.Native.Nat.{ℕ, zero, suc, _+_, _-_}
 use lib.Dec.{leb}
 use lib.ListN.{length}
 use Rattle.monomial.specs.Lists.{any, gather, insertBy}
-use Rattle.monomial.specs.Monomial.{Mono}
+use Rattle.monomial.specs.Monomial.{Mono, width}
 use Rattle.monomial.specs.Order.{same, before, sameSet, beforeSet}
 use Rattle.monomial.specs.Divisors.{pairs}
-use Rattle.wiring.specs.Panel.{width}
 use Rattle.wiring.specs.Poly.{Poly, plain}
 use Rattle.wiring.specs.Derivative.{derivative}
 use Rattle.wiring.specs.Quadratic.{nonsquares}
@@ -43,10 +42,15 @@ pub record Rules : Type 0 where
 abbrev pub bare : Rules
 bare = record { may = λ m. true; closed = λ room v ns. false; tries = λ v m. pairs m; start = [] }
 
+-- a step without a find: a pair is tried, or a set is opened that is not quadratic
+pub data Taken : Type 0 where
+  pair : Taken
+  opening : List Mono → Taken
+
 -- a step: a set is opened and found, or it is a step without a find
 pub data Step : Type 0 where
   found : List Mono → Step
-  other : Step
+  other : Taken → Step
 
 module _ (r : Rules) (n k : ℕ) where
   -- whether the child of a pair is opened at level k: what it adds to V may be, and it has at most k monomials
@@ -62,7 +66,7 @@ module _ (r : Rules) (n k : ℕ) where
 module _ (r : Rules) (n : ℕ) (fs : List (Poly Mono)) (k : ℕ) where
   -- a pair costs one step; its child is opened at once or not at all
   unfoldable pub tried : (List Mono → List Step) → List Mono → Mono × Mono → List Step
-  tried below s p = let steps = below (child n s p) in other ∷ cond (opens r n k s p) steps []
+  tried below s p = let steps = below (child n s p) in other pair ∷ cond (opens r n k s p) steps []
 
   -- the pairs of a nonsquare m of s, one after the other
   abbrev pub triedAll : (List Mono → List Step) → List Mono → Mono → List Step
@@ -71,7 +75,7 @@ module _ (r : Rules) (n : ℕ) (fs : List (Poly Mono)) (k : ℕ) where
   -- what follows the opening of s, whose nonsquares are given: it is found, or goes no further, or its pairs are tried
   unfoldable pub after : (List Mono → List Step) → List Mono → List Mono → List Step
   after below s [] = found s ∷ []
-  after below s (m ∷ l) = other ∷ cond (ends r n k s (m ∷ l)) [] (triedAll below s (chosen m l))
+  after below s (m ∷ l) = other (opening s) ∷ cond (ends r n k s (m ∷ l)) [] (triedAll below s (chosen m l))
 
   -- the steps of opening s at level k. The first number bounds the depth; it is more than k less the set's size
   unfoldable pub opened : ℕ → List Mono → List Step
@@ -107,5 +111,5 @@ onward (full taken) next = full taken
 -- the steps are taken one after the other, `taken` before them, with the finds so far
 unfoldable pub run : ℕ → ℕ → List Step → ℕ → Finds → Run
 run limit room [] taken finds = ended taken finds
-run limit room (other ∷ es) taken finds = let r = run limit room es (suc taken) finds in cond (leb limit taken) spent r
+run limit room (other x ∷ es) taken finds = let r = run limit room es (suc taken) finds in cond (leb limit taken) spent r
 run limit room (found s ∷ es) taken finds = let r = onward (kept room s (suc taken) finds) (run limit room es) in cond (leb limit taken) spent r

@@ -6,9 +6,11 @@ use wiring::signals::Signals;
 ghost use mathlib.Core.Path.{_≡_};
 ghost use mathlib.Core.Bool.{false, _||_};
 ghost use Prim.Native.Nat.{ℕ, _+_, _≤_, _<_};
+ghost use Rattle.monomial.specs.Monomial.{width};
 ghost use Rattle.monomial.specs.Lists.{any, insertBy};
 ghost use Rattle.monomial.specs.Order.{same, before};
-ghost use Rattle.monomial.proofs.order.Ascending.{Ascending};
+ghost use Rattle.monomial.specs.Claims.{Ascending};
+ghost use Rattle.wiring.specs.Panel.{cards, mostSignals};
 ghost use Rattle.wiring.specs.Signals.{signals, signalsOf};
 ghost use Rattle.wiring.specs.Sets.{monomialsOf};
 ghost use Rattle.walk.specs.Walk.{child};
@@ -21,8 +23,8 @@ pub struct Tried {
 }
 
 // The set with m in its place, where the set is ascending and lacks m.
-pub fn with(set: Set, m: Monomial) -> Set
-    requires { ⌜ set .len < 6 ⌝ }
+fn with(set: Set, m: Monomial) -> Set
+    requires { ⌜ set .len < cards ⌝ }
     ensures { λ r. ⌜ (Ascending before (monomialsOf set) → any (same (m .e)) (monomialsOf set) ≡ false →
         monomialsOf r ≡ insertBy same before (m .e) (monomialsOf set)) × (r .len ≡ set .len + 1) ⌝ }
 {
@@ -43,7 +45,7 @@ pub fn with(set: Set, m: Monomial) -> Set
 
 // The set with m, where there is room.
 fn with_one(level: usize, set: Set, m: Monomial) -> Tried
-    requires { ⌜ (level ≤ 6) × (set .len ≤ level) ⌝ }
+    requires { ⌜ (level ≤ cards) × (set .len ≤ level) ⌝ }
     ensures { λ r. ⌜ (Ascending before (monomialsOf set) → any (same (m .e)) (monomialsOf set) ≡ false →
         Child level (insertBy same before (m .e) (monomialsOf set)) r) ⌝ }
 {
@@ -58,7 +60,7 @@ fn with_one(level: usize, set: Set, m: Monomial) -> Tried
 
 // The set with a and b, where there is room for both.
 fn with_two(level: usize, set: Set, a: Monomial, b: Monomial) -> Tried
-    requires { ⌜ (level ≤ 6) × (set .len ≤ level) ⌝ }
+    requires { ⌜ (level ≤ cards) × (set .len ≤ level) ⌝ }
     ensures { λ r. ⌜ (Ascending before (monomialsOf set) → any (same (b .e)) (monomialsOf set) ≡ false →
         any (same (a .e)) (insertBy same before (b .e) (monomialsOf set)) ≡ false →
         Child level (insertBy same before (a .e) (insertBy same before (b .e) (monomialsOf set))) r) ⌝ }
@@ -74,7 +76,7 @@ fn with_two(level: usize, set: Set, a: Monomial, b: Monomial) -> Tried
 
 // Whether the first of a pair adds nothing to the second: they are one, or V has it.
 fn is_met(v: Signals, a: Monomial, b: Monomial) -> bool
-    requires { ⌜ v .len ≤ 13 ⌝ }
+    requires { ⌜ v .len ≤ mostSignals ⌝ }
     ensures { λ r. ⌜ r ≡ same (a .e) (b .e) || any (same (a .e)) (signalsOf v) ⌝ }
 {
     if a.same(b) {
@@ -84,9 +86,9 @@ fn is_met(v: Signals, a: Monomial, b: Monomial) -> bool
 }
 
 // The set plus those of a, b not in V, where it has at most level monomials. What is to be added is known before anything is copied.
-pub fn offer(level: usize, v: Signals, set: Set, a: Monomial, b: Monomial) -> Tried
-    requires { ⌜ (level ≤ 6) × ((set .len ≤ level) × ((v .len ≤ 13) × Ascending before (monomialsOf set))) ⌝ }
-    ensures { λ r. ⌜ ((n : ℕ) → signalsOf v ≡ signals 6 n (monomialsOf set) → Child level (child n (monomialsOf set) (a .e, b .e)) r) ⌝ }
+pub(crate) fn offer(level: usize, v: Signals, set: Set, a: Monomial, b: Monomial) -> Tried
+    requires { ⌜ (level ≤ cards) × ((set .len ≤ level) × ((v .len ≤ mostSignals) × Ascending before (monomialsOf set))) ⌝ }
+    ensures { λ r. ⌜ ((n : ℕ) → signalsOf v ≡ signals width n (monomialsOf set) → Child level (child n (monomialsOf set) (a .e, b .e)) r) ⌝ }
 {
     let known = signals::is_signal(v, b);
     if is_met(v, a, b) {

@@ -12,6 +12,7 @@ ghost use lib.Seq.{paste};
 ghost use Rattle.monomial.specs.Lists.{any, place};
 ghost use Rattle.monomial.specs.Monomial.{Mono};
 ghost use Rattle.monomial.specs.Order.{same, before, sameSet, beforeSet};
+ghost use Rattle.wiring.specs.Panel.{setBytes};
 ghost use Rattle.wiring.specs.Sets.{monomialsOf, setRecord};
 ghost use Rattle.walk.specs.Walk.{Finds, kept};
 ghost use Rattle.walk.specs.Listing.{Recorded, Shown, KeptAs};
@@ -46,9 +47,9 @@ fn record_of(set: Set) -> Record
     Record { b }
 }
 
-// Whether a record of 36 bytes is r.
+// Whether a set record is r.
 fn is_same(s: &[u8], r: Record) -> bool
-    requires { ⌜ length (now s) ≡ 36 ⌝ }
+    requires { ⌜ length (now s) ≡ setBytes ⌝ }
     ensures { λ x. ⌜ x ≡ same (now (s .entry)) (r .b) ⌝ }
 {
     let b = r.b;
@@ -62,9 +63,9 @@ fn is_same(s: &[u8], r: Record) -> bool
     true
 }
 
-// Whether a record of 36 bytes stands before r.
+// Whether a set record stands before r.
 fn stands_before(s: &[u8], r: Record) -> bool
-    requires { ⌜ length (now s) ≡ 36 ⌝ }
+    requires { ⌜ length (now s) ≡ setBytes ⌝ }
     ensures { λ x. ⌜ x ≡ before (now (s .entry)) (r .b) ⌝ }
 {
     let b = r.b;
@@ -83,7 +84,7 @@ fn stands_before(s: &[u8], r: Record) -> bool
 
 // Whether the set of record r is among the finds.
 fn is_listed(s: &[u8], count: usize, r: Record) -> bool
-    requires { ⌜ 36 * count ≤ length (now s) ⌝ }
+    requires { ⌜ setBytes * count ≤ length (now s) ⌝ }
     ensures { λ x. ⌜ ((finds : Finds) (set : List Mono) → Shown finds count (now (s .entry)) → Recorded set → r .b ≡ setRecord set →
         x ≡ any (sameSet set) finds) ⌝ }
 {
@@ -100,7 +101,7 @@ fn is_listed(s: &[u8], count: usize, r: Record) -> bool
 
 // The place of the set of record r: how many finds stand before it.
 fn place_of(s: &[u8], count: usize, r: Record) -> usize
-    requires { ⌜ 36 * count ≤ length (now s) ⌝ }
+    requires { ⌜ setBytes * count ≤ length (now s) ⌝ }
     ensures { λ x. ⌜ (x ≤ count) × ((finds : Finds) (set : List Mono) → Shown finds count (now (s .entry)) → Recorded set → r .b ≡ setRecord set →
         x ≡ place (λ f. not (beforeSet f set)) finds) ⌝ }
 {
@@ -117,8 +118,8 @@ fn place_of(s: &[u8], count: usize, r: Record) -> usize
 
 // Moves the bytes from `from` up to `to` on by one record.
 fn move_up(out: &mut [u8], from: usize, to: usize)
-    requires { ⌜ (from ≤ to) × (to + 36 ≤ length (now out)) ⌝ }
-    ensures { λ _. ⌜ now (out .exit) ≡ paste (now (out .entry)) (from + 36) (drop from (now (out .entry))) (to - from) ⌝ }
+    requires { ⌜ (from ≤ to) × (to + setBytes ≤ length (now out)) ⌝ }
+    ensures { λ _. ⌜ now (out .exit) ≡ paste (now (out .entry)) (from + setBytes) (drop from (now (out .entry))) (to - from) ⌝ }
 {
     let mut i = to;
     while from < i {
@@ -129,8 +130,8 @@ fn move_up(out: &mut [u8], from: usize, to: usize)
 
 // Writes a record over the bytes from at on.
 fn put(out: &mut [u8], at: usize, r: Record)
-    requires { ⌜ at + 36 ≤ length (now out) ⌝ }
-    ensures { λ _. ⌜ now (out .exit) ≡ paste (now (out .entry)) at (r .b) 36 ⌝ }
+    requires { ⌜ at + setBytes ≤ length (now out) ⌝ }
+    ensures { λ _. ⌜ now (out .exit) ≡ paste (now (out .entry)) at (r .b) setBytes ⌝ }
 {
     let b = r.b;
     let mut i: usize = 0;
@@ -141,10 +142,10 @@ fn put(out: &mut [u8], at: usize, r: Record)
 }
 
 // Keeps a found set: listed already, or in its place, or no room.
-pub fn keep(out: &mut [u8], count: usize, set: Set) -> Kept
-    requires { ⌜ Recorded (monomialsOf set) × (36 * count ≤ length (now out)) ⌝ }
+pub(crate) fn keep(out: &mut [u8], count: usize, set: Set) -> Kept
+    requires { ⌜ Recorded (monomialsOf set) × (setBytes * count ≤ length (now out)) ⌝ }
     ensures { λ r. ⌜ ((finds : Finds) (taken : ℕ) → Shown finds count (now (out .entry)) →
-        KeptAs r taken (now (out .exit)) (kept (length (now (out .entry)) / 36) (monomialsOf set) taken finds)) ⌝ }
+        KeptAs r taken (now (out .exit)) (kept (length (now (out .entry)) / setBytes) (monomialsOf set) taken finds)) ⌝ }
 {
     let r = record_of(set);
     if is_listed(out, count, r) {

@@ -4,16 +4,18 @@ use super::walk::Frame;
 use super::walk::State;
 use super::walk::Turn;
 use wiring::answers;
+use wiring::buffer;
 use wiring::panel::CARDS;
 use wiring::panel::MOST_STEPS;
 use wiring::reply::Reply;
 use wiring::sets::Set;
 use wiring::terms;
 use wiring::terms::Fault;
-use wiring::wires;
 ghost use mathlib.Core.Path.{_≡_};
 ghost use Prim.Native.Nat.{_/_, _≤_, _<_};
 ghost use lib.ListN.{length, replicate};
+ghost use Rattle.monomial.specs.Monomial.{width};
+ghost use Rattle.wiring.specs.Panel.{cards, setBytes};
 ghost use Rattle.wiring.specs.Reply.{outcome};
 ghost use Rattle.wiring.specs.Terms.{records, system, CleanTerms};
 ghost use Rattle.walk.specs.Walk.{bare};
@@ -37,8 +39,8 @@ fn settings_right(n: u64, cap: u64, limit: u64) -> bool
 
 // The levels from 0 to the cap; the buffer is all zeros at the start.
 fn climb(terms: &[u8], out: &mut [u8], n: usize, cap: usize, limit: u64) -> Reply
-    requires { ⌜ (n ≤ 6) × ((cap ≤ 6) × (CleanTerms (now terms) × (now out ≡ replicate (length (now out)) 0))) ⌝ }
-    ensures { λ r. ⌜ outcome r (now (out .exit)) ≡ said (plan bare n (system (records (now (terms .entry)))) limit (length (now (out .entry)) / 36) cap) (length (now (out .entry))) ⌝ }
+    requires { ⌜ (n ≤ width) × ((cap ≤ cards) × (CleanTerms (now terms) × (now out ≡ replicate (length (now out)) 0))) ⌝ }
+    ensures { λ r. ⌜ outcome r (now (out .exit)) ≡ said (plan bare n (system (records (now (terms .entry)))) limit (length (now (out .entry)) / setBytes) cap) (length (now (out .entry))) ⌝ }
 {
     let mut steps: u64 = 0;
     let mut k: usize = 0;
@@ -57,14 +59,14 @@ fn climb(terms: &[u8], out: &mut [u8], n: usize, cap: usize, limit: u64) -> Repl
                 }
             }
             Turn::Spent => {
-                wires::clear(out);
+                buffer::clear(out);
                 return Reply::Spent {
                     order: k as u64,
                     steps: limit,
                 };
             }
             Turn::Full(taken) => {
-                wires::clear(out);
+                buffer::clear(out);
                 return Reply::Full {
                     order: k as u64,
                     steps: taken,
@@ -83,11 +85,11 @@ fn climb(terms: &[u8], out: &mut [u8], n: usize, cap: usize, limit: u64) -> Repl
 pub fn plan(n: u64, cap: u64, limit: u64, terms: &[u8], out: &mut [u8]) -> Reply
     ensures { λ r. ⌜ outcome r (now (out .exit)) ≡ planned n cap limit (now (terms .entry)) (length (now (out .entry))) ⌝ }
 {
-    wires::clear(out);
+    buffer::clear(out);
     if !settings_right(n, cap, limit) {
         return Reply::Setting;
     }
-    if !answers::length_right(terms) {
+    if !terms::length_right(terms) {
         return Reply::Length;
     }
     match terms::fault_of(n as usize, terms) {

@@ -10,11 +10,12 @@ use wiring::signals;
 ghost use mathlib.Core.Bool.{true, false};
 ghost use Prim.Native.Nat.{ℕ, _+_, _-_, _/_, _≤_, _<_};
 ghost use lib.ListN.{length};
+ghost use Rattle.wiring.specs.Panel.{setBytes};
 ghost use Rattle.wiring.specs.Terms.{records, system};
 ghost use Rattle.wiring.specs.Sets.{monomialsOf};
 ghost use Rattle.walk.specs.Walk.{Finds, bare, opened, triedAll, run, kept};
 ghost use Rattle.walk.specs.Listing.{Shown};
-ghost use Rattle.walk.specs.Turns.{Tells, Ready, Splits, Found, Judged};
+ghost use Rattle.walk.specs.Turns.{Tells, Ready, Splits, Found, Stepped};
 
 // What stays the same through a level.
 pub struct Frame {
@@ -47,7 +48,7 @@ pub struct Opened {
 fn found(out: &mut [u8], set: Set, st: State) -> Turn
     requires { ⌜ Found set (st .count) (now out) ⌝ }
     ensures { λ r. ⌜ ((finds : Finds) → Shown finds (st .count) (now (out .entry)) →
-        Tells r (now (out .exit)) (kept (length (now (out .entry)) / 36) (monomialsOf set) (st .steps) finds)) ⌝ }
+        Tells r (now (out .exit)) (kept (length (now (out .entry)) / setBytes) (monomialsOf set) (st .steps) finds)) ⌝ }
 {
     let steps = st.steps;
     match listing::keep(out, st.count, set) {
@@ -57,9 +58,9 @@ fn found(out: &mut [u8], set: Set, st: State) -> Turn
 }
 
 // Takes the step of opening a set, and says what follows.
-fn judge(terms: &[u8], out: &mut [u8], f: Frame, set: Set, st: State) -> Opened
+fn take_step(terms: &[u8], out: &mut [u8], f: Frame, set: Set, st: State) -> Opened
     requires { ⌜ Ready (f .n) (now terms) (f .level) set (st .count) (now out) ⌝ }
-    ensures { λ r. ⌜ Judged bare (f .n) (now (terms .entry)) (f .level) (f .limit) set st (now (out .entry)) r (now (out .exit)) ⌝ }
+    ensures { λ r. ⌜ Stepped bare (f .n) (now (terms .entry)) (f .level) (f .limit) set st (now (out .entry)) r (now (out .exit)) ⌝ }
 {
     let taken = st.steps;
     if f.limit <= taken {
@@ -100,13 +101,13 @@ fn judge(terms: &[u8], out: &mut [u8], f: Frame, set: Set, st: State) -> Opened
 }
 
 // Opens a set: one step, and then its pairs.
-pub fn open(terms: &[u8], out: &mut [u8], f: Frame, set: Set, st: State) -> Turn
+pub(crate) fn open(terms: &[u8], out: &mut [u8], f: Frame, set: Set, st: State) -> Turn
     requires { ⌜ Ready (f .n) (now terms) (f .level) set (st .count) (now out) ⌝ }
     ensures { λ r. ⌜ ((d : ℕ) (finds : Finds) → f .level - set .len < d → Shown finds (st .count) (now (out .entry)) →
         Tells r (now (out .exit))
-        (run (f .limit) (length (now (out .entry)) / 36) (opened bare (f .n) (system (records (now (terms .entry)))) (f .level) d (monomialsOf set)) (st .steps) finds)) ⌝ }
+        (run (f .limit) (length (now (out .entry)) / setBytes) (opened bare (f .n) (system (records (now (terms .entry)))) (f .level) d (monomialsOf set)) (st .steps) finds)) ⌝ }
 {
-    let o = judge(terms, out, f, set, st);
+    let o = take_step(terms, out, f, set, st);
     if !o.split {
         return o.turn;
     }
@@ -123,7 +124,7 @@ fn pairs(terms: &[u8], out: &mut [u8], f: Frame, set: Set, m: Monomial, st: Stat
     requires { ⌜ Ready (f .n) (now terms) (f .level) set (st .count) (now out) × Splits (f .n) (now terms) (f .level) set (m .e) ⌝ }
     ensures { λ r. ⌜ ((d : ℕ) (finds : Finds) → f .level - set .len ≤ d → Shown finds (st .count) (now (out .entry)) →
         Tells r (now (out .exit))
-        (run (f .limit) (length (now (out .entry)) / 36)
+        (run (f .limit) (length (now (out .entry)) / setBytes)
         (triedAll bare (f .n) (system (records (now (terms .entry)))) (f .level) (opened bare (f .n) (system (records (now (terms .entry)))) (f .level) d) (monomialsOf set) (m .e))
         (st .steps) finds)) ⌝ }
 {

@@ -7,10 +7,10 @@ use Prim.Native.Nat.{zero, suc}
 use lib.Dec.{T, T-not, not-T}
 use lib.IntN.{ℤ, pos, negsuc, _+ℤ_, _*ℤ_, zero-*ℤ, +ℤ-idl, +ℤ-idr, +ℤ-assoc}
 use Rattle.monomial.specs.Lists.{any, keep, arrangeBy}
+use Rattle.monomial.specs.Claims.{_∈_, Ascending, Order}
 use Rattle.monomial.proofs.Tests.{Tested, passed, failed, test, is→T, is→nT, nT→is, T→is}
-use Rattle.monomial.proofs.Members.{_∈_, here, there, keep-in, keep-out}
-use Rattle.monomial.proofs.order.Laws.{Order}
-use Rattle.monomial.proofs.order.Ascending.{Ascending, head-first, tail-asc, arrange-asc, arrange-in, arrange-out, among-in, among-out}
+use Rattle.monomial.proofs.Members.{here, there, keep-in, keep-out}
+use Rattle.monomial.proofs.order.Ascending.{head-first, tail-asc, arrange-asc, arrange-in, arrange-out, among-in, among-out}
 use Rattle.wiring.specs.Coefficient.{isZero}
 use Rattle.wiring.specs.Poly.{Kind, Term, Poly, Same, coeff, monos, times, support}
 use Rattle.wiring.proofs.Ints.{distrib-r, +ℤ-left-comm}

@@ -60,7 +60,7 @@ table =
     ∷ row 1 (term 1 0 (4 ∷ []) (plus 1) ++ term 1 0 (3 ∷ []) (plus 1))
     (set ((3 ∷ []) ∷ (4 ∷ []) ∷ [])) 47
     (five 6 2 0 0 0) (replicate 47 0)
-    -- with {x^2} it is not quadratic, from x on
+    -- with {x^2} it is not quadratic: place 2 is x^2 itself
     ∷ row 1 (term 1 0 (4 ∷ []) (plus 1) ++ term 1 0 (3 ∷ []) (plus 1))
     (set ((2 ∷ []) ∷ [])) 10
     (five 9 1 0 0 2) (replicate 10 0)

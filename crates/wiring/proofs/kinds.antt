@@ -1,4 +1,3 @@
 -- Kinds of monomials: what each obeys, and that the panel's does.
-pub mod Laws
 pub mod Powers
 pub mod Plain

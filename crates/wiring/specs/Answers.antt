@@ -7,8 +7,8 @@ use Prim.Native.Nat.{ℕ, _*_, _-_, _≤_}
 use lib.Dec.{eqb, leb}
 use lib.ListN.{length, replicate}
 use Rattle.monomial.specs.Lists.{some, gather, place}
-use Rattle.monomial.specs.Monomial.{Mono}
-use Rattle.wiring.specs.Panel.{width, cards, setBytes, setExponent, wireBytes}
+use Rattle.monomial.specs.Monomial.{Mono, width}
+use Rattle.wiring.specs.Panel.{cards, setBytes, setExponent, wireBytes}
 use Rattle.wiring.specs.Reply.{Numbers, numbers, Outcome, outcome, refused}
 use Rattle.wiring.specs.Poly.{Poly, plain}
 use Rattle.wiring.specs.Derivative.{derivative}
@@ -27,7 +27,7 @@ use Rattle.wiring.specs.declared.terms.Fault.the-variants.{Clean, Wrong,
 abbrev pub unless : Bool → Reply → Reply → Reply
 unless test answer rest = cond test rest answer
 
--- n is 1 to 6
+-- n is from 1 to the number of variables
 unfoldable pub countRight : ℕ → Bool
 countRight n = leb 1 n && leb n width
 

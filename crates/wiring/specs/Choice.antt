@@ -2,11 +2,12 @@
 -- Assumes nothing.
 use mathlib.Core.Path.{_≡_}
 use mathlib.Core.Bool.{Bool, true, false, not, cond, _&&_, _||_}
-use mathlib.Core.List.{List, [], _∷_, List·Memᴰ}
+use mathlib.Core.List.{List, [], _∷_}
 use lib.Dec.{T, eqb, ltb}
 use Rattle.monomial.specs.Monomial.{Mono}
 use Rattle.monomial.specs.Order.{before}
 use Rattle.monomial.specs.Divisors.{score}
+use Rattle.monomial.specs.Claims.{_∈_}
 use Rattle.wiring.specs.declared.choice.Pick.{Pick}
 
 -- a is split rather than b
@@ -34,8 +35,8 @@ beyond p m = not (p .some) || before (p .m .e) m
 
 -- what a loop that keeps the best so far knows of the candidates l that it has met, in any order and with repeats
 abbrev pub BestOf : (Mono → Mono → Bool) → Bool → List Mono → Mono → Type 0
-BestOf earlier false l m = (y : Mono) → List·Memᴰ y l → ⊥
-BestOf earlier true l m = List·Memᴰ m l × ((y : Mono) → List·Memᴰ y l → T (earlier y m) → ⊥)
+BestOf earlier false l m = (y : Mono) → y ∈ l → ⊥
+BestOf earlier true l m = (m ∈ l) × ((y : Mono) → y ∈ l → T (earlier y m) → ⊥)
 
 abbrev pub Best : (Mono → Mono → Bool) → List Mono → Pick → Type 0
 Best earlier l p = BestOf earlier (p .some) l (p .m .e)

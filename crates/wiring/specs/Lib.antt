@@ -1,4 +1,4 @@
--- What the contracts of the wiring layer cite.
+-- What the contracts of the wiring layer cite, and the words of its claims.
 pub mod Panel
 pub mod Reply
 pub mod Coefficient
@@ -11,3 +11,5 @@ pub mod Sets
 pub mod Choice
 pub mod Wires
 pub mod Answers
+pub mod Kinds
+pub mod Claims

@@ -1,17 +1,20 @@
--- The numbers of the panel, each in one place. Assumes nothing.
-use Prim.Native.Nat.{ℕ, suc, _*_}
-
--- variables x1 to x6: so many exponents has a monomial
-abbrev pub width : ℕ
-width = 6
+-- The numbers of the panel, each in one place: what follows from another is computed from it. Assumes nothing.
+use Prim.Native.Nat.{ℕ, suc, _+_, _*_, _/_}
+use Rattle.monomial.specs.Monomial.{width}
 
 -- integrator cards: so many new monomials has a set
 abbrev pub cards : ℕ
 cards = 6
 
--- a term record: its bytes, how many there may be and their bytes, its largest exponent and coefficient
+-- a term record: where its monomial and its coefficient stand, its bytes, how many there may be and their bytes, its largest exponent and coefficient
+abbrev pub monomialAt : ℕ
+monomialAt = 2
+
+abbrev pub coefficientAt : ℕ
+coefficientAt = monomialAt + width
+
 abbrev pub termBytes : ℕ
-termBytes = 12
+termBytes = coefficientAt + 4
 
 abbrev pub mostTerms : ℕ
 mostTerms = 32
@@ -25,12 +28,25 @@ termExponent = 9
 abbrev pub mostCoefficient : ℕ
 mostCoefficient = 1000000
 
--- a set record: its bytes and its largest exponent
+-- a set record: its bytes and its largest exponent; the largest exponent in the derivative of one of its signals
 abbrev pub setBytes : ℕ
 setBytes = width * cards
 
 abbrev pub setExponent : ℕ
 setExponent = termExponent * cards
+
+abbrev pub derivedExponent : ℕ
+derivedExponent = setExponent + termExponent
+
+-- the signals of a set: 1, the variables, the new monomials; their products by twos, and the bytes of the table of these
+abbrev pub mostSignals : ℕ
+mostSignals = suc width + cards
+
+abbrev pub mostProducts : ℕ
+mostProducts = mostSignals * suc mostSignals / 2
+
+abbrev pub tableBytes : ℕ
+tableBytes = width * mostProducts
 
 -- a wiring record: its bytes, how many a list may have and their bytes
 abbrev pub wireBytes : ℕ
@@ -41,3 +57,7 @@ mostWires = suc cards * mostTerms
 
 abbrev pub wiresBytes : ℕ
 wiresBytes = wireBytes * mostWires
+
+-- the highest limit of steps
+abbrev pub mostSteps : ℕ
+mostSteps = 1000000000

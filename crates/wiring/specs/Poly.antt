@@ -9,7 +9,7 @@ use Prim.Native.Nat.{ℕ, _-_}
 use lib.IntN.{ℤ, pos, _+ℤ_, _*ℤ_}
 use lib.ListN.{length, getD, set}
 use Rattle.monomial.specs.Lists.{keep, arrangeBy}
-use Rattle.monomial.specs.Monomial.{Mono, one, vars}
+use Rattle.monomial.specs.Monomial.{Mono, one, vars, width}
 use Rattle.monomial.specs.Order.{same, before}
 use Rattle.monomial.specs.Product.{mul}
 use Rattle.wiring.specs.Coefficient.{isZero}

@@ -1,11 +1,12 @@
 -- V2, nonsquares, and Definition 1 of document 001, for a list v of monomials of any kind and a derivation d of them.
 -- Assumes nothing.
 use mathlib.Core.Bool.{Bool, not}
-use mathlib.Core.List.{List, [], _∷_, _++_, map, List·Memᴰ}
+use mathlib.Core.List.{List, [], _∷_, _++_, map}
 use Prim.Native.Nat.{ℕ, suc}
 use lib.IntN.{ℤ}
 use lib.ListN.{take}
 use Rattle.monomial.specs.Lists.{any, keep, gather, arrangeBy}
+use Rattle.monomial.specs.Claims.{_∈_}
 use Rattle.wiring.specs.Poly.{Kind, Poly, Same, support}
 
 -- V of a set s: 1 and the first n of w variables, then the new monomials
@@ -47,9 +48,9 @@ module _ {M : Type 0} (k : Kind M) (v : List M) where
   -- p is equal, coefficient by coefficient, to a list of products of two members of v
   pub record Linked (p : Poly M) : Type 0 where
     pub list : List (Product M)
-    pub members : (q : Product M) → List·Memᴰ q list → List·Memᴰ (q .a) v × List·Memᴰ (q .b) v
+    pub members : (q : Product M) → q ∈ list → (q .a ∈ v) × (q .b ∈ v)
     pub equal : Same k (multiplied list) p
 
   -- Definition 1: so is the derivative of each member of v
   abbrev pub Quadratic : (M → Poly M) → Type 0
-  Quadratic d = (z : M) → List·Memᴰ z v → Linked (d z)
+  Quadratic d = (z : M) → z ∈ v → Linked (d z)

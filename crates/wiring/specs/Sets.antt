@@ -1,4 +1,4 @@
--- Set records: six monomials, strictly ascending, then all-zero ones for unused places. Assumes nothing.
+-- Set records: a monomial for each card, strictly ascending, then all-zero ones for unused places. Assumes nothing.
 use mathlib.Core.Path.{_≡_}
 use mathlib.Core.Bool.{Bool, true, not, _&&_}
 use mathlib.Core.List.{List, [], _∷_, _++_, map}
@@ -6,9 +6,9 @@ use Prim.Native.Nat.{ℕ, _*_, _-_, _≤_}
 use lib.Dec.{eqb}
 use lib.ListN.{length, take, drop, replicate}
 use Rattle.monomial.specs.Lists.{any, all, place, below}
-use Rattle.monomial.specs.Monomial.{Mono, one, constants}
+use Rattle.monomial.specs.Monomial.{Mono, one, constants, width}
 use Rattle.monomial.specs.Order.{same, before}
-use Rattle.wiring.specs.Panel.{width, cards, setBytes, setExponent}
+use Rattle.wiring.specs.Panel.{cards, setBytes, setExponent}
 use Rattle.wiring.specs.Signals.{front, flat}
 use Rattle.wiring.specs.Terms.{exponentsRight}
 use Rattle.wiring.specs.declared.sets.Set.{Set}
@@ -30,7 +30,7 @@ unfoldable pub ascending : List Mono → Bool
 ascending [] = true
 ascending (m ∷ l) = let r = ascending l in all (before m) l && r
 
--- neither 1 nor a single variable, exponents to 54, zero beyond xn
+-- neither 1 nor a single variable, exponents that a set may have, zero beyond xn
 unfoldable pub monomialRight : ℕ → Mono → Bool
 monomialRight n m = not (any (same m) (constants width)) && exponentsRight setExponent n m
 

@@ -7,9 +7,9 @@ use lib.Dec.{eqb, leb}
 use lib.IntN.{ℤ, natAbs}
 use lib.ListN.{length, getD, take, drop}
 use Rattle.monomial.specs.Lists.{any, all, keep, below}
-use Rattle.monomial.specs.Monomial.{Mono}
+use Rattle.monomial.specs.Monomial.{Mono, width}
 use Rattle.monomial.specs.Order.{same}
-use Rattle.wiring.specs.Panel.{width, termBytes, mostTerms, termExponent, mostCoefficient}
+use Rattle.wiring.specs.Panel.{termBytes, mostTerms, termExponent, mostCoefficient, coefficientAt, monomialAt}
 use Rattle.wiring.specs.Coefficient.{word, signed, isZero}
 use Rattle.wiring.specs.Poly.{Poly}
 use Rattle.wiring.specs.declared.terms.Fault.{Fault}
@@ -26,14 +26,14 @@ abbrev pub recordAt : List ℕ → ℕ → Record
 recordAt bytes i = record {
   equation = getD bytes (termBytes * i) 0;
   blank = getD bytes (termBytes * i + 1) 0;
-  monomial = take width (drop (termBytes * i + 2) bytes);
-  coefficient = signed (word bytes (termBytes * i + 8));
+  monomial = take width (drop (termBytes * i + monomialAt) bytes);
+  coefficient = signed (word bytes (termBytes * i + coefficientAt));
 }
 
 unfoldable pub records : List ℕ → List Record
 records bytes = map (recordAt bytes) (below (length bytes / termBytes))
 
--- a multiple of 12 bytes, at most 384
+-- whole records, and not too many
 unfoldable pub lengthRight : List ℕ → Bool
 lengthRight bytes = eqb (length bytes % termBytes) 0 && leb (length bytes) (termBytes * mostTerms)
 
@@ -64,7 +64,7 @@ faultFrom n seen (r ∷ rs) =
 abbrev pub fault : ℕ → List Record → Fault
 fault n rs = faultFrom n [] rs
 
--- records that some panel takes: those of n variables are clean for all six
+-- records that some panel takes: those of n variables are clean for all variables
 abbrev pub CleanTerms : List ℕ → Type 0
 CleanTerms bytes = fault width (records bytes) ≡ Clean
 

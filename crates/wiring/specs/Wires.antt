@@ -2,12 +2,13 @@
 -- (a, b) of smallest a, then smallest b, whose product it is, for any kind of monomials. Signals go by their numbers. Assumes nothing.
 use mathlib.Core.Path.{_≡_}
 use mathlib.Core.Bool.{Bool, true, false}
-use mathlib.Core.List.{List, [], _∷_, _++_, map, List·Memᴰ}
+use mathlib.Core.List.{List, [], _∷_, _++_, map}
 use Prim.Native.Nat.{ℕ, suc, _*_, _-_, _≤_, _<_}
 use lib.Dec.{T}
 use lib.IntN.{ℤ}
 use lib.ListN.{length, getD, replicate}
 use Rattle.monomial.specs.Lists.{place, gather}
+use Rattle.monomial.specs.Claims.{_∈_}
 use Rattle.wiring.specs.Coefficient.{unsigned, fourBytes}
 use Rattle.wiring.specs.Poly.{Kind, Poly, coeff, support}
 use Rattle.wiring.specs.Quadratic.{factor, inV2}
@@ -45,7 +46,7 @@ module _ {M : Type 0} (k : Kind M) (v : List M) where
 
   -- every monomial of every derivative is in V2
   abbrev pub Met : (M → Poly M) → Type 0
-  Met d = (z m : M) → List·Memᴰ z v → List·Memᴰ m (support k (d z)) → T (inV2 k v m)
+  Met d = (z m : M) → z ∈ v → m ∈ support k (d z) → T (inV2 k v m)
 
 -- the bytes of a wiring record
 unfoldable pub wireRecord : Wire → List ℕ

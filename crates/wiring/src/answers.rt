@@ -1,8 +1,7 @@
 // Checking and wiring: the operations on n, term records and a set record. Neither assumes anything of its input.
+use super::buffer;
 use super::panel::SET_BYTES;
 use super::panel::TABLE_BYTES;
-use super::panel::TERM_BYTES;
-use super::panel::TERMS_BYTES;
 use super::quadratic;
 use super::reply;
 use super::reply::Reply;
@@ -16,13 +15,15 @@ use monomial::width::WIDTH;
 ghost use mathlib.Core.Path.{_≡_};
 ghost use Prim.Native.Nat.{_≤_};
 ghost use lib.ListN.{length};
+ghost use Rattle.monomial.specs.Monomial.{width};
+ghost use Rattle.wiring.specs.Panel.{cards, setBytes, setExponent};
 ghost use Rattle.wiring.specs.Reply.{numbers, outcome};
-ghost use Rattle.wiring.specs.Terms.{lengthRight, records, system, CleanTerms};
+ghost use Rattle.wiring.specs.Terms.{records, system, CleanTerms};
 ghost use Rattle.wiring.specs.Signals.{Fitting};
 ghost use Rattle.wiring.specs.Sets.{monomialsOf};
 ghost use Rattle.wiring.specs.Answers.{countRight, judged, recordJudged, checked, listed, wires, wired, Wirable};
 
-// Whether n is 1 to 6.
+// Whether n is a number of variables that the panel has.
 pub fn count_right(n: u64) -> bool
     ensures { λ r. ⌜ r ≡ countRight n ⌝ }
 {
@@ -32,19 +33,9 @@ pub fn count_right(n: u64) -> bool
     n <= WIDTH as u64
 }
 
-// Whether term records have a length that records can have.
-pub fn length_right(terms: &[u8]) -> bool
-    ensures { λ r. ⌜ r ≡ lengthRight (now (terms .entry)) ⌝ }
-{
-    if terms.len() % TERM_BYTES != 0 {
-        return false;
-    }
-    terms.len() <= TERMS_BYTES
-}
-
 // What is said of a set that keeps its rule.
 fn judge(n: usize, terms: &[u8], set: Set) -> Reply
-    requires { ⌜ CleanTerms (now terms) × ((n ≤ 6) × ((set .len ≤ 6) × Fitting 54 (monomialsOf set))) ⌝ }
+    requires { ⌜ CleanTerms (now terms) × ((n ≤ width) × ((set .len ≤ cards) × Fitting setExponent (monomialsOf set))) ⌝ }
     ensures { λ r. ⌜ r ≡ judged n (system (records (now (terms .entry)))) (monomialsOf set) ⌝ }
 {
     let v = signals::signals_of(n, set);
@@ -67,7 +58,7 @@ fn judge(n: usize, terms: &[u8], set: Set) -> Reply
 
 // What is said of a set record, once the term records are clean.
 fn judge_record(n: usize, terms: &[u8], set: &[u8]) -> Reply
-    requires { ⌜ CleanTerms (now terms) × ((n ≤ 6) × (length (now set) ≡ 36)) ⌝ }
+    requires { ⌜ CleanTerms (now terms) × ((n ≤ width) × (length (now set) ≡ setBytes)) ⌝ }
     ensures { λ r. ⌜ r ≡ recordJudged n (system (records (now (terms .entry)))) (now (set .entry)) ⌝ }
 {
     let read = sets::read_set(n, set);
@@ -84,7 +75,7 @@ pub fn check(n: u64, terms: &[u8], set: &[u8]) -> Reply
     if !count_right(n) {
         return Reply::Setting;
     }
-    if !length_right(terms) {
+    if !terms::length_right(terms) {
         return Reply::Length;
     }
     if set.len() != SET_BYTES {
@@ -112,7 +103,7 @@ fn list_wires(n: usize, terms: &[u8], set: Set, out: &mut [u8]) -> Reply
             steps: 0,
         };
     }
-    wires::clear(out);
+    buffer::clear(out);
     Reply::Full { order, steps: 0 }
 }
 
@@ -120,7 +111,7 @@ fn list_wires(n: usize, terms: &[u8], set: Set, out: &mut [u8]) -> Reply
 pub fn wire(n: u64, terms: &[u8], set: &[u8], out: &mut [u8]) -> Reply
     ensures { λ r. ⌜ outcome r (now (out .exit)) ≡ wired n (now (terms .entry)) (now (set .entry)) (length (now (out .entry))) ⌝ }
 {
-    wires::clear(out);
+    buffer::clear(out);
     let said = check(n, terms, set);
     let five = reply::numbers(said);
     if five[0] != 0 {

@@ -35,7 +35,7 @@ fn is_cheaper(a: Monomial, b: Monomial) -> bool
 }
 
 // The cheapest, once m is met too.
-pub fn cheapest(p: Pick, m: Monomial) -> Pick
+pub(crate) fn cheapest(p: Pick, m: Monomial) -> Pick
     ensures { λ r. ⌜ ((l : List Mono) → Best cheaper l p → Best cheaper (m .e ∷ l) r) ⌝ }
 {
     let old = p.m;
@@ -49,7 +49,7 @@ pub fn cheapest(p: Pick, m: Monomial) -> Pick
 }
 
 // The least, once m is met too.
-pub fn least(p: Pick, m: Monomial) -> Pick
+pub(crate) fn least(p: Pick, m: Monomial) -> Pick
     ensures { λ r. ⌜ ((l : List Mono) → Best before l p → Best before (m .e ∷ l) r) ⌝ }
 {
     let old = p.m;

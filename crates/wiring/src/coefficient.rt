@@ -27,7 +27,7 @@ pub fn decode(b: &[u8], at: usize) -> i32
 }
 
 // Whether a number is 0.
-pub fn is_zero(c: i32) -> bool
+pub(crate) fn is_zero(c: i32) -> bool
     ensures { λ r. ⌜ r ≡ isZero c ⌝ }
 {
     if c == 0 {
@@ -37,7 +37,7 @@ pub fn is_zero(c: i32) -> bool
 }
 
 // The 32 bits of a number.
-pub fn bits_of(c: i32) -> u64
+pub(crate) fn bits_of(c: i32) -> u64
     ensures { λ r. ⌜ (r ≡ unsigned c) × (r < 4294967296) ⌝ }
 {
     if 0 <= c {

@@ -1,5 +1,7 @@
 // Derivatives of monomials, record by record: no list of terms is kept.
 use super::coefficient;
+use super::panel::COEFFICIENT_AT;
+use super::panel::MONOMIAL_AT;
 use super::panel::TERM_BYTES;
 use super::terms;
 use monomial::Monomial;
@@ -7,13 +9,14 @@ ghost use mathlib.Core.Path.{_≡_};
 ghost use Prim.Native.Nat.{_+_, _*_, _≤_, _<_};
 ghost use lib.ListN.{length};
 ghost use Rattle.monomial.specs.Product.{AtMost};
+ghost use Rattle.wiring.specs.Panel.{termBytes, setExponent};
 ghost use Rattle.wiring.specs.Poly.{plain, coeff};
 ghost use Rattle.wiring.specs.Derivative.{derivative, power, image};
 ghost use Rattle.wiring.specs.Terms.{recordAt, records, system, CleanTerms};
 
 // The exponent in z of the variable of record t.
-pub fn power(terms: &[u8], t: usize, z: Monomial) -> u8
-    requires { ⌜ CleanTerms (now terms) × (12 * t + 12 ≤ length (now terms)) ⌝ }
+pub(crate) fn power(terms: &[u8], t: usize, z: Monomial) -> u8
+    requires { ⌜ CleanTerms (now terms) × (termBytes * t + termBytes ≤ length (now terms)) ⌝ }
     ensures { λ r. ⌜ r ≡ power (recordAt (now (terms .entry)) t) (z .e) ⌝ }
 {
     let i = terms::wide(terms[TERM_BYTES * t]) - 1;
@@ -22,19 +25,19 @@ pub fn power(terms: &[u8], t: usize, z: Monomial) -> u8
 }
 
 // The monomial of record t in the derivative of z: z divided by the record's variable, times the record's monomial.
-pub fn image(terms: &[u8], t: usize, z: Monomial) -> Monomial
-    requires { ⌜ CleanTerms (now terms) × ((12 * t + 12 ≤ length (now terms)) × ((0 < power (recordAt (now terms) t) (z .e)) × AtMost 200 (z .e))) ⌝ }
+pub(crate) fn image(terms: &[u8], t: usize, z: Monomial) -> Monomial
+    requires { ⌜ CleanTerms (now terms) × ((termBytes * t + termBytes ≤ length (now terms)) × ((0 < power (recordAt (now terms) t) (z .e)) × AtMost 200 (z .e))) ⌝ }
     ensures { λ r. ⌜ r .e ≡ image (recordAt (now (terms .entry)) t) (z .e) ⌝ }
 {
     let i = terms::wide(terms[TERM_BYTES * t]) - 1;
     let mut e = z.e;
     e[i] = e[i] - 1;
-    Monomial::of(e).times(Monomial::read(terms, TERM_BYTES * t + 2))
+    Monomial::of(e).times(Monomial::read(terms, TERM_BYTES * t + MONOMIAL_AT))
 }
 
 // The total coefficient of m in the derivative of z.
-pub fn total(terms: &[u8], z: Monomial, m: Monomial) -> i32
-    requires { ⌜ CleanTerms (now terms) × AtMost 72 (z .e) ⌝ }
+pub(crate) fn total(terms: &[u8], z: Monomial, m: Monomial) -> i32
+    requires { ⌜ CleanTerms (now terms) × AtMost setExponent (z .e) ⌝ }
     ensures { λ r. ⌜ r ≡ coeff plain (derivative plain (system (records (now (terms .entry)))) (z .e)) (m .e) ⌝ }
 {
     let count = terms.len() / TERM_BYTES;
@@ -44,7 +47,7 @@ pub fn total(terms: &[u8], z: Monomial, m: Monomial) -> i32
         let k = power(terms, t, z);
         if 0 < k {
             if image(terms, t, z).same(m) {
-                sum = sum + k as i32 * coefficient::decode(terms, TERM_BYTES * t + 8);
+                sum = sum + k as i32 * coefficient::decode(terms, TERM_BYTES * t + COEFFICIENT_AT);
             }
         }
         t += 1;

@@ -2,6 +2,7 @@
 //
 // Rests on what the crate monomial promises. Every operation takes its bytes as they are and refuses what breaks a rule.
 pub mod answers;
+pub mod buffer;
 pub mod choice;
 pub mod coefficient;
 pub mod derivative;

@@ -5,8 +5,13 @@ use monomial::width::WIDTH;
 // Integrator cards: so many new monomials has a set.
 pub const CARDS: usize = 6;
 
-// A term record: its bytes, how many there may be and their bytes, its largest exponent and coefficient.
-pub const TERM_BYTES: usize = 12;
+// A term record: where its monomial and its coefficient stand, its bytes, how many there may be and their bytes, its largest exponent and
+// coefficient.
+pub const MONOMIAL_AT: usize = 2;
+
+pub const COEFFICIENT_AT: usize = MONOMIAL_AT + WIDTH;
+
+pub const TERM_BYTES: usize = COEFFICIENT_AT + 4;
 
 pub const MOST_TERMS: usize = 32;
 

@@ -16,6 +16,7 @@ ghost use Rattle.monomial.specs.Lists.{any, some, place};
 ghost use Rattle.monomial.specs.Monomial.{Mono};
 ghost use Rattle.monomial.specs.Order.{same};
 ghost use Rattle.monomial.specs.Product.{AtMost};
+ghost use Rattle.wiring.specs.Panel.{termBytes, setExponent, mostSignals};
 ghost use Rattle.wiring.specs.Poly.{plain};
 ghost use Rattle.wiring.specs.Derivative.{derivative, image, offers};
 ghost use Rattle.wiring.specs.Quadratic.{products, unmet, nonsquares};
@@ -24,8 +25,8 @@ ghost use Rattle.wiring.specs.Terms.{recordAt, records, system, CleanTer
 ghost use Rattle.wiring.specs.Choice.{cheaper, Picked, Best, Offered};
 
 // The monomial of record t in the derivative of z, where it has a coefficient and is not in V2. The total, which is dear, is asked last.
-fn missing(terms: &[u8], t: usize, z: Monomial, sq: &[u8]) -> Pick
-    requires { ⌜ CleanTerms (now terms) × ((12 * t + 12 ≤ length (now terms)) × AtMost 72 (z .e)) ⌝ }
+fn nonsquare_of(terms: &[u8], t: usize, z: Monomial, sq: &[u8]) -> Pick
+    requires { ⌜ CleanTerms (now terms) × ((termBytes * t + termBytes ≤ length (now terms)) × AtMost setExponent (z .e)) ⌝ }
     ensures { λ r. ⌜ Offered (offers (λ m. not (any (same m) (tabled (now (sq .entry))))) (system (records (now (terms .entry)))) (z .e) (recordAt (now (terms .entry)) t)) (image (recordAt (now (terms .entry)) t) (z .e)) r ⌝ }
 {
     if derivative::power(terms, t, z) < 1 {
@@ -42,14 +43,14 @@ fn missing(terms: &[u8], t: usize, z: Monomial, sq: &[u8]) -> Pick
 }
 
 // Whether the derivative of z has a monomial that is not in V2.
-pub fn has_nonsquare(terms: &[u8], z: Monomial, sq: &[u8]) -> bool
-    requires { ⌜ CleanTerms (now terms) × AtMost 72 (z .e) ⌝ }
+fn has_nonsquare(terms: &[u8], z: Monomial, sq: &[u8]) -> bool
+    requires { ⌜ CleanTerms (now terms) × AtMost setExponent (z .e) ⌝ }
     ensures { λ r. ⌜ ((v : List Mono) → tabled (now (sq .entry)) ≡ products plain v → r ≡ some (unmet plain v (derivative plain (system (records (now (terms .entry)))) (z .e)))) ⌝ }
 {
     let count = terms.len() / TERM_BYTES;
     let mut t: usize = 0;
     while t < count {
-        let p = missing(terms, t, z, sq);
+        let p = nonsquare_of(terms, t, z, sq);
         if p.some {
             return true;
         }
@@ -60,7 +61,7 @@ pub fn has_nonsquare(terms: &[u8], z: Monomial, sq: &[u8]) -> bool
 
 // The number of the first signal whose derivative has a nonsquare; as many as there are signals where none has.
 pub fn first_unmet(terms: &[u8], v: Signals, sq: &[u8]) -> usize
-    requires { ⌜ CleanTerms (now terms) × ((v .len ≤ 13) × ((0 < v .len) × (Fitting 72 (signalsOf v) × (tabled (now sq) ≡ products plain (signalsOf v))))) ⌝ }
+    requires { ⌜ CleanTerms (now terms) × ((v .len ≤ mostSignals) × ((0 < v .len) × (Fitting setExponent (signalsOf v) × (tabled (now sq) ≡ products plain (signalsOf v))))) ⌝ }
     ensures { λ r. ⌜ r ≡ place (λ z. some (unmet plain (signalsOf v) (derivative plain (system (records (now (terms .entry)))) z))) (signalsOf v) ⌝ }
 {
     let len = v.len;
@@ -77,7 +78,7 @@ pub fn first_unmet(terms: &[u8], v: Signals, sq: &[u8]) -> usize
 
 // The cheapest, once the nonsquares of the derivative of z are met too.
 fn choose_in(p: Pick, terms: &[u8], z: Monomial, sq: &[u8]) -> Pick
-    requires { ⌜ CleanTerms (now terms) × AtMost 72 (z .e) ⌝ }
+    requires { ⌜ CleanTerms (now terms) × AtMost setExponent (z .e) ⌝ }
     ensures { λ r. ⌜ ((v l : List Mono) → tabled (now (sq .entry)) ≡ products plain v → Best cheaper l p →
         Best cheaper (unmet plain v (derivative plain (system (records (now (terms .entry)))) (z .e)) ++ l) r) ⌝ }
 {
@@ -85,7 +86,7 @@ fn choose_in(p: Pick, terms: &[u8], z: Monomial, sq: &[u8]) -> Pick
     let mut best = p;
     let mut t: usize = 0;
     while t < count {
-        let p = missing(terms, t, z, sq);
+        let p = nonsquare_of(terms, t, z, sq);
         if p.some {
             best = choice::cheapest(best, p.m);
         }
@@ -96,7 +97,7 @@ fn choose_in(p: Pick, terms: &[u8], z: Monomial, sq: &[u8]) -> Pick
 
 // The nonsquare of a set that is split, where there is one.
 pub fn choose(terms: &[u8], v: Signals, sq: &[u8]) -> Pick
-    requires { ⌜ CleanTerms (now terms) × ((v .len ≤ 13) × (Fitting 72 (signalsOf v) × (tabled (now sq) ≡ products plain (signalsOf v)))) ⌝ }
+    requires { ⌜ CleanTerms (now terms) × ((v .len ≤ mostSignals) × (Fitting setExponent (signalsOf v) × (tabled (now sq) ≡ products plain (signalsOf v)))) ⌝ }
     ensures { λ r. ⌜ Picked (nonsquares plain (signalsOf v) (derivative plain (system (records (now (terms .entry)))))) r ⌝ }
 {
     let len = v.len;

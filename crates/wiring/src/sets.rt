@@ -11,8 +11,9 @@ ghost use Prim.Native.Nat.{_*_, _≤_, _<_};
 ghost use lib.Dec.{eqb};
 ghost use lib.ListN.{length, drop, take};
 ghost use Rattle.monomial.specs.Lists.{any, all};
-ghost use Rattle.monomial.specs.Monomial.{constants};
+ghost use Rattle.monomial.specs.Monomial.{constants, width};
 ghost use Rattle.monomial.specs.Order.{same};
+ghost use Rattle.wiring.specs.Panel.{cards, setBytes};
 ghost use Rattle.wiring.specs.Sets.{places, sizeOf, ascending, monomialRight, monomialsOf, SetReads};
 
 pub struct Set {
@@ -35,7 +36,7 @@ impl Set {
 
 // Whether m is 1 or a single variable.
 fn is_constant(m: Monomial) -> bool
-    ensures { λ r. ⌜ r ≡ any (same (m .e)) (constants 6) ⌝ }
+    ensures { λ r. ⌜ r ≡ any (same (m .e)) (constants width) ⌝ }
 {
     let mut i: usize = 0;
     while i < CONSTANTS {
@@ -58,8 +59,8 @@ fn monomial_right(n: usize, m: Monomial) -> bool
 
 // How many places of a record are used: up to the first that is all zero.
 fn size_of(s: &[u8]) -> usize
-    requires { ⌜ length (now s) ≡ 36 ⌝ }
-    ensures { λ r. ⌜ (r ≡ sizeOf (now (s .entry))) × (r ≤ 6) ⌝ }
+    requires { ⌜ length (now s) ≡ setBytes ⌝ }
+    ensures { λ r. ⌜ (r ≡ sizeOf (now (s .entry))) × (r ≤ cards) ⌝ }
 {
     let mut i: usize = 0;
     while i < CARDS {
@@ -88,7 +89,7 @@ fn zero_from(s: &[u8], at: usize) -> bool
 
 // Whether the first len places ascend strictly: each stands before the next.
 fn ascends(s: &[u8], len: usize) -> bool
-    requires { ⌜ (length (now s) ≡ 36) × (len ≤ 6) ⌝ }
+    requires { ⌜ (length (now s) ≡ setBytes) × (len ≤ cards) ⌝ }
     ensures { λ r. ⌜ r ≡ ascending (take len (places (now (s .entry)))) ⌝ }
 {
     let mut i: usize = 1;
@@ -103,7 +104,7 @@ fn ascends(s: &[u8], len: usize) -> bool
 
 // Whether the first len places hold monomials that a set may have.
 fn monomials_right(n: usize, s: &[u8], len: usize) -> bool
-    requires { ⌜ (length (now s) ≡ 36) × (len ≤ 6) ⌝ }
+    requires { ⌜ (length (now s) ≡ setBytes) × (len ≤ cards) ⌝ }
     ensures { λ r. ⌜ r ≡ all (monomialRight n) (take len (places (now (s .entry)))) ⌝ }
 {
     let mut i: usize = 0;
@@ -118,7 +119,7 @@ fn monomials_right(n: usize, s: &[u8], len: usize) -> bool
 
 // The first len places as a set.
 fn set_of(s: &[u8], len: usize) -> Set
-    requires { ⌜ (length (now s) ≡ 36) × (len ≤ 6) ⌝ }
+    requires { ⌜ (length (now s) ≡ setBytes) × (len ≤ cards) ⌝ }
     ensures { λ r. ⌜ (monomialsOf r ≡ take len (places (now (s .entry)))) × (r .len ≡ len) ⌝ }
 {
     let mut m = [Monomial::ONE; CARDS];
@@ -130,9 +131,9 @@ fn set_of(s: &[u8], len: usize) -> Set
     Set { m, len }
 }
 
-// Reads a record of 36 bytes.
-pub fn read_set(n: usize, s: &[u8]) -> SetRead
-    requires { ⌜ length (now s) ≡ 36 ⌝ }
+// Reads a set record.
+pub(crate) fn read_set(n: usize, s: &[u8]) -> SetRead
+    requires { ⌜ length (now s) ≡ setBytes ⌝ }
     ensures { λ r. ⌜ SetReads n (now (s .entry)) r ⌝ }
 {
     let len = size_of(s);

@@ -6,14 +6,16 @@ use monomial::width::WIDTH;
 ghost use mathlib.Core.Path.{_≡_};
 ghost use Prim.Native.Nat.{_+_, _≤_};
 ghost use lib.ListN.{length, take};
+ghost use Rattle.monomial.specs.Monomial.{width};
 ghost use Rattle.monomial.specs.Lists.{any};
 ghost use Rattle.monomial.specs.Order.{same};
+ghost use Rattle.wiring.specs.Panel.{cards, mostSignals, tableBytes};
 ghost use Rattle.wiring.specs.Poly.{plain};
 ghost use Rattle.wiring.specs.Quadratic.{products};
 ghost use Rattle.wiring.specs.Signals.{signals, Fitting, signalsOf, tabled};
 ghost use Rattle.wiring.specs.Sets.{monomialsOf};
 
-// 1, up to six variables, up to six new monomials.
+// 1, the variables, the new monomials.
 pub struct Signals {
     pub m: [Monomial; MOST_SIGNALS],
     pub len: usize,
@@ -21,8 +23,8 @@ pub struct Signals {
 
 // V of a set.
 pub fn signals_of(n: usize, set: Set) -> Signals
-    requires { ⌜ (n ≤ 6) × (set .len ≤ 6) ⌝ }
-    ensures { λ r. ⌜ (signalsOf r ≡ signals 6 n (monomialsOf set)) × (r .len ≡ n + 1 + set .len) ⌝ }
+    requires { ⌜ (n ≤ width) × (set .len ≤ cards) ⌝ }
+    ensures { λ r. ⌜ (signalsOf r ≡ signals width n (monomialsOf set)) × (r .len ≡ n + 1 + set .len) ⌝ }
 {
     let mut m = [Monomial::ONE; MOST_SIGNALS];
     let mut i: usize = 0;
@@ -44,7 +46,7 @@ pub fn signals_of(n: usize, set: Set) -> Signals
 
 // Whether m is in V.
 pub fn is_signal(v: Signals, m: Monomial) -> bool
-    requires { ⌜ v .len ≤ 13 ⌝ }
+    requires { ⌜ v .len ≤ mostSignals ⌝ }
     ensures { λ r. ⌜ r ≡ any (same (m .e)) (signalsOf v) ⌝ }
 {
     let len = v.len;
@@ -59,10 +61,10 @@ pub fn is_signal(v: Signals, m: Monomial) -> bool
     false
 }
 
-// V2 of V, side by side in the lent table; the number of its bytes. At most 13 * 14 / 2 products.
+// V2 of V, side by side in the lent table; the number of its bytes. The table holds those of the most signals that there are.
 pub fn products_of(v: Signals, table: &mut [u8]) -> usize
-    requires { ⌜ (v .len ≤ 13) × (Fitting 127 (signalsOf v) × (546 ≤ length (now table))) ⌝ }
-    ensures { λ r. ⌜ (tabled (take r (now (table .exit))) ≡ products plain (signalsOf v)) × (r ≤ 546) ⌝ }
+    requires { ⌜ (v .len ≤ mostSignals) × (Fitting 127 (signalsOf v) × (tableBytes ≤ length (now table))) ⌝ }
+    ensures { λ r. ⌜ (tabled (take r (now (table .exit))) ≡ products plain (signalsOf v)) × (r ≤ tableBytes) ⌝ }
 {
     let len = v.len;
     let mut at: usize = 0;
@@ -82,7 +84,7 @@ pub fn products_of(v: Signals, table: &mut [u8]) -> usize
 }
 
 // Whether m is in the table. It is lent: a copy for each question would cost more than the search.
-pub fn is_product(table: &[u8], m: Monomial) -> bool
+pub(crate) fn is_product(table: &[u8], m: Monomial) -> bool
     ensures { λ r. ⌜ r ≡ any (same (m .e)) (tabled (now (table .entry))) ⌝ }
 {
     let count = table.len() / WIDTH;

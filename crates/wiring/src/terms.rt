@@ -1,16 +1,20 @@
 // Term records: 12 bytes each, and what may be wrong with them.
 use super::coefficient;
+use super::panel::COEFFICIENT_AT;
 use super::panel::LEAST_COEFFICIENT;
+use super::panel::MONOMIAL_AT;
 use super::panel::MOST_COEFFICIENT;
 use super::panel::TERM_BYTES;
 use super::panel::TERM_EXPONENT;
+use super::panel::TERMS_BYTES;
 use monomial::Monomial;
 use monomial::width::WIDTH;
 ghost use mathlib.Core.Path.{_≡_};
 ghost use Prim.Native.Nat.{_+_, _*_, _/_, _≤_, _<_};
 ghost use lib.ListN.{length, take};
 ghost use Rattle.monomial.specs.Lists.{any};
-ghost use Rattle.wiring.specs.Terms.{recordAt, records, exponentsRight, coefficientRight, termRight, alike, fault};
+ghost use Rattle.wiring.specs.Panel.{termBytes};
+ghost use Rattle.wiring.specs.Terms.{lengthRight, recordAt, records, exponentsRight, coefficientRight, termRight, alike, fault};
 
 // The first record with a fault decides; places count from 1.
 pub enum Fault {
@@ -19,8 +23,18 @@ pub enum Fault {
     Repeated(u64),
 }
 
+// Whether term records have a length that records can have.
+pub fn length_right(terms: &[u8]) -> bool
+    ensures { λ r. ⌜ r ≡ lengthRight (now (terms .entry)) ⌝ }
+{
+    if terms.len() % TERM_BYTES != 0 {
+        return false;
+    }
+    terms.len() <= TERMS_BYTES
+}
+
 // The exponents are at most most, and zero beyond xn.
-pub fn exponents_right(most: u8, n: usize, m: Monomial) -> bool
+pub(crate) fn exponents_right(most: u8, n: usize, m: Monomial) -> bool
     ensures { λ r. ⌜ r ≡ exponentsRight most n (m .e) ⌝ }
 {
     let e = m.e;
@@ -57,7 +71,7 @@ fn coefficient_right(c: i32) -> bool
 
 // Every field of record number t keeps its rule.
 fn term_right(n: usize, terms: &[u8], t: usize) -> bool
-    requires { ⌜ 12 * t + 12 ≤ length (now terms) ⌝ }
+    requires { ⌜ termBytes * t + termBytes ≤ length (now terms) ⌝ }
     ensures { λ r. ⌜ r ≡ termRight n (recordAt (now (terms .entry)) t) ⌝ }
 {
     let at = TERM_BYTES * t;
@@ -71,13 +85,13 @@ fn term_right(n: usize, terms: &[u8], t: usize) -> bool
     if terms[at + 1] != 0 {
         return false;
     }
-    if !exponents_right(TERM_EXPONENT, n, Monomial::read(terms, at + 2)) {
+    if !exponents_right(TERM_EXPONENT, n, Monomial::read(terms, at + MONOMIAL_AT)) {
         return false;
     }
-    coefficient_right(coefficient::decode(terms, at + 8))
+    coefficient_right(coefficient::decode(terms, at + COEFFICIENT_AT))
 }
 
-pub fn wide(x: u8) -> usize
+pub(crate) fn wide(x: u8) -> usize
     ensures { λ r. ⌜ (r ≡ x) × (r < 256) ⌝ }
 {
     x as usize
@@ -85,18 +99,21 @@ pub fn wide(x: u8) -> usize
 
 // Records t and u have the same equation and exponents.
 fn records_alike(terms: &[u8], t: usize, u: usize) -> bool
-    requires { ⌜ (12 * t + 12 ≤ length (now terms)) × (12 * u + 12 ≤ length (now terms)) ⌝ }
+    requires { ⌜ (termBytes * t + termBytes ≤ length (now terms)) × (termBytes * u + termBytes ≤ length (now terms)) ⌝ }
     ensures { λ r. ⌜ r ≡ alike (recordAt (now (terms .entry)) t) (recordAt (now (terms .entry)) u) ⌝ }
 {
     if terms[TERM_BYTES * t] != terms[TERM_BYTES * u] {
         return false;
     }
-    Monomial::read(terms, TERM_BYTES * t + 2).same(Monomial::read(terms, TERM_BYTES * u + 2))
+    Monomial::read(terms, TERM_BYTES * t + MONOMIAL_AT).same(Monomial::read(
+        terms,
+        TERM_BYTES * u + MONOMIAL_AT,
+    ))
 }
 
 // An earlier record has the equation and exponents of record t.
 fn repeats(terms: &[u8], t: usize) -> bool
-    requires { ⌜ 12 * t + 12 ≤ length (now terms) ⌝ }
+    requires { ⌜ termBytes * t + termBytes ≤ length (now terms) ⌝ }
     ensures { λ r. ⌜ r ≡ any (alike (recordAt (now (terms .entry)) t)) (take t (records (now (terms .entry)))) ⌝ }
 {
     let mut u: usize = 0;

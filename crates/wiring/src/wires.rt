@@ -11,10 +11,11 @@ ghost use mathlib.Core.Path.{_≡_};
 ghost use mathlib.Core.List.{List, [], _++_};
 ghost use Prim.Native.Nat.{_+_, _*_, _≤_, _<_};
 ghost use lib.Dec.{T};
-ghost use lib.ListN.{length, getD, replicate};
+ghost use lib.ListN.{length, getD};
 ghost use lib.Seq.{paste};
 ghost use Rattle.monomial.specs.Lists.{keep};
 ghost use Rattle.monomial.specs.Product.{AtMost};
+ghost use Rattle.wiring.specs.Panel.{termBytes, setExponent, mostSignals, wireBytes};
 ghost use Rattle.wiring.specs.Poly.{plain, support};
 ghost use Rattle.wiring.specs.Derivative.{derivative, image, offers};
 ghost use Rattle.wiring.specs.Quadratic.{inV2};
@@ -35,21 +36,10 @@ pub struct Written {
     pub at: usize,
 }
 
-// Zeroes a buffer.
-pub fn clear(out: &mut [u8])
-    ensures { λ _. ⌜ now (out .exit) ≡ replicate (length (now (out .entry))) 0 ⌝ }
-{
-    let mut i: usize = 0;
-    while i < out.len() {
-        out[i] = 0;
-        i += 1;
-    }
-}
-
 // The pair of smallest a, then smallest b, whose product is m.
 fn pair_of(v: Signals, m: Monomial) -> Pair
-    requires { ⌜ (v .len ≤ 13) × (Fitting 127 (signalsOf v) × T (inV2 plain (signalsOf v) (m .e))) ⌝ }
-    ensures { λ r. ⌜ (r .a ≡ firstOf plain (signalsOf v) (m .e)) × ((r .b ≡ secondOf plain (signalsOf v) (m .e)) × ((r .a < 13) × (r .b < 13))) ⌝ }
+    requires { ⌜ (v .len ≤ mostSignals) × (Fitting 127 (signalsOf v) × T (inV2 plain (signalsOf v) (m .e))) ⌝ }
+    ensures { λ r. ⌜ (r .a ≡ firstOf plain (signalsOf v) (m .e)) × ((r .b ≡ secondOf plain (signalsOf v) (m .e)) × ((r .a < mostSignals) × (r .b < mostSignals))) ⌝ }
 {
     let len = v.len;
     let mut r = Pair { a: 0, b: 0 };
@@ -79,7 +69,7 @@ fn is_beyond(p: Pick, m: Monomial) -> bool
 
 // The monomial of record t in the derivative of z, where it has a coefficient and stands behind the last one.
 fn following(terms: &[u8], t: usize, z: Monomial, last: Pick) -> Pick
-    requires { ⌜ CleanTerms (now terms) × ((12 * t + 12 ≤ length (now terms)) × AtMost 72 (z .e)) ⌝ }
+    requires { ⌜ CleanTerms (now terms) × ((termBytes * t + termBytes ≤ length (now terms)) × AtMost setExponent (z .e)) ⌝ }
     ensures { λ r. ⌜ Offered (offers (beyond last) (system (records (now (terms .entry)))) (z .e) (recordAt (now (terms .entry)) t)) (image (recordAt (now (terms .entry)) t) (z .e)) r ⌝ }
 {
     if derivative::power(terms, t, z) < 1 {
@@ -97,7 +87,7 @@ fn following(terms: &[u8], t: usize, z: Monomial, last: Pick) -> Pick
 
 // The smallest monomial of the derivative of z behind the last one.
 fn next_monomial(terms: &[u8], z: Monomial, last: Pick) -> Pick
-    requires { ⌜ CleanTerms (now terms) × AtMost 72 (z .e) ⌝ }
+    requires { ⌜ CleanTerms (now terms) × AtMost setExponent (z .e) ⌝ }
     ensures { λ r. ⌜ Heads (keep (beyond last) (support plain (derivative plain (system (records (now (terms .entry)))) (z .e)))) r ⌝ }
 {
     let count = terms.len() / TERM_BYTES;
@@ -115,8 +105,8 @@ fn next_monomial(terms: &[u8], z: Monomial, last: Pick) -> Pick
 
 // Writes record number at.
 fn put_record(out: &mut [u8], at: usize, left: usize, p: Pair, c: i32)
-    requires { ⌜ (8 * at + 8 ≤ length (now out)) × ((left < 256) × ((p .a < 256) × (p .b < 256))) ⌝ }
-    ensures { λ _. ⌜ now (out .exit) ≡ paste (now (out .entry)) (8 * at) (wireRecord (record { left = left; a = p .a; b = p .b; coefficient = c })) 8 ⌝ }
+    requires { ⌜ (wireBytes * at + wireBytes ≤ length (now out)) × ((left < 256) × ((p .a < 256) × (p .b < 256))) ⌝ }
+    ensures { λ _. ⌜ now (out .exit) ≡ paste (now (out .entry)) (wireBytes * at) (wireRecord (record { left = left; a = p .a; b = p .b; coefficient = c })) wireBytes ⌝ }
 {
     let u = coefficient::bits_of(c);
     let a = p.a;
@@ -141,7 +131,7 @@ fn put_record(out: &mut [u8], at: usize, left: usize, p: Pair, c: i32)
 
 // Writes the records of one left variable behind the at records that stand there.
 fn write_row(terms: &[u8], v: Signals, left: usize, out: &mut [u8], from: usize) -> Written
-    requires { ⌜ CleanTerms (now terms) × ((v .len ≤ 13) × ((left < v .len) × (Fitting 72 (signalsOf v) × ((8 * from ≤ length (now out)) × Met plain (signalsOf v) (derivative plain (system (records (now terms)))))))) ⌝ }
+    requires { ⌜ CleanTerms (now terms) × ((v .len ≤ mostSignals) × ((left < v .len) × (Fitting setExponent (signalsOf v) × ((wireBytes * from ≤ length (now out)) × Met plain (signalsOf v) (derivative plain (system (records (now terms)))))))) ⌝ }
     ensures { λ r. ⌜ ((done : List Wire) → Sheet done from (now (out .entry)) →
         Wrote (done ++ row plain (signalsOf v) left (derivative plain (system (records (now (terms .entry)))) (getD (signalsOf v) left []))) r (now (out .exit))) ⌝ }
 {
@@ -161,8 +151,8 @@ fn write_row(terms: &[u8], v: Signals, left: usize, out: &mut [u8], from: usize)
 }
 
 // Writes the whole list: the records of each left variable, ascending.
-pub fn write_wires(terms: &[u8], v: Signals, out: &mut [u8]) -> Written
-    requires { ⌜ CleanTerms (now terms) × ((v .len ≤ 13) × (Fitting 72 (signalsOf v) × (Sheet [] 0 (now out) × Met plain (signalsOf v) (derivative plain (system (records (now terms))))))) ⌝ }
+pub(crate) fn write_wires(terms: &[u8], v: Signals, out: &mut [u8]) -> Written
+    requires { ⌜ CleanTerms (now terms) × ((v .len ≤ mostSignals) × (Fitting setExponent (signalsOf v) × (Sheet [] 0 (now out) × Met plain (signalsOf v) (derivative plain (system (records (now terms))))))) ⌝ }
     ensures { λ r. ⌜ Wrote (wiring plain (signalsOf v) (derivative plain (system (records (now (terms .entry)))))) r (now (out .exit)) ⌝ }
 {
     let len = v.len;

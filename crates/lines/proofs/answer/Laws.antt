@@ -6,7 +6,8 @@ use native.Mathlib.Omega.{arith}
 use lib.Dec.{lit<}
 use lib.ListN.{length, take, drop, getD, length-append, length-map, length-take, List·getD-map}
 use lib.Seq.{drop-cons, getD-take}
-use Rattle.wiring.specs.Panel.{width, cards}
+use Rattle.monomial.specs.Monomial.{width}
+use Rattle.wiring.specs.Panel.{cards}
 use Rattle.wiring.specs.Coefficient.{word, signed}
 use Rattle.wiring.specs.Sets.{places}
 use Rattle.wiring.proofs.sets.Laws.{places-length, places-at}

@@ -10,7 +10,8 @@ use borrow.Author.Tests.{lt-ltb, ltb-true, ltb-false}
 use lib.Dec.{T, leb, ltb, leb→le}
 use lib.ListN.{length, length-append}
 use Rattle.monomial.specs.Lists.{some, all}
-use Rattle.monomial.proofs.Members.{_∈_, all-in, all-out}
+use Rattle.monomial.specs.Claims.{_∈_}
+use Rattle.monomial.proofs.Members.{all-in, all-out}
 use Rattle.monomial.proofs.Tests.{Tested, passed, failed, test, T→is, is→T, and-l, and-r, and-i}
 use Rattle.lines.specs.Text.{decimalWithin, decimal}
 use Rattle.lines.specs.Number.{isDigit, extended, numberFrom, numberOf}

@@ -15,10 +15,11 @@ use Rattle.monomial.specs.Monomial.{Mono, one}
 use Rattle.monomial.specs.Order.{before}
 use Rattle.monomial.specs.Quotient.{divides}
 use Rattle.monomial.specs.Divisors.{divisors, next}
+use Rattle.monomial.specs.Claims.{from}
 use Rattle.monomial.proofs.Tests.{Tested, passed, failed, test, is→T, is→nT, T→is, nT→is, and-r}
 use Rattle.monomial.proofs.Loops.{set-front}
 use Rattle.monomial.proofs.order.Laws.{ℕ-order, mono-order, Ahead, smaller, tied, ahead, ahead-is}
-use Rattle.monomial.proofs.order.Ascending.{from, from-start, from-next}
+use Rattle.monomial.proofs.order.Ascending.{from-start, from-next}
 use Rattle.monomial.proofs.quotient.Laws.{divides-length, divides-head, divides-tail, divides-cons, divides-both, one-divides}
 use Rattle.monomial.proofs.divisors.Laws.{divisors-in, divisors-out, divisors-asc}
 
@@ -194,11 +195,11 @@ next-divides (x ∷ d) (e ∷ m) s = go (test (divides m d)) (test (ltb x e)) (n
     go (failed p) q ih = rw p (divides-cons x e (next m d) m (divides-head x e d m s) ih)
 
 -- ---- the divisors of m from d on, one at a time: all of them from 1, then d and those from the next one on
-pub divisors-start : (m : Mono) → from mono-order (one (length m)) (divisors m) ≡ divisors m
+pub divisors-start : (m : Mono) → from before (one (length m)) (divisors m) ≡ divisors m
 divisors-start m =
     from-start mono-order (one (length m)) (divisors m) (λ d h t. one-gap d m (divides-length d m (divisors-out d m h)) t)
 
-pub divisors-next : (d m : Mono) → T (divides d m) → (d ≡ m → ⊥) → from mono-order d (divisors m) ≡ d ∷ from mono-order (next m d) (divisors m)
+pub divisors-next : (d m : Mono) → T (divides d m) → (d ≡ m → ⊥) → from before d (divisors m) ≡ d ∷ from before (next m d) (divisors m)
 divisors-next d m t n =
     from-next mono-order d (next m d) (divisors m) (divisors-asc m) (divisors-in d m t) (next-behind d m t (λ s. n (divides-both d m t s)))
     (λ c h u v. next-gap c d m (divisors-out c m h) t u v)

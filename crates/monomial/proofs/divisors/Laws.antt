@@ -15,10 +15,11 @@ use Rattle.monomial.specs.Order.{before}
 use Rattle.monomial.specs.Product.{AtMost}
 use Rattle.monomial.specs.Quotient.{divides}
 use Rattle.monomial.specs.Divisors.{score, divisors}
-use Rattle.monomial.proofs.Members.{_∈_, here, gather-in, gather-out, Gathered}
+use Rattle.monomial.specs.Claims.{_∈_, Ascending, empty, first}
+use Rattle.monomial.proofs.Members.{here, gather-in, gather-out, Gathered}
 use Rattle.monomial.proofs.order.Laws.{ℕ-order, smaller, tied, ahead-is}
 use Rattle.monomial.proofs.Counting.{below-in, below-out, below-asc, below-length}
-use Rattle.monomial.proofs.order.Ascending.{Ascending, empty, first, head-first, tail-asc, append-asc, map-asc}
+use Rattle.monomial.proofs.order.Ascending.{head-first, tail-asc, append-asc, map-asc}
 use Rattle.monomial.proofs.quotient.Laws.{divides-head, divides-tail, divides-cons}
 
 lt-suc : (x e : ℕ) → x ≤ e → x < suc e

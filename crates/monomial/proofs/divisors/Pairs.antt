@@ -13,22 +13,16 @@ use Rattle.monomial.specs.Order.{same, before}
 use Rattle.monomial.specs.Product.{mul}
 use Rattle.monomial.specs.Quotient.{quo, divides}
 use Rattle.monomial.specs.Divisors.{divisors, leads, pairs, next}
+use Rattle.monomial.specs.Claims.{_∈_, Ascending, from, Compared, less, equal, more, Pair, split, IsPair, pairsFrom}
 use Rattle.monomial.proofs.Tests.{Tested, passed, failed, test, is→T, is→nT}
-use Rattle.monomial.proofs.Members.{_∈_, keep-in, keep-out, keep-none, keep-yes}
+use Rattle.monomial.proofs.Members.{keep-in, keep-out, keep-none, keep-yes}
 use Rattle.monomial.proofs.Loops.{pointwise-length}
-use Rattle.monomial.proofs.order.Laws.{ℕ-order, mono-order, Ahead, smaller, tied, ahead, ahead-is, le-before, level, Compared, less, equal, more}
-use Rattle.monomial.proofs.order.Ascending.{Ascending, keep-asc, once, from, from-out, run-front}
+use Rattle.monomial.proofs.order.Laws.{ℕ-order, mono-order, Ahead, smaller, tied, ahead, ahead-is, le-before, level}
+use Rattle.monomial.proofs.order.Ascending.{keep-asc, once, from-out, run-front}
 use Rattle.monomial.proofs.product.Laws.{mul-comm}
 use Rattle.monomial.proofs.quotient.Laws.{quo-mul, mul-quo, quo-self, divides-length, divides-tail, divides-head, factor-divides}
 use Rattle.monomial.proofs.divisors.Laws.{divisors-in, divisors-out, divisors-asc}
 use Rattle.monomial.proofs.divisors.Following.{divisors-start, divisors-next, not-before-one}
-
-abbrev Pair : Type 0
-Pair = Mono × Mono
-
--- d and what m leaves it
-abbrev pub split : Mono → Mono → Pair
-split m d = (d, quo m d)
 
 -- ---- complete: a product is split into its factors
 pub pairs-in : (a b : Mono) → length a ≡ length b → (T (before b a) → ⊥) → (a, b) ∈ pairs (mul a b)
@@ -54,13 +48,7 @@ pub pairs-middle : (d : Mono) → (d, d) ∈ pairs (mul d d)
 pairs-middle d = pairs-in d d refl (mono-order .irrefl d)
 
 -- ---- sound: two monomials of m's width whose product is m, the first not behind the second
-pub record Splits (p : Pair) (m : Mono) : Type 0 where
-  pub left : length (p .0) ≡ length m
-  pub right : length (p .1) ≡ length m
-  pub product : mul (p .0) (p .1) ≡ m
-  pub ordered : T (before (p .1) (p .0)) → ⊥
-
-split-splits : (m d : Mono) → T (divides d m) → T (leads m d) → Splits (split m d) m
+split-splits : (m d : Mono) → T (divides d m) → T (leads m d) → IsPair (split m d) m
 split-splits m d t l =
     let e : length d ≡ length m = divides-length d m t in
     record {
@@ -70,12 +58,12 @@ split-splits m d t l =
       ordered = T-not (before (quo m d) d) l;
     }
 
-pub pairs-out : (p : Pair) (m : Mono) → p ∈ pairs m → Splits p m
+pub pairs-out : (p : Pair) (m : Mono) → p ∈ pairs m → IsPair p m
 unfolding pairs
 pairs-out p m h =
     let q : (d : Mono) × (d ∈ keep (leads m) (divisors m)) × (split m d ≡ p) = Memᴰ·of-map (split m) (keep (leads m) (divisors m)) h in
     let k = keep-out (leads m) (divisors m) (q .1) in
-    subst (λ z. Splits z m) (q .2) (split-splits m (q .0) (divisors-out (q .0) m (k .0)) (k .1))
+    subst (λ z. IsPair z m) (q .2) (split-splits m (q .0) (divisors-out (q .0) m (k .0)) (k .1))
 
 -- ---- no pair twice: the first factors ascend strictly, and each stands once
 firsts-map : (m : Mono) (l : List Mono) → map (λ (p : Pair). p .0) (map (split m) l) ≡ l
@@ -122,9 +110,6 @@ leads-run m =
     run-front mono-order (leads m) (divisors m) (divisors-asc m) (λ c d h k u. leads-down c d m (divisors-out c m h) (divisors-out d m k) u)
 
 -- ---- the pairs of m from the first factor d on, one at a time
-abbrev pub pairsFrom : Mono → Mono → List Pair
-pairsFrom m d = map (split m) (keep (leads m) (from mono-order d (divisors m)))
-
 pub pairs-start : (m : Mono) → pairsFrom m (one (length m)) ≡ pairs m
 unfolding pairs
 pairs-start m = rw (divisors-start m)
@@ -137,12 +122,12 @@ leads-last d m n l e =
 
 pub pairs-turn : (d m : Mono) → T (divides d m) → (m ≡ one (length m) → ⊥) → T (leads m d) → pairsFrom m d ≡ split m d ∷ pairsFrom m (next m d)
 pairs-turn d m t n l =
-    rw (divisors-next d m t (leads-last d m n l)) (ap (map (split m)) (keep-yes (leads m) d (from mono-order (next m d) (divisors m)) l))
+    rw (divisors-next d m t (leads-last d m n l)) (ap (map (split m)) (keep-yes (leads m) d (from before (next m d) (divisors m)) l))
 
 pub pairs-end : (d m : Mono) → T (divides d m) → (T (leads m d) → ⊥) → pairsFrom m d ≡ []
-pairs-end d m t n = ap (map (split m)) (keep-none (leads m) (from mono-order d (divisors m)) none)
+pairs-end d m t n = ap (map (split m)) (keep-none (leads m) (from before d (divisors m)) none)
   where
-    none : (c : Mono) → c ∈ from mono-order d (divisors m) → T (leads m c) → ⊥
+    none : (c : Mono) → c ∈ from before d (divisors m) → T (leads m c) → ⊥
     none c h l =
         let k = from-out mono-order d (divisors m) h in
         n (up (mono-order .total d c) (k .1) (divisors-out c m (k .0)) l)

@@ -9,19 +9,10 @@ use native.Mathlib.Omega.{arith}
 use lib.Dec.{T, T-not, not-T}
 use lib.ListN.{length, take}
 use Rattle.monomial.specs.Lists.{insertBy, arrangeBy, any, keep}
+use Rattle.monomial.specs.Claims.{_∈_, _⊆_, Ascending, empty, first, from, Order}
 use Rattle.monomial.proofs.Tests.{cond-cases, Tested, passed, failed, test, is→nT}
-use Rattle.monomial.proofs.Members.{_∈_, here, there, any-in, any-out, Passing, keep-out, keep-yes, keep-no, keep-all, keep-none}
-use Rattle.monomial.proofs.order.Laws.{Order, not-both, behind}
-
--- each entry of s is in t
-abbrev pub _⊆_ : {A : Type 0} → List A → List A → Type 0
-_⊆_ {A} s t = (x : A) → x ∈ s → x ∈ t
-
-infix 40 _⊆_
--- each entry stands before all that follow it
-pub data Ascending {A : Type 0} (before : A → A → Bool) : List A → Type 0 where
-  empty : Ascending before []
-  first : {x : A} {l : List A} → ((y : A) → y ∈ l → T (before x y)) → Ascending before l → Ascending before (x ∷ l)
+use Rattle.monomial.proofs.Members.{here, there, any-in, any-out, Passing, keep-out, keep-yes, keep-no, keep-all, keep-none}
+use Rattle.monomial.proofs.order.Laws.{not-both, behind}
 
 module _ {A : Type 0} {before : A → A → Bool} where
   pub head-first : {x : A} {l : List A} → Ascending before (x ∷ l) → (y : A) → y ∈ l → T (before x y)
@@ -186,19 +177,16 @@ module _ {A : Type 0} {same before : A → A → Bool} (o : Order same before) w
       later k ih = keep-no (same m) x l (λ s. o .irrefl x (subst (λ z. T (before x z)) (o .same-eq m x s) (head-first a m k))) ∙ ih
 
   -- ---- the entries of a list from x on
-  abbrev pub from : A → List A → List A
-  from x l = keep (λ y. not (before y x)) l
-
-  pub from-out : (x : A) (l : List A) {y : A} → y ∈ from x l → (y ∈ l) × (T (before y x) → ⊥)
+  pub from-out : (x : A) (l : List A) {y : A} → y ∈ from before x l → (y ∈ l) × (T (before y x) → ⊥)
   from-out x l {y} h = let k = keep-out (λ z. not (before z x)) l h in (k .0, T-not (before y x) (k .1))
 
   -- nothing stands before x
-  pub from-start : (x : A) (l : List A) → ((y : A) → y ∈ l → T (before y x) → ⊥) → from x l ≡ l
+  pub from-start : (x : A) (l : List A) → ((y : A) → y ∈ l → T (before y x) → ⊥) → from before x l ≡ l
   from-start x l h = keep-all (λ y. not (before y x)) l (λ y m. not-T (before y x) (h y m))
 
   -- x is an entry, and n the next thing behind it
   pub from-next : (x n : A) (l : List A) → Ascending before l → x ∈ l → T (before x n)
-      → ((y : A) → y ∈ l → T (before x y) → T (before y n) → ⊥) → from x l ≡ x ∷ from n l
+      → ((y : A) → y ∈ l → T (before x y) → T (before y n) → ⊥) → from before x l ≡ x ∷ from before n l
   from-next x n [] a h t gap = absurd (List·Memᴰ·not-nil h)
   from-next x n (u ∷ l) a h t gap =
       ⊎-elim at-head (λ m. later m (from-next x n l (tail-asc a) m t (λ y k. gap y (there k)))) (List·Memᴰ·cases-cons h)
@@ -209,16 +197,16 @@ module _ {A : Type 0} {same before : A → A → Bool} (o : Order same before) w
       fn : A → Bool
       fn y = not (before y n)
 
-      at-head : x ≡ u → from x (u ∷ l) ≡ x ∷ from n (u ∷ l)
+      at-head : x ≡ u → from before x (u ∷ l) ≡ x ∷ from before n (u ∷ l)
       at-head e =
           let low : (y : A) → y ∈ l → T (before x y) = λ y m. subst (λ z. T (before z y)) (sym e) (head-first a y m) in
-          let all-x : from x l ≡ l = from-start x l (λ y m s. not-both o x y (low y m) s) in
-          let all-n : from n l ≡ l = from-start n l (λ y m s. gap y (there m) (low y m) s) in
+          let all-x : from before x l ≡ l = from-start x l (λ y m s. not-both o x y (low y m) s) in
+          let all-n : from before n l ≡ l = from-start n l (λ y m s. gap y (there m) (low y m) s) in
           let own : T (fx u) = not-T (before u x) (subst (λ z. T (before z x) → ⊥) e (o .irrefl x)) in
           let out : T (fn u) → ⊥ = λ s. T-not (before u n) s (subst (λ z. T (before z n)) e t) in
           keep-yes fx u l own ∙ ap₂ _∷_ (sym e) (all-x ∙ sym all-n ∙ sym (keep-no fn u l out))
 
-      later : x ∈ l → from x l ≡ x ∷ from n l → from x (u ∷ l) ≡ x ∷ from n (u ∷ l)
+      later : x ∈ l → from before x l ≡ x ∷ from before n l → from before x (u ∷ l) ≡ x ∷ from before n (u ∷ l)
       later m ih =
           let low : T (before u x) = head-first a x m in
           let out-x : T (fx u) → ⊥ = λ s. T-not (before u x) s low in

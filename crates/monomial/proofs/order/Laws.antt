@@ -1,10 +1,10 @@
 -- An order that a test decides, and the order of a dictionary that it gives on lists: exponents, then monomials, then sets.
 -- Assumes nothing.
-use mathlib.Core.Path.{_≡_, refl, sym, ap₂, subst, _∙_}
+use mathlib.Core.Path.{_≡_, refl, sym, ap₂, subst, _∙_, ap}
 use mathlib.Core.Logic.{⊎-elim}
 use mathlib.Core.Bool.{Bool, true, false, _&&_}
-use mathlib.Core.List.{List, [], _∷_}
-use Prim.Native.Nat.{ℕ, _+_, _<_, _≤_}
+use mathlib.Core.List.{List, [], _∷_, _++_}
+use Prim.Native.Nat.{ℕ, _+_, _<_, _≤_, zero, suc}
 use native.Mathlib.Omega.{arith}
 use native.Mathlib.Numerals.{add-one}
 use lib.Dec.{T, eqb, ltb, eqb→eq, eqb-refl, ltb→lt, lt→ltb, nltb→le, not-T}
@@ -12,21 +12,10 @@ use lib.ListN.{length, drop, getD, drop-of-length-le}
 use lib.Seq.{drop-cons}
 use Rattle.monomial.specs.Lists.{pairwise, dictionary}
 use Rattle.monomial.specs.Order.{same, before, sameSet, beforeSet}
+use Rattle.monomial.specs.Claims.{Compared, Order, less, equal, more}
 use Rattle.monomial.proofs.Loops.{Comparing, comparing-next, comparing-says}
 use Rattle.monomial.proofs.Tests.{and-l, and-r, and-i, or-l, or-r, or-e, Tested, passed, failed, test, is→T, is→nT, T→is, nT→is}
-
--- which of two stands before the other
-pub data Compared {A : Type 0} (same before : A → A → Bool) (a b : A) : Type 0 where
-  less : T (before a b) → Compared same before a b
-  equal : T (same a b) → Compared same before a b
-  more : T (before b a) → Compared same before a b
-
-pub record Order {A : Type 0} (same before : A → A → Bool) : Type 0 where
-  pub same-eq : (a b : A) → T (same a b) → a ≡ b
-  pub same-refl : (a : A) → T (same a a)
-  pub irrefl : (a : A) → T (before a a) → ⊥
-  pub trans : (a b c : A) → T (before a b) → T (before b c) → T (before a c)
-  pub total : (a b : A) → Compared same before a b
+use Rattle.monomial.specs.Monomial.{Mono, one}
 
 -- of "before", "the same" and "behind" one holds, and no two
 module _ {A : Type 0} {same before : A → A → Bool} (o : Order same before) where
@@ -206,9 +195,41 @@ module _ {A : Type 0} {same before : A → A → Bool} (o : Order same before) w
       unfolding dictionary
       dictionary-ends h = comparing-says false c (rw (drop-of-length-le a {i = i} (omega arith), drop-of-length-le b {i = i} (omega arith)))
 
+-- ---- the order of lists that go on
+module _ {A : Type 0} {same before : A → A → Bool} (o : Order same before) where
+  pub before-append : (a b u v : List A) → length a ≡ length b → T (dictionary same before a b) → T (dictionary same before (a ++ u) (b ++ v))
+  unfolding dictionary
+  before-append [] [] u v e t = absurd t
+  before-append [] (y ∷ b) u v e t = let z : ⊥ = omega arith in absurd z
+  before-append (x ∷ a) [] u v e t = absurd t
+  before-append (x ∷ a) (y ∷ b) u v e t = go (ahead o x y a b t) (before-append a b u v (omega arith))
+    where
+      go : Ahead o x y a b → (T (dictionary same before a b) → T (dictionary same before (a ++ u) (b ++ v))) → T (dictionary same before (x ∷ (a ++ u)) (y ∷ (b ++ v)))
+      go (smaller h) ih = ahead-is o x y (a ++ u) (b ++ v) (smaller h)
+      go (tied d s) ih = ahead-is o x y (a ++ u) (b ++ v) (tied d (ih s))
+
+  pub append-before : (a u v : List A) → T (dictionary same before u v) → T (dictionary same before (a ++ u) (a ++ v))
+  append-before [] u v t = t
+  append-before (x ∷ a) u v t = ahead-is o x x (a ++ u) (a ++ v) (tied (o .same-refl x) (append-before a u v t))
+
+  -- nothing stands before the empty list
+  pub not-before-empty : (a : List A) → T (dictionary same before a []) → ⊥
+  unfolding dictionary
+  not-before-empty [] t = t
+  not-before-empty (x ∷ a) t = t
+
 -- ---- one order, three times
 pub mono-order : Order same before
 mono-order = list-order ℕ-order
 
 pub set-order : Order sameSet beforeSet
 set-order = list-order mono-order
+
+-- 1 stands before every other monomial
+pub one-before : (w : ℕ) (m : Mono) → length m ≡ w → (m ≡ one w → ⊥) → T (before (one w) m)
+one-before zero [] e n = absurd (n refl)
+one-before zero (x ∷ m) e n = let z : ⊥ = omega arith in absurd z
+one-before (suc w) [] e n = let z : ⊥ = omega arith in absurd z
+one-before (suc w) (zero ∷ m) e n =
+    ahead-is ℕ-order 0 0 (one w) m (tied tt (one-before w m (omega arith) (λ d. n (ap (λ (l : Mono). 0 ∷ l) d))))
+one-before (suc w) (suc x ∷ m) e n = ahead-is ℕ-order 0 (suc x) (one w) m (smaller (lt→ltb 0 (suc x) (omega arith)))

@@ -1,7 +1,7 @@
 -- Products of monomials of any width, and bounds on exponents. Assumes nothing.
 use mathlib.Core.Path.{_≡_}
 use mathlib.Core.List.{[], _∷_}
-use Prim.Native.Nat.{ℕ, zero, suc, _+_, _≤_, _<_}
+use Prim.Native.Nat.{ℕ, zero, suc, _+_, _≤_, _<_, _-_}
 use native.Mathlib.Omega.{arith}
 use lib.ListN.{length, getD, set}
 use Rattle.monomial.specs.Lists.{pointwise}
@@ -51,3 +51,7 @@ atMost-all b (x ∷ m) h = (h 0, atMost-all b m (λ i. h (suc i)))
 
 pub product-fits : (b : ℕ) (x y : Mono) (i : ℕ) → i < length x → i < length y → AtMost b (mul x y) → getD x i 0 + getD y i 0 ≤ b
 product-fits b x y i h k a = let e : getD (mul x y) i 0 ≡ getD x i 0 + getD y i 0 = pointwise-at _+_ x y i 0 0 0 h k in omega (arith, atMost-at b (mul x y) i a)
+
+-- a monomial with at most b per place, divided by a variable that it holds
+pub quo-small : (b i : ℕ) (z : Mono) → AtMost b z → AtMost b (set z i (getD z i 0 - 1))
+quo-small b i z a = let h : getD z i 0 ≤ b = atMost-at b z i a in atMost-set b z i (getD z i 0 - 1) (omega arith) a

@@ -35,6 +35,9 @@ there-and-back : (x : Numbers) → back (inOrder x) ≡ x
 unfolding back
 there-and-back x = refl
 
+pub in-order-one : (x y : Numbers) → inOrder x ≡ inOrder y → x ≡ y
+in-order-one x y e = sym (there-and-back x) ∙ ap back e ∙ there-and-back y
+
 regain : Answer → Outcome
 regain x = record { said = back (x .five); bytes = x .bytes }
 

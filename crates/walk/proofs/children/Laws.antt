@@ -1,36 +1,40 @@
--- The child of a set by a factor pair of one of its nonsquares: it holds the set, it is longer, and with at most six monomials it is again a set
--- of the walk, so that exponents of sets stay at or below 54 and those of nonsquares at or below 63. Assumes nothing.
+-- The child of a set by a factor pair of one of its nonsquares: it holds the set, it is longer, and with no more monomials than there are cards it is again a set
+-- of the walk, so that exponents of sets and nonsquares stay bounded. Assumes nothing.
 use mathlib.Core.Path.{_≡_, sym, ap, _∙_, subst}
 use mathlib.Core.Logic.{_⊎_, inl, inr, ⊎-elim}
-use mathlib.Core.List.{List, [], _∷_, map, List·Memᴰ·head, List·Memᴰ·cases-cons, List·Memᴰ·not-nil, Memᴰ·cast, Memᴰ·of-map}
-use Prim.Native.Nat.{ℕ, zero, suc, _+_, _*_, _-_, _<_, _≤_}
+use mathlib.Core.List.{List, [], _∷_, List·Memᴰ·head, List·Memᴰ·not-nil, Memᴰ·cast}
+use Prim.Native.Nat.{ℕ, suc, _+_, _*_, _-_, _<_, _≤_}
 use native.Mathlib.Nat.{mul-le-mul-left}
 use native.Mathlib.Omega.{arith}
 use lib.Dec.{T}
-use lib.ListN.{length, getD, set, length-set}
+use lib.ListN.{length, set, length-set}
 use Rattle.monomial.specs.Lists.{any, insertBy}
-use Rattle.monomial.specs.Monomial.{Mono, one, vars, constants}
+use Rattle.monomial.specs.Monomial.{Mono, one, constants, width}
 use Rattle.monomial.specs.Order.{same, before}
 use Rattle.monomial.specs.Product.{mul, AtMost}
 use Rattle.monomial.specs.Divisors.{pairs}
 use Rattle.monomial.specs.Quotient.{divides}
+use Rattle.monomial.specs.Claims.{_∈_, _⊆_, Ascending, empty, IsPair}
 use Rattle.monomial.proofs.Tests.{cond-cases}
-use Rattle.monomial.proofs.Members.{_∈_, take-in, fill-at}
+use Rattle.monomial.proofs.Members.{take-in}
 use Rattle.monomial.proofs.Loops.{pointwise-length}
 use Rattle.monomial.proofs.order.Laws.{mono-order}
-use Rattle.monomial.proofs.order.Ascending.{_⊆_, Ascending, empty, insert-out, insert-new, insert-old, insert-asc, insert-length, sub-length, among-in, among-out}
-use Rattle.monomial.proofs.product.Laws.{mul-comm, atMost-weaken, atMost-mul, atMost-set, atMost-at}
+use Rattle.monomial.proofs.order.Ascending.{insert-out, insert-new, insert-old, insert-asc, insert-length, sub-length, among-in, among-out}
+use Rattle.monomial.proofs.product.Laws.{mul-comm, atMost-weaken, atMost-mul, quo-small}
 use Rattle.monomial.proofs.quotient.Laws.{factor-divides, atMost-divides}
-use Rattle.monomial.proofs.divisors.Pairs.{Splits, pairs-out}
+use Rattle.monomial.proofs.divisors.Pairs.{pairs-out}
+use Rattle.monomial.proofs.Variables.{constants-fit, constants-quo}
+use Rattle.wiring.specs.Panel.{cards, setExponent, derivedExponent, termExponent}
 use Rattle.wiring.specs.Poly.{Poly, plain}
 use Rattle.wiring.specs.Derivative.{derivative, power}
 use Rattle.wiring.specs.Signals.{signals}
 use Rattle.wiring.specs.Choice.{chosen}
 use Rattle.wiring.specs.Terms.{Record, records, system, CleanTerms}
 use Rattle.wiring.specs.Answers.{missing}
+use Rattle.wiring.specs.Claims.{base}
 use Rattle.wiring.proofs.Poly.{support-out}
 use Rattle.wiring.proofs.quadratic.Laws.{Factors, inV2-in, unmet-out, Nonsquare, nonsquares-out}
-use Rattle.wiring.proofs.signals.Laws.{base, base-in, set-in, signals-cases, constants-fit}
+use Rattle.wiring.proofs.signals.Laws.{base-in, set-in, signals-cases}
 use Rattle.wiring.proofs.terms.Laws.{Rightful, clean-in}
 use Rattle.wiring.proofs.derivative.Records.{Derived, derived}
 use Rattle.wiring.proofs.choice.Laws.{chosen-best}
@@ -43,13 +47,13 @@ chosen-in m l = chosen-best m l .0
 
 -- ---- V of a set: 1 and the variables, which are in V of every set, and its own monomials
 module _ (n : ℕ) where
-  pub signals-grow : (s t : List Mono) → s ⊆ t → signals 6 n s ⊆ signals 6 n t
+  pub signals-grow : (s t : List Mono) → s ⊆ t → signals width n s ⊆ signals width n t
   signals-grow s t sub x h = ⊎-elim (λ b. base-in n t b) (λ m. set-in n t (sub x m)) (signals-cases n s h)
 
-  pub base-wide : (x : Mono) → x ∈ base n → length x ≡ 6
-  base-wide x h = constants-fit 1 6 (omega arith) x (take-in (suc n) (constants 6) h) .0
+  pub base-wide : (x : Mono) → x ∈ base n → length x ≡ width
+  base-wide x h = constants-fit 1 width (omega arith) x (take-in (suc n) (constants width) h) .0
 
-  pub signals-wide : (s : List Mono) → ((x : Mono) → x ∈ s → length x ≡ 6) → (x : Mono) → x ∈ signals 6 n s → length x ≡ 6
+  pub signals-wide : (s : List Mono) → ((x : Mono) → x ∈ s → length x ≡ width) → (x : Mono) → x ∈ signals width n s → length x ≡ width
   signals-wide s w x h = ⊎-elim (base-wide x) (w x) (signals-cases n s h)
 
 -- ---- one monomial added
@@ -84,42 +88,42 @@ module _ (v : List Mono) (m : Mono) where
 -- ---- the child by a pair
 module _ (n : ℕ) (s : List Mono) (p : Mono × Mono) where
   abbrev half : List Mono
-  half = added (signals 6 n s) (p .1) s
+  half = added (signals width n s) (p .1) s
 
   pub child-sub : s ⊆ child n s p
   unfolding child
-  child-sub x h = added-sub (signals 6 n s) (p .0) half x (added-sub (signals 6 n s) (p .1) s x h)
+  child-sub x h = added-sub (signals width n s) (p .0) half x (added-sub (signals width n s) (p .1) s x h)
 
   -- what is new in the child: one of the pair, and not in V before
   pub data Grown (x : Mono) : Type 0 where
     old : x ∈ s → Grown x
-    left : x ≡ p .0 → (x ∈ signals 6 n s → ⊥) → Grown x
-    right : x ≡ p .1 → (x ∈ signals 6 n s → ⊥) → Grown x
+    left : x ≡ p .0 → (x ∈ signals width n s → ⊥) → Grown x
+    right : x ≡ p .1 → (x ∈ signals width n s → ⊥) → Grown x
 
   pub child-out : {x : Mono} → x ∈ child n s p → Grown x
   unfolding child
   child-out {x} h =
       ⊎-elim (λ q. left (q .0) (λ k. q .1 (Memᴰ·cast (sym (q .0)) k)))
-      (λ k. ⊎-elim (λ q. right (q .0) (λ j. q .1 (Memᴰ·cast (sym (q .0)) j))) (λ j. old j) (added-out (signals 6 n s) (p .1) s k))
-      (added-out (signals 6 n s) (p .0) half h)
+      (λ k. ⊎-elim (λ q. right (q .0) (λ j. q .1 (Memᴰ·cast (sym (q .0)) j))) (λ j. old j) (added-out (signals width n s) (p .1) s k))
+      (added-out (signals width n s) (p .0) half h)
 
   pub child-asc : Ascending before s → Ascending before (child n s p)
   unfolding child
-  child-asc a = added-asc (signals 6 n s) (p .0) half (added-asc (signals 6 n s) (p .1) s a)
+  child-asc a = added-asc (signals width n s) (p .0) half (added-asc (signals width n s) (p .1) s a)
 
-  pub child-left : Placed (signals 6 n s) (p .0) (child n s p)
+  pub child-left : Placed (signals width n s) (p .0) (child n s p)
   unfolding child
-  child-left = added-new (signals 6 n s) (p .0) half
+  child-left = added-new (signals width n s) (p .0) half
 
-  carried : {m : Mono} {r : List Mono} → r ⊆ child n s p → Placed (signals 6 n s) m r → Placed (signals 6 n s) m (child n s p)
+  carried : {m : Mono} {r : List Mono} → r ⊆ child n s p → Placed (signals width n s) m r → Placed (signals width n s) m (child n s p)
   carried sub (was h) = was h
   carried {m} sub (now f h) = now f (sub m h)
 
-  pub child-right : Placed (signals 6 n s) (p .1) (child n s p)
+  pub child-right : Placed (signals width n s) (p .1) (child n s p)
   unfolding child
-  child-right = carried (added-sub (signals 6 n s) (p .0) half) (added-new (signals 6 n s) (p .1) s)
+  child-right = carried (added-sub (signals width n s) (p .0) half) (added-new (signals width n s) (p .1) s)
 
-  longer-by : Ascending before s → (x : Mono) → (x ∈ signals 6 n s → ⊥) → x ∈ child n s p → length s < length (child n s p)
+  longer-by : Ascending before s → (x : Mono) → (x ∈ signals width n s → ⊥) → x ∈ child n s p → length s < length (child n s p)
   longer-by a x f h =
       let more = insertBy same before x s in
       let sub : more ⊆ child n s p = λ y k. ⊎-elim (λ d. Memᴰ·cast d h) (λ j. child-sub y j) (insert-out mono-order x s k) in
@@ -128,10 +132,10 @@ module _ (n : ℕ) (s : List Mono) (p : Mono × Mono) where
       omega arith
 
   -- a child is longer, unless both of the pair were in V before
-  pub child-longer : Ascending before s → ((p .0 ∈ signals 6 n s) × (p .1 ∈ signals 6 n s) → ⊥) → length s < length (child n s p)
+  pub child-longer : Ascending before s → ((p .0 ∈ signals width n s) × (p .1 ∈ signals width n s) → ⊥) → length s < length (child n s p)
   child-longer a out = go child-left child-right
     where
-      go : Placed (signals 6 n s) (p .0) (child n s p) → Placed (signals 6 n s) (p .1) (child n s p) → length s < length (child n s p)
+      go : Placed (signals width n s) (p .0) (child n s p) → Placed (signals width n s) (p .1) (child n s p) → length s < length (child n s p)
       go (was h) (was k) = absurd (out (h, k))
       go (was h) (now f k) = longer-by a (p .1) f k
       go (now f h) q = longer-by a (p .0) f h
@@ -139,9 +143,9 @@ module _ (n : ℕ) (s : List Mono) (p : Mono × Mono) where
 -- ---- a pair of a nonsquare
 module _ (n : ℕ) (fs : List (Poly Mono)) (s : List Mono) (m : Mono) where
   -- of a pair that multiplies to a nonsquare, not both are in V
-  pub not-both : m ∈ missing n fs s → (p : Mono × Mono) → mul (p .0) (p .1) ≡ m → (p .0 ∈ signals 6 n s) × (p .1 ∈ signals 6 n s) → ⊥
+  pub not-both : m ∈ missing n fs s → (p : Mono × Mono) → mul (p .0) (p .1) ≡ m → (p .0 ∈ signals width n s) × (p .1 ∈ signals width n s) → ⊥
   not-both h p e both =
-      let v = signals 6 n s in
+      let v = signals width n s in
       let w : Nonsquare plain mono-order v (derivative plain fs) m = nonsquares-out plain mono-order v (derivative plain fs) m h in
       let f : Factors plain mono-order v m = record { a = p .0; b = p .1; a-in = both .0; b-in = both .1; is = e } in
       unmet-out plain mono-order v (derivative plain fs (w .of)) m (w .missing) .1 (inV2-in plain mono-order v m f)
@@ -151,38 +155,6 @@ module _ (n : ℕ) (fs : List (Poly Mono)) (s : List Mono) (m : Mono) where
   split-longer a h p k = child-longer n s p a (not-both h p (pairs-out p m k .product))
 
 -- ---- how large exponents grow
--- 1 and the variables, divided by a variable that they hold, are 1
-one-quo : (w i : ℕ) → 0 < getD (one w) i 0 → ⊥
-one-quo w i h = let e : getD (one w) i 0 ≡ 0 = fill-at 0 w i in omega arith
-
-one-flat : (w : ℕ) → AtMost 0 (one w)
-one-flat zero = tt
-one-flat (suc w) = (omega arith, one-flat w)
-
-vars-quo : (w i : ℕ) (z : Mono) → z ∈ vars w → 0 < getD z i 0 → AtMost 0 (set z i (getD z i 0 - 1))
-unfolding vars
-vars-quo zero i z h k = absurd (List·Memᴰ·not-nil h)
-vars-quo (suc w) i z h k = ⊎-elim (λ e. first i (subst (λ (y : Mono). 0 < getD y i 0) e k) e) (later i (vars-quo w) k) (List·Memᴰ·cases-cons h)
-  where
-    first : (j : ℕ) → 0 < getD (1 ∷ one w) j 0 → z ≡ 1 ∷ one w → AtMost 0 (set z j (getD z j 0 - 1))
-    first zero g e = rw e (omega arith, one-flat w)
-    first (suc j) g e = absurd (one-quo w j g)
-
-    later : (j : ℕ) → ((i : ℕ) (y : Mono) → y ∈ vars w → 0 < getD y i 0 → AtMost 0 (set y i (getD y i 0 - 1)))
-        → 0 < getD z j 0 → z ∈ map (_∷_ 0) (vars w) → AtMost 0 (set z j (getD z j 0 - 1))
-    later j ih g l = tail j (Memᴰ·of-map (_∷_ 0) (vars w) l) g
-      where
-        tail : (j : ℕ) → (y : Mono) × (y ∈ vars w) × (0 ∷ y ≡ z) → 0 < getD z j 0 → AtMost 0 (set z j (getD z j 0 - 1))
-        tail zero q g = let b : 0 < 0 = rw (sym (q .2)) at g in let x : ⊥ = omega arith in absurd x
-        tail (suc j) q g = rw (sym (q .2)) (omega arith, ih j (q .0) (q .1) (rw (sym (q .2)) at g))
-
-constants-quo : (w i : ℕ) (z : Mono) → z ∈ constants w → 0 < getD z i 0 → AtMost 0 (set z i (getD z i 0 - 1))
-constants-quo w i z h k = ⊎-elim (λ e. absurd (one-quo w i (subst (λ (y : Mono). 0 < getD y i 0) e k))) (λ j. vars-quo w i z j k) (List·Memᴰ·cases-cons h)
-
--- a monomial with at most b per place, divided by a variable that it holds
-quo-small : (b i : ℕ) (z : Mono) → AtMost b z → AtMost b (set z i (getD z i 0 - 1))
-quo-small b i z a = let h : getD z i 0 ≤ b = atMost-at b z i a in atMost-set b z i (getD z i 0 - 1) (omega arith) a
-
 module _ (terms : List ℕ) (clean : CleanTerms terms) (n : ℕ) (s : List Mono) where
   abbrev gaps : List Mono
   gaps = missing n (system (records terms)) s
@@ -190,30 +162,30 @@ module _ (terms : List ℕ) (clean : CleanTerms terms) (n : ℕ) (s : List Mono)
   -- a nonsquare is the image of a member of V by a record
   pub record Imaged (m : Mono) : Type 0 where
     pub of : Mono
-    pub of-in : of ∈ signals 6 n s
+    pub of-in : of ∈ signals width n s
     pub from : Derived (records terms) of m
     pub right : Rightful (from .by)
 
   pub imaged : (m : Mono) → m ∈ gaps → Imaged m
   imaged m h =
-      let v = signals 6 n s in
+      let v = signals width n s in
       let d = derivative plain (system (records terms)) in
       let w : Nonsquare plain mono-order v d m = nonsquares-out plain mono-order v d m h in
       let seen = unmet-out plain mono-order v (d (w .of)) m (w .missing) .0 in
       let from : Derived (records terms) (w .of) m = derived (records terms) (w .of) m (support-out plain mono-order (d (w .of)) m seen .0) in
       record { of = w .of; of-in = w .of-in; from = from; right = clean-in terms clean (from .by) (from .listed) }
 
-  pub nonsquare-wide : ((x : Mono) → x ∈ s → length x ≡ 6) → (m : Mono) → m ∈ gaps → length m ≡ 6
+  pub nonsquare-wide : ((x : Mono) → x ∈ s → length x ≡ width) → (m : Mono) → m ∈ gaps → length m ≡ width
   nonsquare-wide wide m h =
       let i : Imaged m = imaged m h in
       let r : Record = i .from .by in
       let z : Mono = i .of in
       let lower : Mono = set z (r .equation - 1) (power r z - 1) in
-      let long : length lower ≡ 6 = length-set z (r .equation - 1) (power r z - 1) ∙ signals-wide n s wide z (i .of-in) in
+      let long : length lower ≡ width = length-set z (r .equation - 1) (power r z - 1) ∙ signals-wide n s wide z (i .of-in) in
       ap length (sym (i .from .is)) ∙ pointwise-length _+_ lower (r .monomial) (long ∙ sym (i .right .long)) ∙ long
 
   -- 9 more than the set's own bound
-  pub nonsquare-small : ((x : Mono) → x ∈ s → AtMost (9 * length s) x) → (m : Mono) → m ∈ gaps → AtMost (9 * suc (length s)) m
+  pub nonsquare-small : ((x : Mono) → x ∈ s → AtMost (termExponent * length s) x) → (m : Mono) → m ∈ gaps → AtMost (termExponent * suc (length s)) m
   nonsquare-small small m h = ⊎-elim constant member (signals-cases n s (i .of-in))
     where
       i : Imaged m
@@ -228,58 +200,58 @@ module _ (terms : List ℕ) (clean : CleanTerms terms) (n : ℕ) (s : List Mono)
       lower : Mono
       lower = set (i .of) at (power r (i .of) - 1)
 
-      grown : (b : ℕ) → AtMost b lower → AtMost (b + 9) m
-      grown b a = subst (AtMost (b + 9)) (i .from .is) (atMost-mul b 9 lower (r .monomial) a (i .right .small))
+      grown : (b : ℕ) → AtMost b lower → AtMost (b + termExponent) m
+      grown b a = subst (AtMost (b + termExponent)) (i .from .is) (atMost-mul b termExponent lower (r .monomial) a (i .right .small))
 
-      constant : i .of ∈ base n → AtMost (9 * suc (length s)) m
-      constant k = atMost-weaken m (omega arith) (grown 0 (constants-quo 6 at (i .of) (take-in (suc n) (constants 6) k) (i .from .raised)))
+      constant : i .of ∈ base n → AtMost (termExponent * suc (length s)) m
+      constant k = atMost-weaken m (omega arith) (grown 0 (constants-quo width at (i .of) (take-in (suc n) (constants width) k) (i .from .raised)))
 
-      member : i .of ∈ s → AtMost (9 * suc (length s)) m
-      member k = atMost-weaken m (omega arith) (grown (9 * length s) (quo-small (9 * length s) at (i .of) (small (i .of) k)))
+      member : i .of ∈ s → AtMost (termExponent * suc (length s)) m
+      member k = atMost-weaken m (omega arith) (grown (termExponent * length s) (quo-small (termExponent * length s) at (i .of) (small (i .of) k)))
 
   module _ (w : Walked s) where
-    -- at most 63, since a set has at most six monomials
-    pub nonsquare-fits : (m : Mono) → m ∈ gaps → (length m ≡ 6) × AtMost 63 m
+    -- since a set has no more monomials than there are cards
+    pub nonsquare-fits : (m : Mono) → m ∈ gaps → (length m ≡ width) × AtMost derivedExponent m
     nonsquare-fits m h =
-        let few : length s ≤ 6 = w .recorded .few in
+        let few : length s ≤ cards = w .recorded .few in
         (nonsquare-wide (w .recorded .wide) m h, atMost-weaken m (omega arith) (nonsquare-small (w .small) m h))
 
     module _ (m : Mono) (h : m ∈ gaps) (p : Mono × Mono) (k : p ∈ pairs m) where
-      two : Splits p m
+      two : IsPair p m
       two = pairs-out p m k
 
-      wide-m : length m ≡ 6
+      wide-m : length m ≡ width
       wide-m = nonsquare-wide (w .recorded .wide) m h
 
-      more : 9 * suc (length s) ≤ 9 * length (child n s p)
-      more = mul-le-mul-left 9 (split-longer n (system (records terms)) s m (w .recorded .ascending) h p k)
+      more : termExponent * suc (length s) ≤ termExponent * length (child n s p)
+      more = mul-le-mul-left termExponent (split-longer n (system (records terms)) s m (w .recorded .ascending) h p k)
 
-      small-m : AtMost (9 * length (child n s p)) m
+      small-m : AtMost (termExponent * length (child n s p)) m
       small-m = atMost-weaken m more (nonsquare-small (w .small) m h)
 
-      factor-small : (a b : Mono) → length a ≡ length b → mul a b ≡ m → AtMost (9 * length (child n s p)) a
-      factor-small a b l e = atMost-divides (9 * length (child n s p)) a m (subst (λ (x : Mono). T (divides a x)) e (factor-divides a b l)) small-m
+      factor-small : (a b : Mono) → length a ≡ length b → mul a b ≡ m → AtMost (termExponent * length (child n s p)) a
+      factor-small a b l e = atMost-divides (termExponent * length (child n s p)) a m (subst (λ (x : Mono). T (divides a x)) e (factor-divides a b l)) small-m
 
-      wide-of : (x : Mono) → Grown n s p x → length x ≡ 6
+      wide-of : (x : Mono) → Grown n s p x → length x ≡ width
       wide-of x (old i) = w .recorded .wide x i
       wide-of x (left e f) = ap length e ∙ two .left ∙ wide-m
       wide-of x (right e f) = ap length e ∙ two .right ∙ wide-m
 
-      proper-of : (x : Mono) → Grown n s p x → x ≡ one 6 → ⊥
+      proper-of : (x : Mono) → Grown n s p x → x ≡ one width → ⊥
       proper-of x (old i) e = w .recorded .proper x i e
       proper-of x (left d f) e = f (base-in n s (List·Memᴰ·head e))
       proper-of x (right d f) e = f (base-in n s (List·Memᴰ·head e))
 
-      small-of : (x : Mono) → Grown n s p x → AtMost (9 * length (child n s p)) x
+      small-of : (x : Mono) → Grown n s p x → AtMost (termExponent * length (child n s p)) x
       small-of x (old i) = atMost-weaken x (omega (arith, more)) (w .small x i)
       small-of x (left e f) =
-          subst (AtMost (9 * length (child n s p))) (sym e) (factor-small (p .0) (p .1) (two .left ∙ sym (two .right)) (two .product))
+          subst (AtMost (termExponent * length (child n s p))) (sym e) (factor-small (p .0) (p .1) (two .left ∙ sym (two .right)) (two .product))
       small-of x (right e f) =
-          subst (AtMost (9 * length (child n s p))) (sym e)
+          subst (AtMost (termExponent * length (child n s p))) (sym e)
           (factor-small (p .1) (p .0) (two .right ∙ sym (two .left)) (mul-comm (p .1) (p .0) ∙ two .product))
 
       -- a child with at most six monomials is again a set of the walk
-      pub child-walked : length (child n s p) ≤ 6 → Walked (child n s p)
+      pub child-walked : length (child n s p) ≤ cards → Walked (child n s p)
       child-walked few = record {
         recorded = record {
           few = few;
@@ -302,6 +274,6 @@ empty-walked = record {
   small = λ x i. absurd (List·Memᴰ·not-nil i);
 }
 
--- exponents of its sets are at most 54
-pub walked-54 : (s : List Mono) → Walked s → (m : Mono) → m ∈ s → AtMost 54 m
-walked-54 s w m h = let few : length s ≤ 6 = w .recorded .few in atMost-weaken m (omega arith) (w .small m h)
+-- exponents of its sets fit set records
+pub walked-fits : (s : List Mono) → Walked s → (m : Mono) → m ∈ s → AtMost setExponent m
+walked-fits s w m h = let few : length s ≤ cards = w .recorded .few in atMost-weaken m (omega arith) (w .small m h)

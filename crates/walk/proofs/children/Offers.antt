@@ -4,21 +4,22 @@ use mathlib.Core.Path.{_≡_, refl, sym, ap, ap₂, _∙_, subst}
 use mathlib.Core.Logic.{⊎-elim}
 use mathlib.Core.Bool.{Bool, true, false, _||_}
 use mathlib.Core.List.{List, [], _∷_, _++_, map, List·Memᴰ·cases-cons, List·Memᴰ·not-nil, Memᴰ·append-right, Memᴰ·cast}
-use Prim.Native.Nat.{ℕ, zero, suc, _+_, _-_, _<_, _≤_}
+use Prim.Native.Nat.{ℕ, suc, _+_, _-_, _<_, _≤_}
 use native.Mathlib.Omega.{arith}
 use lib.Dec.{T}
 use lib.ListN.{length, getD, take, drop, set, length-set, take-append-drop, drop-of-length-le}
 use lib.Seq.{take-length, drop-length, drop-cons, take-take, getD-take, take-set-le, drop-set-lt, getD-set-same, set-split}
 use borrow.Author.Tests.{le-leb, lt-leb}
 use Rattle.monomial.specs.Lists.{any, insertBy}
-use Rattle.monomial.specs.Monomial.{Mono}
+use Rattle.monomial.specs.Monomial.{Mono, width}
 use Rattle.monomial.specs.Order.{same, before}
 use Rattle.monomial.specs.declared.Monomial.{Monomial}
+use Rattle.monomial.specs.Claims.{_∈_, Ascending, Order}
 use Rattle.monomial.proofs.Tests.{Tested, passed, failed, test, T→is, is→T, nT→is, is→nT, or-l, or-r, or-e}
-use Rattle.monomial.proofs.Members.{_∈_, here, there}
-use Rattle.monomial.proofs.Counting.{at-in}
-use Rattle.monomial.proofs.order.Laws.{Order, not-both, not-same, same-flip, behind, mono-order}
-use Rattle.monomial.proofs.order.Ascending.{_⊆_, Ascending, head-first, tail-asc, insert-out, insert-new, insert-old, insert-asc, insert-length, sub-length, sub-equal, among-in, among-out}
+use Rattle.monomial.proofs.order.Laws.{behind, mono-order}
+use Rattle.monomial.proofs.order.Ascending.{insert-out, insert-new, insert-asc, insert-length, among-in, among-out}
+use Rattle.monomial.proofs.order.Inserting.{insert-between, insert-same, front-before}
+use Rattle.wiring.specs.Panel.{cards}
 use Rattle.wiring.specs.Signals.{signals, front}
 use Rattle.wiring.specs.Sets.{monomialsOf}
 use Rattle.wiring.specs.declared.sets.Set.{Set}
@@ -27,39 +28,6 @@ use Rattle.walk.specs.declared.children.Tried.{Tried}
 use Rattle.walk.specs.Walk.{added, child}
 use Rattle.walk.specs.Turns.{Child}
 use Rattle.walk.proofs.children.Laws.{added-asc}
-
--- ---- where an insertion puts its entry
-module _ {A : Type 0} {alike ahead : A → A → Bool} (o : Order alike ahead) where
-  -- between those before it and those behind it
-  pub insert-between : (m : A) (p q : List A) → ((x : A) → x ∈ p → T (ahead x m)) → ((y : A) → y ∈ q → T (ahead m y))
-      → insertBy alike ahead m (p ++ q) ≡ p ++ (m ∷ q)
-  unfolding insertBy
-  insert-between m [] [] h k = refl
-  insert-between m [] (y ∷ q) h k =
-      let t : T (ahead m y) = k y here in
-      rw (nT→is (alike m y) (not-same o m y t), T→is (ahead m y) t)
-  insert-between m (x ∷ p) q h k =
-      let t : T (ahead x m) = h x here in
-      let ih : insertBy alike ahead m (p ++ q) ≡ p ++ (m ∷ q) = insert-between m p q (λ z j. h z (there j)) k in
-      rw (nT→is (alike m x) (λ s. not-same o x m t (same-flip o m x s)), nT→is (ahead m x) (not-both o x m t)) (ap (_∷_ x) ih)
-
-  -- nowhere, where the entry is there already
-  pub insert-same : (m : A) (s : List A) → Ascending ahead s → m ∈ s → insertBy alike ahead m s ≡ s
-  insert-same m s a h =
-      let more : List A = insertBy alike ahead m s in
-      let up : Ascending ahead more = insert-asc o m s a in
-      let sub : more ⊆ s = λ y k. ⊎-elim (λ e. Memᴰ·cast e h) (λ j. j) (insert-out o m s k) in
-      sub-equal o more s up a sub (sub-length o s more a up (λ y k. insert-old o m s k))
-
-  -- of an ascending list, all up to an entry that stands before m stand before m
-  pub front-before : (m : A) (s : List A) (j : ℕ) (d : A) → Ascending ahead s → j < length s → T (ahead (getD s j d) m)
-      → (x : A) → x ∈ take (suc j) s → T (ahead x m)
-  front-before m [] j d a h t x k = let z : ⊥ = omega arith in absurd z
-  front-before m (y ∷ s) zero d a h t x k =
-      ⊎-elim (λ e. subst (λ z. T (ahead z m)) (sym e) t) (λ n. absurd (List·Memᴰ·not-nil n)) (List·Memᴰ·cases-cons k)
-  front-before m (y ∷ s) (suc j) d a h t x k =
-      let u : T (ahead y m) = o .trans y (getD s j d) m (head-first a (getD s j d) (at-in s j d (omega arith))) t in
-      ⊎-elim (λ e. subst (λ z. T (ahead z m)) (sym e) u) (front-before m s j d (tail-asc a) (omega arith) t x) (List·Memᴰ·cases-cons k)
 
 -- ---- a loop that moves up the entries of s from its end on, in the list u of one more place, and has come to place i: what is behind i is moved,
 -- and none of it stands before m
@@ -131,15 +99,15 @@ module _ {A : Type 0} {ahead : A → A → Bool} {m : A} {s u : List A} where
             behind o y m (w .later y k) (λ t. new (Memᴰ·cast (sym (o .same-eq y m t)) inside))
 
 -- ---- the same in an array of six monomials, of which the first len are those of u
-pub record Moving (m : Mono) (len : ℕ) (u now : List Monomial) (i : ℕ) : Type 0 where
-  pub few : len < 6
-  pub source : length u ≡ 6
-  pub long : length now ≡ 6
+pub record Inserting (m : Mono) (len : ℕ) (u now : List Monomial) (i : ℕ) : Type 0 where
+  pub few : len < cards
+  pub source : length u ≡ cards
+  pub long : length now ≡ cards
   pub within : i ≤ len
   pub shifting : Shifting before m (front len u) (front (len + 1) now) i
 
-pub moving-start : (m : Mono) (len : ℕ) (u : List Monomial) → len < 6 → length u ≡ 6 → Moving m len u u len
-moving-start m len u h l =
+pub inserting-start : (m : Mono) (len : ℕ) (u : List Monomial) → len < cards → length u ≡ cards → Inserting m len u u len
+inserting-start m len u h l =
     let s : List Mono = front len u in
     let size : length s ≡ len = front-length len u (omega arith) in
     let more : length (front (len + 1) u) ≡ len + 1 = front-length (len + 1) u (omega arith) in
@@ -153,7 +121,7 @@ moving-start m len u h l =
       shifting = subst (λ (k : ℕ). Shifting before m s (front (len + 1) u) k) size (shifting-start (omega arith) same-front);
     }
 
-module _ {m : Mono} {len : ℕ} {u now : List Monomial} {i : ℕ} (w : Moving m len u now i) where
+module _ {m : Mono} {len : ℕ} {u now : List Monomial} {i : ℕ} (w : Inserting m len u now i) where
   size : length (front len u) ≡ len
   size = front-length len u (omega (arith, w .few, w .source))
 
@@ -164,8 +132,8 @@ module _ {m : Mono} {len : ℕ} {u now : List Monomial} {i : ℕ} (w : Moving m 
   at-first : 0 < i → getD (front len u) (i - 1) [] ≡ entry now (i - 1)
   at-first h = sym (shifting-at (w .shifting) (i - 1) [] (omega arith)) ∙ at-now h
 
-  pub moving-on : (x : Monomial) → 0 < i → x .e ≡ entry now (i - 1) → before (x .e) m ≡ false → Moving m len u (set now i x) (i - 1)
-  moving-on x h e f =
+  pub inserting-on : (x : Monomial) → 0 < i → x .e ≡ entry now (i - 1) → before (x .e) m ≡ false → Inserting m len u (set now i x) (i - 1)
+  inserting-on x h e f =
       let named : getD (front (len + 1) now) (i - 1) [] ≡ x .e = at-now h ∙ sym e in
       let next : Shifting before m (front len u) (set (front (len + 1) now) i (getD (front (len + 1) now) (i - 1) [])) (i - 1) =
       shifting-on (w .shifting) (i - 1) [] (omega arith) (ap (λ (z : Mono). before z m) named ∙ f) in
@@ -187,11 +155,11 @@ module _ {m : Mono} {len : ℕ} {u now : List Monomial} {i : ℕ} (w : Moving m 
         ∙ shifting-end (w .shifting) mono-order (λ k. is→nT (any (same m) (front len u)) f (among-in mono-order k)) h
 
     -- the loop ends at the first place, or at an entry that stands before m
-    pub moving-first : i ≡ 0 → front (len + 1) (set now i x) ≡ insertBy same before m (front len u)
-    moving-first z = placed (λ y k. absurd (List·Memᴰ·not-nil (subst (λ (n : ℕ). y ∈ take n (front len u)) z k)))
+    pub inserting-first : i ≡ 0 → front (len + 1) (set now i x) ≡ insertBy same before m (front len u)
+    inserting-first z = placed (λ y k. absurd (List·Memᴰ·not-nil (subst (λ (n : ℕ). y ∈ take n (front len u)) z k)))
 
-    pub moving-behind : 0 < i → before (entry now (i - 1)) m ≡ true → front (len + 1) (set now i x) ≡ insertBy same before m (front len u)
-    moving-behind h t =
+    pub inserting-behind : 0 < i → before (entry now (i - 1)) m ≡ true → front (len + 1) (set now i x) ≡ insertBy same before m (front len u)
+    inserting-behind h t =
         let s : List Mono = front len u in
         let q : i ≡ suc (i - 1) = omega arith in
         let last : T (before (getD s (i - 1) []) m) = is→T (before (getD s (i - 1) []) m) (ap (λ (z : Mono). before z m) (at-first h) ∙ t) in
@@ -276,7 +244,7 @@ module _ (v : List Mono) (m : Mono) where
           added-fresh (added v m s) e ∙ insert-same mono-order m (added v m s) (added-asc v m s a) inside
 
 -- ---- the child by a pair, in V of n variables and the set
-module _ (n : ℕ) (v s : List Mono) (signs : v ≡ signals 6 n s) (left right : Mono) where
+module _ (n : ℕ) (v s : List Mono) (signs : v ≡ signals width n s) (left right : Mono) where
   abbrev whole : List Mono
   whole = child n s (left, right)
 

@@ -11,42 +11,44 @@ use lib.Seq.{paste}
 use Rattle.monomial.specs.Lists.{any, place, gather, insertBy}
 use Rattle.monomial.specs.Monomial.{Mono}
 use Rattle.monomial.specs.Order.{same, before, sameSet, beforeSet}
+use Rattle.monomial.specs.Claims.{_∈_}
 use Rattle.monomial.proofs.Tests.{is→nT}
 use Rattle.monomial.proofs.Strips.{strip-at}
-use Rattle.monomial.proofs.Members.{_∈_}
 use Rattle.monomial.proofs.Counting.{at-in}
 use Rattle.monomial.proofs.order.Laws.{set-order}
 use Rattle.monomial.proofs.order.Ascending.{insert-out, insert-asc, insert-length, among-in}
+use Rattle.monomial.proofs.order.Inserting.{insert-place}
+use Rattle.wiring.specs.Panel.{setBytes}
 use Rattle.wiring.specs.Sets.{setRecord}
 use Rattle.wiring.proofs.sets.Exact.{record-length}
 use Rattle.walk.specs.Walk.{Finds, kept}
 use Rattle.walk.specs.Plan.{setsBytes}
 use Rattle.walk.specs.Listing.{Recorded, Shown, KeptAs}
 use Rattle.walk.specs.declared.listing.Kept.the-variants.{Held, NoRoom}
-use Rattle.walk.proofs.listing.Laws.{gather-more, insert-place}
+use Rattle.walk.proofs.listing.Laws.{gather-more}
 use Rattle.walk.proofs.listing.Records.{record-before, record-same}
 
-recorded-length : (s : List Mono) → Recorded s → length (setRecord s) ≡ 36
+recorded-length : (s : List Mono) → Recorded s → length (setRecord s) ≡ setBytes
 recorded-length s r = record-length s (r .few) (r .wide)
 
 -- the bytes of record number i, as a part of the buffer is cut out
 abbrev pub cut : List ℕ → ℕ → List ℕ
-cut out i = take (36 * i + 36 - 36 * i) (drop (36 * i) out)
+cut out i = take (setBytes * i + setBytes - setBytes * i) (drop (setBytes * i) out)
 
-pub cut-length : (out : List ℕ) (i : ℕ) → 36 * i + 36 ≤ length out → length (cut out i) ≡ 36
-cut-length out i h = omega (arith, length-take (36 * i + 36 - 36 * i) (drop (36 * i) out), length-drop (36 * i) out)
+pub cut-length : (out : List ℕ) (i : ℕ) → setBytes * i + setBytes ≤ length out → length (cut out i) ≡ setBytes
+cut-length out i h = omega (arith, length-take (setBytes * i + setBytes - setBytes * i) (drop (setBytes * i) out), length-drop (setBytes * i) out)
 
 module _ {finds : Finds} {count : ℕ} {out : List ℕ} (s : Shown finds count out) where
-  even : (f : List Mono) → f ∈ finds → length (setRecord f) ≡ 36
+  even : (f : List Mono) → f ∈ finds → length (setRecord f) ≡ setBytes
   even f m = recorded-length f (s .recorded f m)
 
   -- ---- the record at place i, against the bytes of a set's own record
   shown-at : (i : ℕ) → i < count → cut out i ≡ setRecord (getD finds i [])
   unfolding setsBytes
   shown-at i h =
-      let e : 36 * i + 36 - 36 * i ≡ 36 = omega arith in
-      ap₂ (λ (n : ℕ) (l : List ℕ). take n (drop (36 * i) l)) e (s .bytes)
-      ∙ strip-at setRecord 36 finds even (replicate (length out - 36 * count) 0) i [] (omega (arith, s .counted))
+      let e : setBytes * i + setBytes - setBytes * i ≡ setBytes = omega arith in
+      ap₂ (λ (n : ℕ) (l : List ℕ). take n (drop (setBytes * i) l)) e (s .bytes)
+      ∙ strip-at setRecord setBytes finds even (replicate (length out - setBytes * count) 0) i [] (omega (arith, s .counted))
 
   module _ (x : List Mono) (r : Recorded x) (b : List ℕ) (own : b ≡ setRecord x) (i : ℕ) (h : i < count) where
     found : Recorded (getD finds i [])
@@ -59,7 +61,7 @@ module _ {finds : Finds} {count : ℕ} {out : List ℕ} (s : Shown finds count o
     shown-before = ap₂ before (shown-at i h) own ∙ record-before (getD finds i []) x found r
 
   -- ---- one find more, in its place
-  module _ (x : List Mono) (r : Recorded x) (new : any (sameSet x) finds ≡ false) (free : 36 * count + 36 ≤ length out) where
+  module _ (x : List Mono) (r : Recorded x) (new : any (sameSet x) finds ≡ false) (free : setBytes * count + setBytes ≤ length out) where
     abbrev listed : Finds
     listed = insertBy sameSet beforeSet x finds
 
@@ -67,13 +69,13 @@ module _ {finds : Finds} {count : ℕ} {out : List ℕ} (s : Shown finds count o
     longer = insert-length set-order x finds (λ m. is→nT (any (sameSet x) finds) new (among-in set-order m)) ∙ omega (arith, s .counted)
 
     -- the bytes behind the finds are free for it
-    parts : (rest : ℕ) → length out - 36 * count ≡ 36 + rest → out ≡ gather setRecord finds ++ (replicate 36 0 ++ replicate rest 0)
+    parts : (rest : ℕ) → length out - setBytes * count ≡ setBytes + rest → out ≡ gather setRecord finds ++ (replicate setBytes 0 ++ replicate rest 0)
     unfolding setsBytes
     parts rest e =
-        s .bytes ∙ ap (λ (n : ℕ). gather setRecord finds ++ replicate n 0) e ∙ ap (λ (z : List ℕ). gather setRecord finds ++ z) (sym (replicate-append-replicate 36 rest 0))
+        s .bytes ∙ ap (λ (n : ℕ). gather setRecord finds ++ replicate n 0) e ∙ ap (λ (z : List ℕ). gather setRecord finds ++ z) (sym (replicate-append-replicate setBytes rest 0))
 
     pub shown-more : (p : ℕ) (b moved out' : List ℕ) → p ≤ count → p ≡ place (λ f. not (beforeSet f x)) finds → b ≡ setRecord x
-        → moved ≡ paste out (36 * p + 36) (drop (36 * p) out) (36 * count - 36 * p) → out' ≡ paste moved (36 * p) b 36 → length out' ≡ length out
+        → moved ≡ paste out (setBytes * p + setBytes) (drop (setBytes * p) out) (setBytes * count - setBytes * p) → out' ≡ paste moved (setBytes * p) b setBytes → length out' ≡ length out
         → Shown listed (count + 1) out'
     unfolding setsBytes
     shown-more p b moved out' within is own up written long = record {
@@ -85,23 +87,23 @@ module _ {finds : Finds} {count : ℕ} {out : List ℕ} (s : Shown finds count o
     }
       where
         rest : ℕ
-        rest = length out' - 36 * (count + 1)
+        rest = length out' - setBytes * (count + 1)
 
         buffer : List ℕ
-        buffer = gather setRecord finds ++ (replicate 36 0 ++ replicate rest 0)
+        buffer = gather setRecord finds ++ (replicate setBytes 0 ++ replicate rest 0)
 
         put : List ℕ → ℕ → List ℕ
-        put l n = paste (paste l (36 * p + 36) (drop (36 * p) l) (36 * n - 36 * p)) (36 * p) (setRecord x) 36
+        put l n = paste (paste l (setBytes * p + setBytes) (drop (setBytes * p) l) (setBytes * n - setBytes * p)) (setBytes * p) (setRecord x) setBytes
 
         placed : listed ≡ take p finds ++ x ∷ drop p finds
         placed =
             insert-place set-order x finds (is→nT (any (sameSet x) finds) new) ∙ ap (λ (n : ℕ). take n finds ++ x ∷ drop n finds) (sym is)
 
-        bytes : out' ≡ setsBytes listed ++ replicate (length out' - 36 * (count + 1)) 0
+        bytes : out' ≡ setsBytes listed ++ replicate (length out' - setBytes * (count + 1)) 0
         bytes =
-            written ∙ ap₂ (λ (l r : List ℕ). paste l (36 * p) r 36) up own
+            written ∙ ap₂ (λ (l r : List ℕ). paste l (setBytes * p) r setBytes) up own
             ∙ ap (λ (l : List ℕ). put l count) (parts rest (omega arith)) ∙ ap (λ (n : ℕ). put buffer n) (s .counted)
-            ∙ gather-more setRecord 36 finds even x (replicate 36 0) (replicate rest 0) p (omega (arith, s .counted)) refl (recorded-length x r)
+            ∙ gather-more setRecord setBytes finds even x (replicate setBytes 0) (replicate rest 0) p (omega (arith, s .counted)) refl (recorded-length x r)
             ∙ ap (λ (l : Finds). gather setRecord l ++ replicate rest 0) (sym placed)
 
   -- ---- keeping a set

@@ -1,20 +1,17 @@
 -- Records of one width in a buffer: those from a place on moved up, and one more put in their place; and the place of a new entry in a list.
 -- Assumes nothing.
-use mathlib.Core.Path.{_≡_, refl, sym, ap, ap₂, subst, _∙_}
-use mathlib.Core.Bool.{Bool, false, not}
+use mathlib.Core.Path.{_≡_, sym, ap, ap₂, subst, _∙_}
 use mathlib.Core.List.{List, [], _∷_, _++_, append-assoc}
 use Prim.Native.Nat.{ℕ, suc, _+_, _*_, _-_, _<_, _≤_}
 use native.Mathlib.Omega.{arith}
 use native.Mathlib.Numerals.{add-one}
-use lib.Dec.{T}
 use lib.ListN.{length, getD, take, drop, set, length-append, length-drop, List·getD-append}
 use lib.Seq.{paste, paste-zero, getD-take, drop-cons, take-take, take-append-le, take-append-seam, take-all, drop-at, drop-append-add, drop-append-seam, length-take-le, length-paste}
-use Rattle.monomial.specs.Lists.{any, place, gather, insertBy}
-use Rattle.monomial.proofs.Tests.{or-l, or-r, T→is, nT→is}
+use Rattle.monomial.specs.Lists.{gather}
+use Rattle.monomial.specs.Claims.{_∈_}
 use Rattle.monomial.proofs.Loops.{set-front}
-use Rattle.monomial.proofs.Members.{_∈_, gather-append}
+use Rattle.monomial.proofs.Members.{gather-append}
 use Rattle.monomial.proofs.Strips.{strip-length, strip-split, strip-front}
-use Rattle.monomial.proofs.order.Laws.{Order, Compared, less, equal, more, not-both, not-same, same-flip}
 
 -- ---- a buffer in parts
 -- b moves up by one record y, and r takes its place: what stands there is a, r, b and what stood behind y
@@ -137,18 +134,3 @@ module _ {A : Type 0} (f : A → List ℕ) where
         ap (λ (u : List ℕ). paste (paste u (w * p + w) (drop (w * p) u) (w * length l - w * p)) (w * p) (f x) w) parts
         ∙ ap₂ (λ (m n : ℕ). let u = a ++ (b ++ (y ++ z)) in paste (paste u (m + w) (drop m u) n) m (f x) w) low high
         ∙ placed w a b y z (f x) gone new ∙ sym whole
-
--- ---- the place of an entry that is not yet there
-module _ {A : Type 0} {same before : A → A → Bool} (o : Order same before) (s : A) where
-  pub insert-place : (l : List A) → (T (any (same s) l) → ⊥) → let p = place (λ x. not (before x s)) l in insertBy same before s l ≡ take p l ++ s ∷ drop p l
-  unfolding insertBy place any
-  insert-place [] n = refl
-  insert-place (x ∷ l) n = go (o .total s x) (insert-place l (λ t. n (or-r (same s x) (any (same s) l) t)))
-    where
-      go : Compared same before s x → (let p = place (λ y. not (before y s)) l in insertBy same before s l ≡ take p l ++ s ∷ drop p l)
-          → (let p = place (λ y. not (before y s)) (x ∷ l) in insertBy same before s (x ∷ l) ≡ take p (x ∷ l) ++ s ∷ drop p (x ∷ l))
-      go (less t) ih = rw (nT→is (same s x) (not-same o s x t), T→is (before s x) t, nT→is (before x s) (not-both o s x t))
-      go (equal t) ih = absurd (n (or-l (same s x) (any (same s) l) t))
-      go (more t) ih =
-          let off : same s x ≡ false = nT→is (same s x) (λ e. not-same o x s t (same-flip o s x e)) in
-          rw (off, nT→is (before s x) (not-both o x s t), T→is (before x s) t) (ap (_∷_ x) ih)

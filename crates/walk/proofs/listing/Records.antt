@@ -1,25 +1,27 @@
 -- Set records: one is made monomial by monomial, and the order of their bytes is the order of their sets. Assumes nothing.
 use mathlib.Core.Path.{_≡_, refl, sym, ap, ap₂, subst, _∙_}
 use mathlib.Core.Logic.{_⊎_, ⊎-elim}
-use mathlib.Core.Bool.{Bool}
 use mathlib.Core.List.{List, [], _∷_, _++_, map, append-nil, append-assoc}
 use Prim.Native.Nat.{ℕ, zero, suc, _+_, _*_, _-_, _<_, _≤_}
 use native.Mathlib.Omega.{arith}
 use native.Mathlib.Numerals.{add-one}
-use lib.Dec.{T, lt→ltb}
+use lib.Dec.{T}
 use lib.ListN.{length, getD, take, length-take, length-map, replicate, length-append, replicate-append-replicate}
 use lib.Seq.{paste, length-paste, getD-take, take-suc, take-all, length-take-le}
-use Rattle.monomial.specs.Lists.{gather, dictionary}
-use Rattle.monomial.specs.Monomial.{Mono, one}
+use Rattle.monomial.specs.Lists.{gather}
+use Rattle.monomial.specs.Monomial.{Mono, one, width}
 use Rattle.monomial.specs.Order.{same, before, sameSet, beforeSet}
 use Rattle.monomial.specs.declared.Monomial.{Monomial}
+use Rattle.monomial.specs.Claims.{_∈_, Compared, less, equal, more}
 use Rattle.monomial.proofs.Tests.{same-test}
-use Rattle.monomial.proofs.Members.{_∈_, here, there, take-in, gather-append}
+use Rattle.monomial.proofs.Members.{here, there, take-in, gather-append}
 use Rattle.monomial.proofs.Counting.{at-in}
-use Rattle.monomial.proofs.order.Laws.{Order, Compared, less, equal, more, not-both, Ahead, smaller, tied, ahead, ahead-is, ℕ-order, mono-order, set-order}
+use Rattle.monomial.proofs.order.Laws.{not-both, Ahead, smaller, tied, ahead, ℕ-order, mono-order, set-order, before-append, append-before, one-before, not-before-empty}
+use Rattle.wiring.specs.Panel.{cards, setBytes}
 use Rattle.wiring.specs.Signals.{front, flat}
 use Rattle.wiring.specs.Sets.{setRecord, setOf}
-use Rattle.wiring.proofs.signals.Laws.{Wide, entry, front-at}
+use Rattle.wiring.specs.Claims.{Wide}
+use Rattle.wiring.proofs.signals.Laws.{entry, front-at}
 use Rattle.wiring.proofs.sets.Exact.{record-is, record-holds}
 use Rattle.walk.specs.Listing.{Recorded}
 use Rattle.walk.proofs.listing.Laws.{gather-last}
@@ -29,112 +31,86 @@ zeros n = replicate n 0
 
 -- ---- a loop that makes the record of s, and has written the first i monomials
 pub record Making (s : List Mono) (b : List ℕ) (i : ℕ) : Type 0 where
-  pub within : i ≤ 6
-  pub long : length b ≡ 36
+  pub within : i ≤ cards
+  pub long : length b ≡ setBytes
   pub made : b ≡ setRecord (take i s)
 
-pub making-start : (s : List Mono) → Making s (zeros 36) 0
+pub making-start : (s : List Mono) → Making s (zeros setBytes) 0
 unfolding gather
 making-start s = record { within = omega arith; long = refl; made = sym (record-is []) }
 
 -- the next monomial is written behind them
-made-more : (s : List Mono) (i : ℕ) → Wide s → length s ≤ 6 → i < length s → paste (setRecord (take i s)) (6 * i) (getD s i []) 6 ≡ setRecord (take (i + 1) s)
+made-more : (s : List Mono) (i : ℕ) → Wide s → length s ≤ cards → i < length s → paste (setRecord (take i s)) (width * i) (getD s i []) width ≡ setRecord (take (i + 1) s)
 unfolding gather
 made-more s i wide few h =
     let t = take i s in
     let m = getD s i [] in
-    let rest = 36 - 6 * (i + 1) in
+    let rest = setBytes - width * (i + 1) in
     let long : length t ≡ i = length-take-le i s (omega arith) in
     let next : take (i + 1) s ≡ t ++ (m ∷ []) = rw (add-one i) (take-suc s i [] h) in
-    let at : 6 * i ≡ 6 * length t = omega arith in
-    let spare : 36 - 6 * length t ≡ 6 + rest = omega arith in
-    let free : zeros (36 - 6 * length t) ≡ zeros 6 ++ zeros rest = ap zeros spare ∙ sym (replicate-append-replicate 6 rest 0) in
-    let left : 36 - 6 * length (t ++ (m ∷ [])) ≡ rest = omega (arith, length-append t (m ∷ [])) in
+    let at : width * i ≡ width * length t = omega arith in
+    let spare : setBytes - width * length t ≡ width + rest = omega arith in
+    let free : zeros (setBytes - width * length t) ≡ zeros width ++ zeros rest = ap zeros spare ∙ sym (replicate-append-replicate width rest 0) in
+    let left : setBytes - width * length (t ++ (m ∷ [])) ≡ rest = omega (arith, length-append t (m ∷ [])) in
     let all : flat (t ++ (m ∷ [])) ≡ flat t ++ m = gather-append (λ (x : Mono). x) t (m ∷ []) ∙ ap (λ (l : List ℕ). flat t ++ l) (append-nil m) in
-    let written = gather-last (λ (x : Mono). x) 6 t (λ x k. wide x (take-in i s k)) m (zeros 6) (zeros rest) refl (wide m (at-in s i [] h)) in
+    let written = gather-last (λ (x : Mono). x) width t (λ x k. wide x (take-in i s k)) m (zeros width) (zeros rest) refl (wide m (at-in s i [] h)) in
     rw (record-is t, record-is (take (i + 1) s), free, at, next, left, all) (written ∙ sym (append-assoc (flat t) m (zeros rest)))
 
 module _ {s : List Mono} {b : List ℕ} {i : ℕ} (k : Making s b i) where
-  pub making-next : (m : Mono) → Recorded s → i < length s → m ≡ getD s i [] → Making s (paste b (6 * i) m 6) (i + 1)
+  pub making-next : (m : Mono) → Recorded s → i < length s → m ≡ getD s i [] → Making s (paste b (width * i) m width) (i + 1)
   making-next m r h e =
-      let six : length m ≡ 6 = ap length e ∙ r .wide (getD s i []) (at-in s i [] h) in
+      let six : length m ≡ width = ap length e ∙ r .wide (getD s i []) (at-in s i [] h) in
       record {
         within = omega (arith, r .few);
-        long = length-paste b (6 * i) m 6 (omega (arith, k .long, r .few)) (omega arith) ∙ k .long;
-        made = ap₂ (λ (u : List ℕ) (x : Mono). paste u (6 * i) x 6) (k .made) e ∙ made-more s i (r .wide) (r .few) h;
+        long = length-paste b (width * i) m width (omega (arith, k .long, r .few)) (omega arith) ∙ k .long;
+        made = ap₂ (λ (u : List ℕ) (x : Mono). paste u (width * i) x width) (k .made) e ∙ made-more s i (r .wide) (r .few) h;
       }
 
   pub making-end : length s ≤ i → b ≡ setRecord s
   making-end h = k .made ∙ ap (λ (t : List Mono). setRecord t) (take-all i s h)
 
--- a place of a set held by value is used below both its size and six
-module _ (len : ℕ) (m : List Monomial) (i : ℕ) (six : length m ≡ 6) where
-  pub used-at : i < len → i < 6 → entry m i ≡ getD (front len m) i []
+-- a place of a set held by value is used below both its size and the cards
+module _ (len : ℕ) (m : List Monomial) (i : ℕ) (full : length m ≡ cards) where
+  pub used-at : i < len → i < cards → entry m i ≡ getD (front len m) i []
   used-at h l =
       let all = map (λ (x : Monomial). x .e) m in
-      sym (getD-take len all i [] h ∙ sym (getD-take 6 all i [] l) ∙ front-at 6 m i [] l (omega arith))
+      sym (getD-take len all i [] h ∙ sym (getD-take cards all i [] l) ∙ front-at cards m i [] l (omega arith))
 
-  pub used-below : i < len → i < 6 → i < length (front len m)
+  pub used-below : i < len → i < cards → i < length (front len m)
   used-below h l = omega (arith, length-take len (map (λ (x : Monomial). x .e) m), length-map m (λ (x : Monomial). x .e))
 
-  pub used-all : (len ≤ i) ⊎ (6 ≤ i) → length (front len m) ≤ i
+  pub used-all : (len ≤ i) ⊎ (cards ≤ i) → length (front len m) ≤ i
   used-all h =
       let few = length-take len (map (λ (x : Monomial). x .e) m) in
       let all = length-map m (λ (x : Monomial). x .e) in
       ⊎-elim (λ k. omega arith) (λ k. omega arith) h
 
--- ---- the order of lists that go on
-module _ {A : Type 0} {same before : A → A → Bool} (o : Order same before) where
-  before-append : (a b u v : List A) → length a ≡ length b → T (dictionary same before a b) → T (dictionary same before (a ++ u) (b ++ v))
-  unfolding dictionary
-  before-append [] [] u v e t = absurd t
-  before-append [] (y ∷ b) u v e t = let z : ⊥ = omega arith in absurd z
-  before-append (x ∷ a) [] u v e t = absurd t
-  before-append (x ∷ a) (y ∷ b) u v e t = go (ahead o x y a b t) (before-append a b u v (omega arith))
-    where
-      go : Ahead o x y a b → (T (dictionary same before a b) → T (dictionary same before (a ++ u) (b ++ v))) → T (dictionary same before (x ∷ (a ++ u)) (y ∷ (b ++ v)))
-      go (smaller h) ih = ahead-is o x y (a ++ u) (b ++ v) (smaller h)
-      go (tied d s) ih = ahead-is o x y (a ++ u) (b ++ v) (tied d (ih s))
-
-  append-before : (a u v : List A) → T (dictionary same before u v) → T (dictionary same before (a ++ u) (a ++ v))
-  append-before [] u v t = t
-  append-before (x ∷ a) u v t = ahead-is o x x (a ++ u) (a ++ v) (tied (o .same-refl x) (append-before a u v t))
-
--- 1 stands before every other monomial
-one-before : (w : ℕ) (m : Mono) → length m ≡ w → (m ≡ one w → ⊥) → T (before (one w) m)
-one-before zero [] e n = absurd (n refl)
-one-before zero (x ∷ m) e n = let z : ⊥ = omega arith in absurd z
-one-before (suc w) [] e n = let z : ⊥ = omega arith in absurd z
-one-before (suc w) (zero ∷ m) e n =
-    ahead-is ℕ-order 0 0 (one w) m (tied tt (one-before w m (omega arith) (λ d. n (ap (λ (l : Mono). 0 ∷ l) d))))
-one-before (suc w) (suc x ∷ m) e n = ahead-is ℕ-order 0 (suc x) (one w) m (smaller (lt→ltb 0 (suc x) (omega arith)))
-
 -- ---- a record, place by place: the monomials of the set, then 1 in the unused places
 padded : ℕ → List Mono → List ℕ
 padded zero s = []
-padded (suc n) [] = one 6 ++ padded n []
+padded (suc n) [] = one width ++ padded n []
 padded (suc n) (m ∷ s) = m ++ padded n s
 
-padded-is : (n : ℕ) (s : List Mono) → length s ≤ n → flat s ++ zeros (6 * n - 6 * length s) ≡ padded n s
+padded-is : (n : ℕ) (s : List Mono) → length s ≤ n → flat s ++ zeros (width * n - width * length s) ≡ padded n s
 unfolding padded gather
 padded-is zero [] h = refl
 padded-is zero (m ∷ s) h = let z : ⊥ = omega arith in absurd z
 padded-is (suc n) [] h =
-    let e : 6 * suc n - 6 * 0 ≡ 6 + (6 * n - 6 * 0) = omega arith in
-    let first : zeros (6 + (6 * n - 6 * 0)) ≡ one 6 ++ zeros (6 * n - 6 * 0) = sym (replicate-append-replicate 6 (6 * n - 6 * 0) 0) in
-    rw (e, first) (ap (λ (l : List ℕ). one 6 ++ l) (padded-is n [] (omega arith)))
+    let e : width * suc n - width * 0 ≡ width + (width * n - width * 0) = omega arith in
+    let first : zeros (width + (width * n - width * 0)) ≡ one width ++ zeros (width * n - width * 0) = sym (replicate-append-replicate width (width * n - width * 0) 0) in
+    rw (e, first) (ap (λ (l : List ℕ). one width ++ l) (padded-is n [] (omega arith)))
 padded-is (suc n) (m ∷ s) h =
-    let e : 6 * suc n - 6 * suc (length s) ≡ 6 * n - 6 * length s = omega arith in
-    rw e (append-assoc m (flat s) (zeros (6 * n - 6 * length s)) ∙ ap (λ (l : List ℕ). m ++ l) (padded-is n s (omega arith)))
+    let e : width * suc n - width * suc (length s) ≡ width * n - width * length s = omega arith in
+    rw e (append-assoc m (flat s) (zeros (width * n - width * length s)) ∙ ap (λ (l : List ℕ). m ++ l) (padded-is n s (omega arith)))
 
-padded-before : (n : ℕ) (x y : List Mono) → length y ≤ n → Wide x → Wide y → ((m : Mono) → m ∈ y → m ≡ one 6 → ⊥) → T (beforeSet x y) → T (before (padded n x) (padded n y))
-unfolding padded dictionary
-padded-before n [] [] h wx wy proper t = absurd t
-padded-before n (a ∷ x) [] h wx wy proper t = absurd t
+padded-before : (n : ℕ) (x y : List Mono) → length y ≤ n → Wide x → Wide y → ((m : Mono) → m ∈ y → m ≡ one width → ⊥) → T (beforeSet x y) → T (before (padded n x) (padded n y))
+unfolding padded
+padded-before n [] [] h wx wy proper t = absurd (not-before-empty mono-order [] t)
+padded-before n (a ∷ x) [] h wx wy proper t = absurd (not-before-empty mono-order (a ∷ x) t)
 padded-before zero [] (b ∷ y) h wx wy proper t = let z : ⊥ = omega arith in absurd z
 padded-before zero (a ∷ x) (b ∷ y) h wx wy proper t = let z : ⊥ = omega arith in absurd z
 padded-before (suc n) [] (b ∷ y) h wx wy proper t =
-    before-append ℕ-order (one 6) b (padded n []) (padded n y) (sym (wy b here)) (one-before 6 b (wy b here) (proper b here))
+    before-append ℕ-order (one width) b (padded n []) (padded n y) (sym (wy b here)) (one-before width b (wy b here) (proper b here))
 padded-before (suc n) (a ∷ x) (b ∷ y) h wx wy proper t =
     go (ahead mono-order a b x y t) (padded-before n x y (omega arith) (λ m k. wx m (there k)) (λ m k. wy m (there k)) (λ m k. proper m (there k)))
   where
@@ -145,7 +121,7 @@ padded-before (suc n) (a ∷ x) (b ∷ y) h wx wy proper t =
 -- ---- two records
 rises : (x y : List Mono) → Recorded x → Recorded y → T (beforeSet x y) → T (before (setRecord x) (setRecord y))
 rises x y p q t =
-    rw (record-is x, record-is y, padded-is 6 x (p .few), padded-is 6 y (q .few)) (padded-before 6 x y (q .few) (p .wide) (q .wide) (q .proper) t)
+    rw (record-is x, record-is y, padded-is cards x (p .few), padded-is cards y (q .few)) (padded-before cards x y (q .few) (p .wide) (q .wide) (q .proper) t)
 
 pub record-before : (x y : List Mono) → Recorded x → Recorded y → before (setRecord x) (setRecord y) ≡ beforeSet x y
 record-before x y p q = same-test (before (setRecord x) (setRecord y)) (beforeSet x y) (λ t. go t (set-order .total x y)) (rises x y p q)

@@ -2,7 +2,7 @@
 -- in plain equations and inequalities, in the order of document 01, then the four endings of the walk. Assumes nothing.
 use mathlib.Core.Path.{_≡_, refl, sym, ap, _∙_, subst}
 use mathlib.Core.Logic.{_↔_}
-use mathlib.Core.Bool.{true, false, cond}
+use mathlib.Core.Bool.{true, false}
 use mathlib.Core.List.{List, [], _∷_, _++_, append-assoc}
 use Prim.Native.Nat.{ℕ, zero, suc, _+_, _*_, _-_, _/_, _≤_, _<_}
 use native.Mathlib.Omega.{arith}
@@ -10,12 +10,13 @@ use borrow.Author.Tests.{le-leb, ne-eqb, eqb-true, eqb-false}
 use lib.Dec.{T, eqb, leb→le}
 use lib.ListN.{length, getD, take, drop, replicate, length-append, length-replicate}
 use lib.Seq.{take-at, drop-append-add, getD-append-add}
-use Rattle.monomial.specs.Lists.{gather, arrangeBy}
-use Rattle.monomial.specs.Monomial.{Mono}
-use Rattle.monomial.specs.Order.{same, before}
+use Rattle.monomial.specs.Lists.{gather}
+use Rattle.monomial.specs.Monomial.{Mono, width}
+use Rattle.monomial.specs.Order.{same}
+use Rattle.monomial.specs.Claims.{_∈_, empty}
 use Rattle.monomial.proofs.Tests.{Tested, passed, failed, test, T→is, nT→is, is→T, is→nT, and-l, and-r}
-use Rattle.monomial.proofs.Members.{_∈_, here, there, fill-at}
-use Rattle.monomial.proofs.order.Ascending.{empty}
+use Rattle.monomial.proofs.Members.{here, there, fill-at}
+use Rattle.wiring.specs.Panel.{cards, setBytes, wiresBytes, mostSteps}
 use Rattle.wiring.specs.Poly.{Poly, plain}
 use Rattle.wiring.specs.Quadratic.{Quadratic}
 use Rattle.wiring.specs.Signals.{signals}
@@ -27,75 +28,43 @@ use Rattle.wiring.specs.declared.reply.Reply.{Reply}
 use Rattle.wiring.specs.declared.reply.Reply.the-variants.{Done, Setting, Length, Term, Twice, Nothing, Full, Spent, BadSet, NotQuadratic}
 use Rattle.wiring.specs.declared.terms.Fault.{Fault}
 use Rattle.wiring.specs.declared.terms.Fault.the-variants.{Clean, Wrong, Repeated}
+use Rattle.wiring.specs.Claims.{Measured, Breaks, Repeats, beyond, WellFormed, signalsIn, derivativeIn, Recordable, listIn}
 use Rattle.wiring.proofs.reply.Laws.{same-reply, code-done}
-use Rattle.wiring.proofs.terms.Exact.{Measured, length-exact, Breaks, Repeats, Flawless, wrong-exact, repeated-exact, clean-exact}
-use Rattle.wiring.proofs.sets.Exact.{Recordable, record-length, record-set, record-right, right-iff}
-use Rattle.wiring.proofs.answers.Exact.{Ranged, count-in, count-out, beyond, WellFormed, signalsIn, derivativeIn, check-exact}
-use Rattle.wiring.proofs.answers.Wired.{listIn, wire-enough}
-use Rattle.walk.specs.Walk.{Finds, bare, level}
+use Rattle.wiring.proofs.terms.Exact.{length-exact, wrong-exact, repeated-exact, clean-exact}
+use Rattle.wiring.proofs.sets.Exact.{record-length, record-set, record-right, right-iff}
+use Rattle.wiring.proofs.answers.Exact.{count-in, count-out, check-exact}
+use Rattle.wiring.proofs.answers.Wired.{wire-enough}
+use Rattle.walk.specs.Walk.{Finds, bare}
 use Rattle.walk.specs.Plan.{Ending, done, none, fullAt, spentAt, plan, setsBytes, said, settingsRight, planned}
-use Rattle.walk.proofs.Runs.{distinct}
-use Rattle.walk.proofs.Stops.{Barren, Ends, Lacks, Fills, Spends, Fate, fate, fate-exact, done-exact}
-use Rattle.walk.proofs.Rules.{Wide, bare-orderly, bare-sparing, bare-extends}
+use Rattle.walk.specs.Claims.{Barren, Ends, Lacks, Fills, Spends, Fate, Listed, InRange, Accepted, setsAt, PlanSays, planLeaves, NoneBelow, Planned, Finished}
+use Rattle.walk.proofs.Stops.{fate, fate-exact, done-exact}
+use Rattle.walk.proofs.Rules.{bare-orderly, bare-sparing, bare-extends}
 use Rattle.walk.proofs.children.Laws.{empty-walked}
 use Rattle.walk.proofs.Sound.{empty-proper}
-use Rattle.walk.proofs.Smallest.{QuadraticList, Listed, none-smaller, Done as Finished, plan-done}
+use Rattle.walk.proofs.Smallest.{none-smaller, plan-done}
 
 -- ---- the settings
-pub record InRange (n cap limit : ℕ) : Type 0 where
-  pub ranged : Ranged n
-  pub capped : cap ≤ 6
-  pub low : 1 ≤ limit
-  pub high : limit ≤ 1000000000
-
 range-out : (n cap limit : ℕ) → T (settingsRight n cap limit) → InRange n cap limit
 unfolding settingsRight
 range-out n cap limit t = record {
   ranged = count-out n (search (and-l, and-r, t));
-  capped = leb→le cap 6 (search (and-l, and-r, t));
+  capped = leb→le cap cards (search (and-l, and-r, t));
   low = leb→le 1 limit (search (and-l, and-r, t));
-  high = leb→le limit 1000000000 (search (and-l, and-r, t));
+  high = leb→le limit mostSteps (search (and-l, and-r, t));
 }
 
 range-in : (n cap limit : ℕ) → InRange n cap limit → settingsRight n cap limit ≡ true
 unfolding settingsRight
 range-in n cap limit r =
-    rw (count-in n (r .ranged), le-leb cap 6 (r .capped), le-leb 1 limit (r .low), le-leb limit 1000000000 (r .high))
+    rw (count-in n (r .ranged), le-leb cap cards (r .capped), le-leb 1 limit (r .low), le-leb limit mostSteps (r .high))
 
 module _ (n cap limit : ℕ) (terms : List ℕ) (size : ℕ) where
   abbrev fs : List (Poly Mono)
   fs = system (records terms)
 
-  -- the settings, the length and the records are in order
-  pub record Accepted : Type 0 where
-    pub range : InRange n cap limit
-    pub measured : Measured terms
-    pub flawless : Flawless n (records terms) beyond
-
-  -- the sets found at a level, ascending, each once
-  abbrev pub setsAt : ℕ → Finds
-  setsAt order = distinct (level bare n (system (records terms)) order)
-
-  -- ---- what each reply of planning says
-  abbrev pub PlanSays : Reply → Type 0
-  PlanSays Setting = InRange n cap limit → ⊥
-  PlanSays Length = InRange n cap limit × (Measured terms → ⊥)
-  PlanSays (Term p) = InRange n cap limit × Measured terms × Breaks n (records terms) beyond p
-  PlanSays (Twice p) = InRange n cap limit × Measured terms × Repeats n (records terms) beyond p
-  PlanSays (Done o c k) = Accepted × (c ≡ length (setsAt o)) × Ends bare n fs limit (size / 36) cap o k (setsAt o)
-  PlanSays (Nothing o k) = Accepted × Lacks bare n fs limit (size / 36) cap o k
-  PlanSays (Full o k) = Accepted × Fills bare n fs limit (size / 36) cap o k
-  PlanSays (Spent o k) = Accepted × Spends bare n fs limit (size / 36) cap o k
-  PlanSays BadSet = ⊥
-  PlanSays (NotQuadratic o p) = ⊥
-
-  -- and the buffer: the sets and then zeros; or only zeros
-  abbrev pub leaves : Reply → List ℕ
-  leaves r = cond (eqb (numbers r .code) 0) (setsBytes (setsAt (numbers r .order)) ++ replicate (size - 36 * numbers r .count) 0) (replicate size 0)
-
   -- ---- what holds is said
   abbrev rest : Outcome
-  rest = said (plan bare n fs limit (size / 36) cap) size
+  rest = said (plan bare n fs limit (size / setBytes) cap) size
 
   with-setting : settingsRight n cap limit ≡ false → planned n cap limit terms size ≡ refused Setting size
   unfolding planned
@@ -110,20 +79,20 @@ module _ (n cap limit : ℕ) (terms : List ℕ) (size : ℕ) where
     unfolding planned
     with-fault m f e = rw (range-in n cap limit r, length-exact terms .1 m, e)
 
-  with-ending : Accepted → (e : Ending) → Fate bare n fs limit (size / 36) cap e → planned n cap limit terms size ≡ said e size
+  with-ending : Accepted n cap limit terms → (e : Ending) → Fate bare n fs limit (size / setBytes) cap e → planned n cap limit terms size ≡ said e size
   with-ending a e f =
       with-fault (a .range) (a .measured) Clean (clean-exact n (records terms) beyond .1 (a .flawless))
-      ∙ ap (λ (x : Ending). said x size) (fate-exact bare n fs limit (size / 36) cap e .1 f)
+      ∙ ap (λ (x : Ending). said x size) (fate-exact bare n fs limit (size / setBytes) cap e .1 f)
 
-  planned-is : (r : Reply) → PlanSays r → planned n cap limit terms size ≡ outcome r (leaves r)
+  planned-is : (r : Reply) → PlanSays n cap limit terms size r → planned n cap limit terms size ≡ outcome r (planLeaves n terms size r)
   unfolding said
   planned-is Setting h = with-setting (nT→is (settingsRight n cap limit) (λ t. h (range-out n cap limit t)))
   planned-is Length h = with-length (h .0) (nT→is (lengthRight terms) (λ t. h .1 (length-exact terms .0 (T→is (lengthRight terms) t))))
   planned-is (Term p) h = with-fault (h .0) (h .1) (Wrong p) (wrong-exact n (records terms) beyond p .1 (h .2))
   planned-is (Twice p) h = with-fault (h .0) (h .1) (Repeated p) (repeated-exact n (records terms) beyond p .1 (h .2))
   planned-is (Done o c k) h =
-      with-ending (h .0) (done o k (setsAt o)) (h .2)
-      ∙ ap (λ (x : ℕ). outcome (Done o x k) (setsBytes (setsAt o) ++ replicate (size - 36 * x) 0)) (sym (h .1))
+      with-ending (h .0) (done o k (setsAt n terms o)) (h .2)
+      ∙ ap (λ (x : ℕ). outcome (Done o x k) (setsBytes (setsAt n terms o) ++ replicate (size - setBytes * x) 0)) (sym (h .1))
   planned-is (Nothing o k) h = with-ending (h .0) (none o k) (h .1)
   planned-is (Full o k) h = with-ending (h .0) (fullAt o k) (h .1)
   planned-is (Spent o k) h = with-ending (h .0) (spentAt o k) (h .1)
@@ -133,12 +102,12 @@ module _ (n cap limit : ℕ) (terms : List ℕ) (size : ℕ) where
   -- ---- and one of them holds
   record Told : Type 0 where
     reply : Reply
-    holds : PlanSays reply
+    holds : PlanSays n cap limit terms size reply
 
-  told-ending : Accepted → (e : Ending) → Fate bare n fs limit (size / 36) cap e → Told
+  told-ending : Accepted n cap limit terms → (e : Ending) → Fate bare n fs limit (size / setBytes) cap e → Told
   told-ending a (done o k l) f = record {
     reply = Done o (length l) k;
-    holds = (a, ap length (f .sets), subst (Ends bare n fs limit (size / 36) cap o k) (f .sets) f);
+    holds = (a, ap length (f .sets), subst (Ends bare n fs limit (size / setBytes) cap o k) (f .sets) f);
   }
   told-ending a (none o k) f = record { reply = Nothing o k; holds = (a, f) }
   told-ending a (fullAt o k) f = record { reply = Full o k; holds = (a, f) }
@@ -149,7 +118,7 @@ module _ (n cap limit : ℕ) (terms : List ℕ) (size : ℕ) where
   told-fault r m (Repeated p) e = record { reply = Twice p; holds = (r, m, repeated-exact n (records terms) beyond p .0 e) }
   told-fault r m Clean e =
       told-ending (record { range = r; measured = m; flawless = clean-exact n (records terms) beyond .0 e })
-      (plan bare n fs limit (size / 36) cap) (fate bare n fs limit (size / 36) cap)
+      (plan bare n fs limit (size / setBytes) cap) (fate bare n fs limit (size / setBytes) cap)
 
   told : Told
   told = go (test (settingsRight n cap limit)) (test (lengthRight terms))
@@ -163,19 +132,23 @@ module _ (n cap limit : ℕ) (terms : List ℕ) (size : ℕ) where
       go (passed e) (passed q) = told-fault (range-out n cap limit (is→T (settingsRight n cap limit) e)) (length-exact terms .0 q) (fault n (records terms)) refl
 
   -- ---- the contract of `plan`: a reply with its buffer keeps it exactly where what the reply says holds and the buffer is as it leaves it
-  planned-told : planned n cap limit terms size ≡ outcome (told .reply) (leaves (told .reply))
+  planned-told : planned n cap limit terms size ≡ outcome (told .reply) (planLeaves n terms size (told .reply))
   planned-told = planned-is (told .reply) (told .holds)
 
   told-reply : (r : Reply) (bytes : List ℕ) → outcome r bytes ≡ planned n cap limit terms size → told .reply ≡ r
   told-reply r bytes e = same-reply (told .reply) r (ap (λ (x : Outcome). x .said) (sym planned-told ∙ sym e))
 
-  pub plan-exact : (r : Reply) (bytes : List ℕ) → (outcome r bytes ≡ planned n cap limit terms size) ↔ (PlanSays r × (bytes ≡ leaves r))
+  pub plan-exact : (r : Reply) (bytes : List ℕ) → (outcome r bytes ≡ planned n cap limit terms size) ↔ (PlanSays n cap limit terms size r × (bytes ≡ planLeaves n terms size r))
   plan-exact r bytes = (out, λ h. ap (outcome r) (h .1) ∙ sym (planned-is r (h .0)))
     where
-      out : outcome r bytes ≡ planned n cap limit terms size → PlanSays r × (bytes ≡ leaves r)
+      out : outcome r bytes ≡ planned n cap limit terms size → PlanSays n cap limit terms size r × (bytes ≡ planLeaves n terms size r)
       out e =
           let q : told .reply ≡ r = told-reply r bytes e in
-          (subst PlanSays q (told .holds), ap (λ (x : Outcome). x .bytes) (e ∙ planned-told) ∙ ap leaves q)
+          (subst (PlanSays n cap limit terms size) q (told .holds), ap (λ (x : Outcome). x .bytes) (e ∙ planned-told) ∙ ap (planLeaves n terms size) q)
+
+  -- some reply is always given
+  pub plan-replies : (r : Reply) × (outcome r (planLeaves n terms size r) ≡ planned n cap limit terms size)
+  plan-replies = (told .reply, sym planned-told)
 
   -- two replies that keep it are equal, and so are their buffers
   pub plan-determined : (r r' : Reply) (bytes bytes' : List ℕ) → outcome r bytes ≡ planned n cap limit terms size → outcome r' bytes' ≡ planned n cap limit terms size
@@ -204,74 +177,57 @@ module _ (n cap limit : ℕ) (terms : List ℕ) (size : ℕ) where
   says-twice p bytes = plan-exact (Twice p) bytes
 
   pub says-done : (o c k : ℕ) (bytes : List ℕ) → (outcome (Done o c k) bytes ≡ planned n cap limit terms size)
-      ↔ ((Accepted × (c ≡ length (setsAt o)) × Ends bare n (system (records terms)) limit (size / 36) cap o k (setsAt o))
-      × (bytes ≡ setsBytes (setsAt o) ++ replicate (size - 36 * c) 0))
+      ↔ ((Accepted n cap limit terms × (c ≡ length (setsAt n terms o)) × Ends bare n (system (records terms)) limit (size / setBytes) cap o k (setsAt n terms o))
+      × (bytes ≡ setsBytes (setsAt n terms o) ++ replicate (size - setBytes * c) 0))
   says-done o c k bytes = plan-exact (Done o c k) bytes
 
   pub says-none : (o k : ℕ) (bytes : List ℕ) → (outcome (Nothing o k) bytes ≡ planned n cap limit terms size)
-      ↔ ((Accepted × Lacks bare n (system (records terms)) limit (size / 36) cap o k) × (bytes ≡ replicate size 0))
+      ↔ ((Accepted n cap limit terms × Lacks bare n (system (records terms)) limit (size / setBytes) cap o k) × (bytes ≡ replicate size 0))
   says-none o k bytes = plan-exact (Nothing o k) bytes
 
   pub says-full : (o k : ℕ) (bytes : List ℕ) → (outcome (Full o k) bytes ≡ planned n cap limit terms size)
-      ↔ ((Accepted × Fills bare n (system (records terms)) limit (size / 36) cap o k) × (bytes ≡ replicate size 0))
+      ↔ ((Accepted n cap limit terms × Fills bare n (system (records terms)) limit (size / setBytes) cap o k) × (bytes ≡ replicate size 0))
   says-full o k bytes = plan-exact (Full o k) bytes
 
   pub says-spent : (o k : ℕ) (bytes : List ℕ) → (outcome (Spent o k) bytes ≡ planned n cap limit terms size)
-      ↔ ((Accepted × Spends bare n (system (records terms)) limit (size / 36) cap o k) × (bytes ≡ replicate size 0))
+      ↔ ((Accepted n cap limit terms × Spends bare n (system (records terms)) limit (size / setBytes) cap o k) × (bytes ≡ replicate size 0))
   says-spent o k bytes = plan-exact (Spent o k) bytes
 
   -- ---- none, full and spent: no quadratic list has fewer members than the order, since by these rules every list counts
-  abbrev pub NoneBelow : ℕ → Type 0
-  NoneBelow j = (s : List Mono) → Wide s → QuadraticList n (system (records terms)) s → j ≤ length s
-
-  none-below : (j : ℕ) → Barren bare n (system (records terms)) j → NoneBelow j
+  none-below : (j : ℕ) → Barren bare n (system (records terms)) j → NoneBelow n terms j
   none-below j b s w q = none-smaller bare bare-orderly empty n fs (bare-sparing n fs) j b s w (bare-extends s) q
 
-  pub plan-lacks : (o k : ℕ) (bytes : List ℕ) → outcome (Nothing o k) bytes ≡ planned n cap limit terms size → (o ≡ suc cap) × NoneBelow o
+  pub plan-lacks : (o k : ℕ) (bytes : List ℕ) → outcome (Nothing o k) bytes ≡ planned n cap limit terms size → (o ≡ suc cap) × NoneBelow n terms o
   plan-lacks o k bytes e = let f = says-none o k bytes .0 e .0 .1 in (f .last, none-below o (f .barren))
 
-  pub plan-fills : (o k : ℕ) (bytes : List ℕ) → outcome (Full o k) bytes ≡ planned n cap limit terms size → NoneBelow o
+  pub plan-fills : (o k : ℕ) (bytes : List ℕ) → outcome (Full o k) bytes ≡ planned n cap limit terms size → NoneBelow n terms o
   plan-fills o k bytes e = none-below o (says-full o k bytes .0 e .0 .1 .barren)
 
-  pub plan-spends : (o k : ℕ) (bytes : List ℕ) → outcome (Spent o k) bytes ≡ planned n cap limit terms size → NoneBelow o
+  pub plan-spends : (o k : ℕ) (bytes : List ℕ) → outcome (Spent o k) bytes ≡ planned n cap limit terms size → NoneBelow n terms o
   plan-spends o k bytes e = none-below o (says-spent o k bytes .0 e .0 .1 .barren)
 
 -- ---- done: what the bytes say
 -- the records of sets of six exponents, one behind the other
-sets-length : (l : Finds) → ((s : List Mono) → s ∈ l → length (setRecord s) ≡ 36) → length (setsBytes l) ≡ 36 * length l
+sets-length : (l : Finds) → ((s : List Mono) → s ∈ l → length (setRecord s) ≡ setBytes) → length (setsBytes l) ≡ setBytes * length l
 unfolding setsBytes gather
 sets-length [] h = refl
 sets-length (s ∷ l) h =
-    let own : length (setRecord s) ≡ 36 = h s here in
-    let ih : length (setsBytes l) ≡ 36 * length l = sets-length l (λ x m. h x (there m)) in
+    let own : length (setRecord s) ≡ setBytes = h s here in
+    let ih : length (setsBytes l) ≡ setBytes * length l = sets-length l (λ x m. h x (there m)) in
     length-append (setRecord s) (setsBytes l) ∙ omega arith
 
-sets-at : (l : Finds) (tail : List ℕ) → ((s : List Mono) → s ∈ l → length (setRecord s) ≡ 36) → (i : ℕ) → i < length l
-    → take 36 (drop (36 * i) (setsBytes l ++ tail)) ≡ setRecord (getD l i [])
+sets-at : (l : Finds) (tail : List ℕ) → ((s : List Mono) → s ∈ l → length (setRecord s) ≡ setBytes) → (i : ℕ) → i < length l
+    → take setBytes (drop (setBytes * i) (setsBytes l ++ tail)) ≡ setRecord (getD l i [])
 unfolding setsBytes gather
 sets-at [] tail h i k = let z : ⊥ = omega arith in absurd z
-sets-at (s ∷ l) tail h zero k = ap (take 36) (append-assoc (setRecord s) (setsBytes l) tail) ∙ take-at (setRecord s) (setsBytes l ++ tail) 36 (h s here)
+sets-at (s ∷ l) tail h zero k = ap (take setBytes) (append-assoc (setRecord s) (setsBytes l) tail) ∙ take-at (setRecord s) (setsBytes l ++ tail) setBytes (h s here)
 sets-at (s ∷ l) tail h (suc i) k =
-    let skip : 36 * suc i ≡ length (setRecord s) + 36 * i = omega (arith, h s here) in
-    rw (append-assoc (setRecord s) (setsBytes l) tail, skip, drop-append-add (setRecord s) (setsBytes l ++ tail) (36 * i))
+    let skip : setBytes * suc i ≡ length (setRecord s) + setBytes * i = omega (arith, h s here) in
+    rw (append-assoc (setRecord s) (setsBytes l) tail, skip, drop-append-add (setRecord s) (setsBytes l ++ tail) (setBytes * i))
     (sets-at l tail (λ x m. h x (there m)) i (omega arith))
 
-pub record Planned (n cap limit : ℕ) (terms : List ℕ) (size order count steps : ℕ) (bytes : List ℕ) : Type 0 where
-  pub accepted : Accepted n cap limit terms size
-  pub sets : Finds
-  -- the smallest quadratic sets, all of them, found in the walk's steps, within the limit and the room
-  pub finished : Finished bare n terms cap limit (size / 36) order steps sets
-  -- of all lists of monomials: no quadratic one is smaller, and each of that many members, put in order, is listed
-  pub none-below : NoneBelow n cap limit terms size order
-  pub all : (s : List Mono) → Wide s → QuadraticList n (system (records terms)) s → length s ≡ order → arrangeBy same before s ∈ sets
-  pub counted : count ≡ length sets
-  -- record number i holds set number i; behind them are zeros
-  pub written : (i : ℕ) → i < count → take 36 (drop (36 * i) bytes) ≡ setRecord (getD sets i [])
-  pub rest : (k : ℕ) → 36 * count ≤ k → getD bytes k 0 ≡ 0
-  pub long : length bytes ≡ size
-
 module _ (n cap limit : ℕ) (terms : List ℕ) (size : ℕ) where
-  clean-of : Accepted n cap limit terms size → fault n (records terms) ≡ Clean
+  clean-of : Accepted n cap limit terms → fault n (records terms) ≡ Clean
   clean-of a = clean-exact n (records terms) beyond .1 (a .flawless)
 
   pub plan-finds : (o c k : ℕ) (bytes : List ℕ) → outcome (Done o c k) bytes ≡ planned n cap limit terms size → Planned n cap limit terms size o c k bytes
@@ -282,52 +238,52 @@ module _ (n cap limit : ℕ) (terms : List ℕ) (size : ℕ) where
     none-below = λ s w q. f .sets .none-smaller s w (bare-extends s) q;
     all = λ s w q h. f .sets .all s w (bare-extends s) q h;
     counted = counted;
-    written = λ i h. ap (λ (b : List ℕ). take 36 (drop (36 * i) b)) left ∙ sets-at l tail long-of i (rw (← counted) h);
+    written = λ i h. ap (λ (b : List ℕ). take setBytes (drop (setBytes * i) b)) left ∙ sets-at l tail long-of i (rw (← counted) h);
     rest = behind;
     long = ap length left ∙ length-append (setsBytes l) tail ∙ omega (arith, front, back, fits, counted);
   }
     where
-      says : PlanSays n cap limit terms size (Done o c k) × (bytes ≡ leaves n cap limit terms size (Done o c k))
+      says : PlanSays n cap limit terms size (Done o c k) × (bytes ≡ planLeaves n terms size (Done o c k))
       says = plan-exact n cap limit terms size (Done o c k) bytes .0 e
 
-      a : Accepted n cap limit terms size
+      a : Accepted n cap limit terms
       a = says .0 .0
 
       l : Finds
-      l = setsAt n cap limit terms size o
+      l = setsAt n terms o
 
-      counted : c ≡ length (setsAt n cap limit terms size o)
+      counted : c ≡ length (setsAt n terms o)
       counted = says .0 .1
 
       tail : List ℕ
-      tail = replicate (size - 36 * c) 0
+      tail = replicate (size - setBytes * c) 0
 
-      left : bytes ≡ setsBytes (setsAt n cap limit terms size o) ++ replicate (size - 36 * c) 0
+      left : bytes ≡ setsBytes (setsAt n terms o) ++ replicate (size - setBytes * c) 0
       left = says .1
 
-      f : Finished bare n terms cap limit (size / 36) o k (setsAt n cap limit terms size o)
+      f : Finished bare n terms cap limit (size / setBytes) o k (setsAt n terms o)
       f =
-          let ending = done-exact bare n (system (records terms)) limit (size / 36) cap o k l .1 (says .0 .2) in
+          let ending = done-exact bare n (system (records terms)) limit (size / setBytes) cap o k l .1 (says .0 .2) in
           plan-done bare bare-orderly empty-walked n (empty-proper n) terms (a .range .ranged .1) (clean-of a) (bare-sparing n (system (records terms)))
-          cap limit (size / 36) (a .range .capped) o k l ending
+          cap limit (size / setBytes) (a .range .capped) o k l ending
 
-      long-of : (s : List Mono) → s ∈ setsAt n cap limit terms size o → length (setRecord s) ≡ 36
+      long-of : (s : List Mono) → s ∈ setsAt n terms o → length (setRecord s) ≡ setBytes
       long-of s m = let r = f .sets .each s m .recordable in record-length s (r .few) (r .wide)
 
-      front : length (setsBytes (setsAt n cap limit terms size o)) ≡ 36 * length (setsAt n cap limit terms size o)
+      front : length (setsBytes (setsAt n terms o)) ≡ setBytes * length (setsAt n terms o)
       front = sets-length l long-of
 
-      back : length {A = ℕ} (replicate (size - 36 * c) 0) ≡ size - 36 * c
-      back = length-replicate (size - 36 * c) 0
+      back : length {A = ℕ} (replicate (size - setBytes * c) 0) ≡ size - setBytes * c
+      back = length-replicate (size - setBytes * c) 0
 
-      fits : 36 * length (setsAt n cap limit terms size o) ≤ size
+      fits : setBytes * length (setsAt n terms o) ≤ size
       fits = omega (arith, f .roomy)
 
-      behind : (j : ℕ) → 36 * c ≤ j → getD bytes j 0 ≡ 0
+      behind : (j : ℕ) → setBytes * c ≤ j → getD bytes j 0 ≡ 0
       behind j h =
           let b = setsBytes l in
           let at : length b + (j - length b) ≡ j = omega (arith, front, counted) in
-          let from = getD-append-add b tail (j - length b) 0 ∙ fill-at 0 (size - 36 * c) (j - length b) in
+          let from = getD-append-add b tail (j - length b) 0 ∙ fill-at 0 (size - setBytes * c) (j - length b) in
           ap (λ (x : List ℕ). getD x j 0) left ∙ subst (λ (x : ℕ). getD (b ++ tail) x 0 ≡ 0) at from
 
   -- the buffer keeps its length
@@ -342,7 +298,7 @@ module _ (n cap limit : ℕ) (terms : List ℕ) (size : ℕ) where
           plan-finds (d .order) (d .count) (d .steps) bytes same .long
 
 -- ---- a listed set can be handed to checking and wiring, and neither refuses it
-module _ (n cap limit : ℕ) (terms : List ℕ) (size : ℕ) (a : Accepted n cap limit terms size) (o : ℕ) (s : List Mono) (l : Listed bare n terms o s) where
+module _ (n cap limit : ℕ) (terms : List ℕ) (size : ℕ) (a : Accepted n cap limit terms) (o : ℕ) (s : List Mono) (l : Listed bare n terms o s) where
   listed-formed : WellFormed n terms (setRecord s)
   listed-formed =
       let r : Recordable n s = l .recordable in
@@ -354,7 +310,7 @@ module _ (n cap limit : ℕ) (terms : List ℕ) (size : ℕ) (a : Accepted n cap
       }
 
   listed-quadratic : Quadratic plain (signalsIn n (setRecord s)) (derivativeIn terms)
-  listed-quadratic = subst (λ (x : List Mono). Quadratic plain (signals 6 n x) (derivativeIn terms)) (sym (record-set n s (l .recordable))) (l .quadratic)
+  listed-quadratic = subst (λ (x : List Mono). Quadratic plain (signals width n x) (derivativeIn terms)) (sym (record-set n s (l .recordable))) (l .quadratic)
 
   listed-size : length (setOf (setRecord s)) ≡ o
   listed-size = ap length (record-set n s (l .recordable)) ∙ l .size
@@ -363,7 +319,7 @@ module _ (n cap limit : ℕ) (terms : List ℕ) (size : ℕ) (a : Accepted n cap
   listed-checks = check-exact n terms (setRecord s) (Done o 0 0) .1 (listed-formed, sym listed-size, refl, refl, listed-quadratic)
 
   -- into 1,792 bytes or more
-  pub listed-wires : (room : ℕ) → 1792 ≤ room → (r : Reply) (bytes : List ℕ) → outcome r bytes ≡ wired n terms (setRecord s) room
+  pub listed-wires : (room : ℕ) → wiresBytes ≤ room → (r : Reply) (bytes : List ℕ) → outcome r bytes ≡ wired n terms (setRecord s) room
       → r ≡ Done o (length (listIn n terms (setRecord s))) 0
   listed-wires room h r bytes e =
       wire-enough n terms (setRecord s) room listed-formed listed-quadratic h r bytes e

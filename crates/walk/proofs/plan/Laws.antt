@@ -8,9 +8,10 @@ use native.Mathlib.Numerals.{add-one}
 use lib.Dec.{leb→le}
 use lib.ListN.{length, replicate}
 use Rattle.monomial.specs.Lists.{gather}
-use Rattle.monomial.specs.Monomial.{Mono}
+use Rattle.monomial.specs.Monomial.{Mono, width}
+use Rattle.monomial.specs.Claims.{empty}
 use Rattle.monomial.proofs.Tests.{is→T, T→is, and-l, and-r}
-use Rattle.monomial.proofs.order.Ascending.{empty}
+use Rattle.wiring.specs.Panel.{cards, setBytes}
 use Rattle.wiring.specs.Reply.{Outcome, outcome}
 use Rattle.wiring.specs.Poly.{Poly}
 use Rattle.wiring.specs.Terms.{records, lengthRight, fault, system, CleanTerms}
@@ -35,7 +36,7 @@ use Rattle.walk.proofs.Begins.{plan-begins}
 pub shown-none : (out : List ℕ) → out ≡ replicate (length out) 0 → Shown [] 0 out
 unfolding setsBytes gather
 shown-none out e =
-    let n : length out ≡ length out - 36 * 0 = omega arith in
+    let n : length out ≡ length out - setBytes * 0 = omega arith in
     record {
       counted = refl;
       room = omega arith;
@@ -48,7 +49,7 @@ shown-none out e =
 pub none-shown : (l : Finds) (count : ℕ) (out : List ℕ) → Shown l count out → count ≡ 0 → out ≡ replicate (length out) 0
 unfolding setsBytes gather
 none-shown [] count out s z =
-    let n : length out - 36 * count ≡ length out = omega arith in
+    let n : length out - setBytes * count ≡ length out = omega arith in
     s .bytes ∙ ap (λ (k : ℕ). replicate k 0) n
 none-shown (x ∷ l) count out s z = let y : ⊥ = omega (arith, s .counted) in absurd y
 
@@ -67,11 +68,11 @@ settled-some limit k next (x ∷ l) taken h = refl
 module _ (r : Rules) (n : ℕ) (fs : List (Poly Mono)) (limit cap size : ℕ) where
   -- how `left` levels from k on end, with the steps taken before
   abbrev pub from : ℕ → ℕ → ℕ → Ending
-  from left k taken = levels r n fs limit (size / 36) left k taken
+  from left k taken = levels r n fs limit (size / setBytes) left k taken
 
   -- how all of them end
   abbrev pub climbed : Ending
-  climbed = plan r n fs limit (size / 36) cap
+  climbed = plan r n fs limit (size / setBytes) cap
 
   -- no set is found below level k: the buffer is zeros, and the levels from k on are what is left of the plan
   pub record Climbing (k steps : ℕ) (out : List ℕ) : Type 0 where
@@ -90,15 +91,15 @@ module _ (r : Rules) (n : ℕ) (fs : List (Poly Mono)) (limit cap size : ℕ) wh
         low = h;
         long = l;
         blank = z;
-        rest = ap (λ (i : ℕ). from i (length (r .start)) 0) e ∙ sym (plan-begins r n fs limit (size / 36) cap (omega arith));
+        rest = ap (λ (i : ℕ). from i (length (r .start)) 0) e ∙ sym (plan-begins r n fs limit (size / setBytes) cap (omega arith));
       }
 
   -- what the opener tells of the start at level k
   abbrev pub Opening : ℕ → ℕ → List ℕ → Turn → List ℕ → Type 0
   Opening k steps out turn out' = (d : ℕ) (finds : Finds) → k - length (r .start) < d → Shown finds 0 out
-      → Tells turn out' (run limit (length out / 36) (opened r n fs k d (r .start)) steps finds)
+      → Tells turn out' (run limit (length out / setBytes) (opened r n fs k d (r .start)) steps finds)
 
-  turned : (left k taken : ℕ) (x : Run) → run limit (size / 36) (level r n fs k) taken [] ≡ x
+  turned : (left k taken : ℕ) (x : Run) → run limit (size / setBytes) (level r n fs k) taken [] ≡ x
       → from (suc left) k taken ≡ settled limit k (from left (suc k)) x
   unfolding levels
   turned left k taken x e = ap (settled limit k (from left (suc k))) e
@@ -120,7 +121,7 @@ module _ {r : Rules} {n : ℕ} {fs : List (Poly Mono)} {limit cap size k steps :
   -- after level k
   module _ (h : k ≤ cap) (turn : Turn) (out' : List ℕ) (o : Opening r n fs limit cap size k steps out turn out') (kept : length out' ≡ length out) where
     abbrev here : Run
-    here = run limit (size / 36) (level r n fs k) steps []
+    here = run limit (size / setBytes) (level r n fs k) steps []
 
     abbrev next : ℕ → Ending
     next = from r n fs limit cap size (cap - k) (suc k)
@@ -131,7 +132,7 @@ module _ {r : Rules} {n : ℕ} {fs : List (Poly Mono)} {limit cap size k steps :
     told : Tells turn out' here
     told =
         let t = o (suc k) [] (omega arith) (shown-none out (c .blank)) in
-        rw (level-opens r n fs k (c .begun)) (subst (λ (i : ℕ). Tells turn out' (run limit (i / 36) (opened r n fs k (suc k) (r .start)) steps [])) (c .long) t)
+        rw (level-opens r n fs k (c .begun)) (subst (λ (i : ℕ). Tells turn out' (run limit (i / setBytes) (opened r n fs k (suc k) (r .start)) steps [])) (c .long) t)
 
     told-as : (t : Turn) → turn ≡ t → Tells t out' here
     told-as t e = subst (λ (u : Turn). Tells u out' here) e told
@@ -165,8 +166,8 @@ module _ {r : Rules} {n : ℕ} {fs : List (Poly Mono)} {limit cap size k steps :
         let e : Ended st out' here = told-as (Going st) g in
         let some : 0 < length (e .finds) = omega (arith, e .shown .counted) in
         let end = sym (settled-some limit k next (e .finds) (st .steps) some) ∙ whole (ended (st .steps) (e .finds)) (e .is) in
-        let left : length out' - 36 * st .count ≡ size - 36 * length (e .finds) = omega (arith, e .shown .counted, long') in
-        let bytes : out' ≡ setsBytes (e .finds) ++ replicate (size - 36 * length (e .finds)) 0 = e .shown .bytes ∙ ap (λ (i : ℕ). setsBytes (e .finds) ++ replicate i 0) left in
+        let left : length out' - setBytes * st .count ≡ size - setBytes * length (e .finds) = omega (arith, e .shown .counted, long') in
+        let bytes : out' ≡ setsBytes (e .finds) ++ replicate (size - setBytes * length (e .finds)) 0 = e .shown .bytes ∙ ap (λ (i : ℕ). setsBytes (e .finds) ++ replicate i 0) left in
         ap₂ (λ (i : ℕ) (b : List ℕ). outcome (reply.Done k i (st .steps)) b) (e .shown .counted) bytes ∙ ap (λ (x : Ending). said x size) end
 
     -- the limit or the room ends the walk, and the buffer is cleared
@@ -184,13 +185,13 @@ module _ {r : Rules} {n : ℕ} {fs : List (Poly Mono)} {limit cap size k steps :
 
 -- ---- the checks in their order
 module _ (n cap limit : ℕ) (e : settingsRight n cap limit ≡ true) where
-  pub settings-few : n ≤ 6
+  pub settings-few : n ≤ width
   unfolding settingsRight
   settings-few = let t = is→T (settingsRight n cap limit) e in count-few n (T→is (countRight n) (search (and-l, and-r, t)))
 
-  pub settings-low : cap ≤ 6
+  pub settings-low : cap ≤ cards
   unfolding settingsRight
-  settings-low = let t = is→T (settingsRight n cap limit) e in leb→le cap 6 (search (and-l, and-r, t))
+  settings-low = let t = is→T (settingsRight n cap limit) e in leb→le cap cards (search (and-l, and-r, t))
 
   -- what the climb asks of the records
   pub settings-clean : (terms : List ℕ) → fault n (records terms) ≡ Clean → CleanTerms terms
@@ -217,7 +218,7 @@ module _ (n cap limit : ℕ) (terms : List ℕ) (size : ℕ) where
       said-repeated h place q = rw (e, h, q, z)
 
   -- what is not refused is walked, in the buffer that was cleared
-  pub said-walked : (answer : Outcome) (size' : ℕ) → answer ≡ said (plan bare n (system (records terms)) limit (size' / 36) cap) size' → size' ≡ size
+  pub said-walked : (answer : Outcome) (size' : ℕ) → answer ≡ said (plan bare n (system (records terms)) limit (size' / setBytes) cap) size' → size' ≡ size
       → settingsRight n cap limit ≡ true → lengthRight terms ≡ true → fault n (records terms) ≡ Clean → answer ≡ planned n cap limit terms size
   unfolding planned
   said-walked answer size' a k e h q = rw (e, h, q, sym k) a

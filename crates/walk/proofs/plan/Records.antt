@@ -13,12 +13,13 @@ use Rattle.wiring.specs.Wires.{wireList}
 use Rattle.wiring.specs.Answers.{wired}
 use Rattle.wiring.specs.declared.reply.Reply.{Reply}
 use Rattle.wiring.specs.declared.reply.Reply.the-variants.{Done, Setting, Length, Term, Twice, Nothing, Full, Spent, BadSet, NotQuadratic}
+use Rattle.wiring.specs.Claims.{listIn}
 use Rattle.wiring.proofs.answers.Exact.{check-exact}
-use Rattle.wiring.proofs.answers.Wired.{listIn, list-most, wire-exact}
+use Rattle.wiring.proofs.answers.Wired.{list-most, wire-exact}
 use Rattle.walk.specs.Walk.{Finds, bare}
 use Rattle.walk.specs.Plan.{planned}
-use Rattle.walk.proofs.Smallest.{Listed}
-use Rattle.walk.proofs.plan.Exact.{Planned, plan-finds, listed-checks, listed-wires}
+use Rattle.walk.specs.Claims.{Listed, Planned}
+use Rattle.walk.proofs.plan.Exact.{plan-finds, listed-checks, listed-wires}
 
 module _ (n cap limit : ℕ) (terms : List ℕ) (size : ℕ) where
   module _ (o c k : ℕ) (bytes : List ℕ) (e : outcome (Done o c k) bytes ≡ planned n cap limit terms size) where

@@ -10,14 +10,16 @@ use native.Mathlib.Numerals.{add-one}
 use lib.Dec.{T}
 use lib.ListN.{length}
 use Rattle.monomial.specs.Lists.{some, gather}
-use Rattle.monomial.specs.Monomial.{Mono, one}
+use Rattle.monomial.specs.Monomial.{Mono, one, width}
 use Rattle.monomial.specs.Quotient.{quo, divides}
 use Rattle.monomial.specs.Divisors.{leads, pairs, next}
+use Rattle.monomial.specs.Claims.{_∈_, split, pairsFrom}
 use Rattle.monomial.proofs.Tests.{is→T, is→nT}
-use Rattle.monomial.proofs.Members.{_∈_, some-none}
+use Rattle.monomial.proofs.Members.{some-none}
 use Rattle.monomial.proofs.quotient.Laws.{one-divides}
 use Rattle.monomial.proofs.divisors.Following.{next-divides}
-use Rattle.monomial.proofs.divisors.Pairs.{split, pairsFrom, pairs-start, pairs-turn, pairs-end}
+use Rattle.monomial.proofs.divisors.Pairs.{pairs-start, pairs-turn, pairs-end}
+use Rattle.wiring.specs.Panel.{setBytes, setExponent}
 use Rattle.wiring.specs.Poly.{Poly, plain}
 use Rattle.wiring.specs.Derivative.{derivative}
 use Rattle.wiring.specs.Quadratic.{nonsquares}
@@ -33,20 +35,20 @@ use Rattle.walk.specs.declared.walk.Opened.{Opened}
 use Rattle.walk.specs.declared.walk.State.{State}
 use Rattle.walk.specs.declared.walk.Turn.{Turn}
 use Rattle.walk.specs.declared.walk.Turn.the-variants.{Going, Spent, Full}
-use Rattle.walk.specs.Walk.{Finds, Rules, child, Step, found, other, opens, ends, tried, triedAll, after, opened, Run, ended, spent, full, kept, onward, run}
+use Rattle.walk.specs.Walk.{Finds, Rules, child, Taken, pair, opening, Step, found, other, opens, ends, tried, triedAll, after, opened, Run, ended, spent, full, kept, onward, run}
 use Rattle.walk.specs.Listing.{Shown}
-use Rattle.walk.specs.Turns.{Walked, Ended, Tells, Sheet, Closed, Split, JudgedBy, Judged}
-use Rattle.walk.proofs.children.Laws.{walked-54}
+use Rattle.walk.specs.Turns.{Walked, Ended, Tells, Showing, NothingFollows, PairsFollow, SteppedBy, Stepped}
+use Rattle.walk.proofs.children.Laws.{walked-fits}
 use Rattle.walk.proofs.Steps.{run-append, run-stops, run-other, run-last, opened-found, opened-ends, opened-split}
 
 -- ---- a step without a find, by the code's count
-other-on : (limit room : ℕ) (es : List Step) (taken : ℕ) (finds : Finds) → taken < limit → run limit room (other ∷ es) taken finds ≡ run limit room es (taken + 1) finds
-other-on limit room es taken finds h = rw (add-one taken) (run-other limit room es taken finds h)
+other-on : (x : Taken) (limit room : ℕ) (es : List Step) (taken : ℕ) (finds : Finds) → taken < limit → run limit room (other x ∷ es) taken finds ≡ run limit room es (taken + 1) finds
+other-on x limit room es taken finds h = rw (add-one taken) (run-other limit room es taken finds x h)
 
 -- ---- a set is opened, at any bound on the depth that is large enough
 module _ (r : Rules) (n : ℕ) (fs : List (Poly Mono)) (k limit room taken : ℕ) (finds : Finds) (s : List Mono) where
   abbrev gaps : List Mono
-  gaps = nonsquares plain (signals 6 n s) (derivative plain fs)
+  gaps = nonsquares plain (signals width n s) (derivative plain fs)
 
   abbrev ran : List Step → Run
   ran es = run limit room es taken finds
@@ -54,7 +56,7 @@ module _ (r : Rules) (n : ℕ) (fs : List (Poly Mono)) (k limit room taken : ℕ
   after-spent : (below : List Mono → List Step) (l : List Mono) → limit ≤ taken → run limit room (after r n fs k below s l) taken finds ≡ spent
   unfolding after
   after-spent below [] h = run-stops limit room [] taken finds (found s) h
-  after-spent below (m ∷ l) h = run-stops limit room _ taken finds other h
+  after-spent below (m ∷ l) h = run-stops limit room _ taken finds (other (opening s)) h
 
   pub open-spent : (d : ℕ) → 0 < d → limit ≤ taken → run limit room (opened r n fs k d s) taken finds ≡ spent
   unfolding opened
@@ -69,7 +71,7 @@ module _ (r : Rules) (n : ℕ) (fs : List (Poly Mono)) (k limit room taken : ℕ
       → run limit room (opened r n fs k d s) taken finds ≡ ended (taken + 1) finds
   unfolding run
   open-leaf zero m l p h e g = absurd (omega arith)
-  open-leaf (suc d) m l p h e g = ap ran (opened-ends r n fs k d s m l e g) ∙ other-on limit room [] taken finds h
+  open-leaf (suc d) m l p h e g = ap ran (opened-ends r n fs k d s m l e g) ∙ other-on (opening s) limit room [] taken finds h
 
   -- the same, by the word of the loop that asks for a nonsquare
   pub open-none : (d : ℕ) → 0 < d → taken < limit → some gaps ≡ false → run limit room (opened r n fs k d s) taken finds ≡ kept room s (taken + 1) finds
@@ -88,7 +90,7 @@ module _ (r : Rules) (n : ℕ) (fs : List (Poly Mono)) (k limit room taken : ℕ
       → run limit room (opened r n fs k (suc d) s) taken finds
       ≡ run limit room (triedAll r n fs k (opened r n fs k d) s (chosen m l)) (taken + 1) finds
   open-split d m l h e g =
-      ap ran (opened-split r n fs k d s m l e g) ∙ other-on limit room (triedAll r n fs k (opened r n fs k d) s (chosen m l)) taken finds h
+      ap ran (opened-split r n fs k d s m l e g) ∙ other-on (opening s) limit room (triedAll r n fs k (opened r n fs k d) s (chosen m l)) taken finds h
 
 -- ---- the pairs of m from the first factor a on
 module _ (r : Rules) (n : ℕ) (fs : List (Poly Mono)) (k limit room : ℕ) (s : List Mono) (m : Mono) where
@@ -137,21 +139,21 @@ module _ (r : Rules) (n : ℕ) (fs : List (Poly Mono)) (k limit room : ℕ) (s :
       rest = left d (next m a)
 
       -- the next step is that of the pair, whether its child is opened or not
-      pair-step : (more : List Step) → cond go (opened r n fs k d c) [] ≡ more → run limit room (other ∷ (more ++ rest)) steps (st .finds) ≡ w
+      pair-step : (more : List Step) → cond go (opened r n fs k d c) [] ≡ more → run limit room (other pair ∷ (more ++ rest)) steps (st .finds) ≡ w
       unfolding tried
       pair-step more e =
-          sym (ap (λ (es : List Step). run limit room es steps (st .finds)) (left-turn d a t p l ∙ ap (λ (es : List Step). (other ∷ es) ++ rest) e)) ∙ st .on
+          sym (ap (λ (es : List Step). run limit room es steps (st .finds)) (left-turn d a t p l ∙ ap (λ (es : List Step). (other pair ∷ es) ++ rest) e)) ∙ st .on
 
       pub stands-spent : limit ≤ steps → w ≡ spent
       stands-spent h = sym (pair-step (cond go (opened r n fs k d c) []) refl) ∙ run-stops limit room
-          (cond go (opened r n fs k d c) [] ++ rest) steps (st .finds) other h
+          (cond go (opened r n fs k d c) [] ++ rest) steps (st .finds) (other pair) h
 
       -- the child is not opened
       pub stands-shut : steps < limit → go ≡ false → Stands d w (next m a) (steps + 1) count out
       stands-shut h e = record {
         finds = st .finds;
         shown = st .shown;
-        on = sym (other-on limit room rest steps (st .finds) h) ∙ pair-step [] (rw e);
+        on = sym (other-on pair limit room rest steps (st .finds) h) ∙ pair-step [] (rw e);
       }
 
       -- the child was opened
@@ -159,7 +161,7 @@ module _ (r : Rules) (n : ℕ) (fs : List (Poly Mono)) (k limit room : ℕ) (s :
         child-run : onward (run limit room (opened r n fs k d c) (steps + 1) (st .finds)) (run limit room rest) ≡ w
         child-run =
             sym (run-append limit room (opened r n fs k d c) rest (steps + 1) (st .finds))
-            ∙ sym (other-on limit room (opened r n fs k d c ++ rest) steps (st .finds) h) ∙ pair-step (opened r n fs k d c) (rw e)
+            ∙ sym (other-on pair limit room (opened r n fs k d c ++ rest) steps (st .finds) h) ∙ pair-step (opened r n fs k d c) (rw e)
 
         pub stands-going : (next' : State) (out' : List ℕ) → Ended next' out' (run limit room (opened r n fs k d c) (steps + 1) (st .finds)) → Stands d
             w (next m a) (next' .steps) (next' .count) out'
@@ -180,7 +182,7 @@ module _ (r : Rules) (n : ℕ) (fs : List (Poly Mono)) (k limit room : ℕ) (s :
 
 -- ---- what opening tells of the pairs that follow
 pub open-tells : (r : Rules) (n : ℕ) (fs : List (Poly Mono)) (k limit room taken : ℕ) (finds : Finds) (s : List Mono) (d size : ℕ) (m : Mono) (l : List Mono) (turn : Turn) (out : List ℕ)
-    → k - size < d → taken < limit → nonsquares plain (signals 6 n s) (derivative plain fs) ≡ m ∷ l → ends r n k s (m ∷ l) ≡ false
+    → k - size < d → taken < limit → nonsquares plain (signals width n s) (derivative plain fs) ≡ m ∷ l → ends r n k s (m ∷ l) ≡ false
     → ((g : ℕ) → k - size ≤ g → Tells turn out (run limit room (triedAll r n fs k (opened r n fs k g) s (chosen m l)) (taken + 1) finds))
     → Tells turn out (run limit room (opened r n fs k d s) taken finds)
 open-tells r n fs k limit room taken finds s zero size m l turn out h t e g f = absurd (omega arith)
@@ -203,13 +205,13 @@ pub choice-member : (ns : List Mono) (m first : Mono) (others : List Mono) → n
 choice-member ns m first others e i =
     subst (λ (l : List Mono). m ∈ l) (sym e) (subst (λ (x : Mono). x ∈ (first ∷ others)) (sym i) (chosen-best first others .0))
 
--- ---- what was judged, by the word of the code
+-- ---- what follows the step of an opening, by the word of the code
 module _ (r : Rules) (n : ℕ) (terms : List ℕ) (level limit : ℕ) (set : Set) (st : State) (out₀ : List ℕ) (o : Opened) (out : List ℕ) where
-  pub judged-closed : o .split ≡ false → Judged r n terms level limit set st out₀ o out → Closed r n terms level limit set st out₀ (o .turn) out
-  judged-closed e j = subst (λ (b : Bool). JudgedBy r n terms level limit set st out₀ b o out) e j
+  pub nothing-follows : o .split ≡ false → Stepped r n terms level limit set st out₀ o out → NothingFollows r n terms level limit set st out₀ (o .turn) out
+  nothing-follows e j = subst (λ (b : Bool). SteppedBy r n terms level limit set st out₀ b o out) e j
 
-  pub judged-split : o .split ≡ true → Judged r n terms level limit set st out₀ o out → Split r n terms level limit set st out₀ (o .m .e) out
-  judged-split e j = subst (λ (b : Bool). JudgedBy r n terms level limit set st out₀ b o out) e j
+  pub pairs-follow : o .split ≡ true → Stepped r n terms level limit set st out₀ o out → PairsFollow r n terms level limit set st out₀ (o .m .e) out
+  pairs-follow e j = subst (λ (b : Bool). SteppedBy r n terms level limit set st out₀ b o out) e j
 
 -- ---- the loop of the pair runner: the run of what is left is that of the whole, for every depth and every list of finds that the buffer showed
 module _ (r : Rules) (n : ℕ) (terms : List ℕ) (level limit : ℕ) (set : Set) (m : Mono) (st₀ : State) (out₀ : List ℕ) where
@@ -218,8 +220,8 @@ module _ (r : Rules) (n : ℕ) (terms : List ℕ) (level limit : ℕ) (set : Set
 
   abbrev standing : ℕ → Finds → Mono → State → List ℕ → Type 0
   standing d finds a cur out =
-      Stands r n fs level limit (length out₀ / 36) (monomialsOf set) m d
-      (whole r n fs level limit (length out₀ / 36) (monomialsOf set) m d (st₀ .steps) finds) a (cur .steps) (cur .count) out
+      Stands r n fs level limit (length out₀ / setBytes) (monomialsOf set) m d
+      (whole r n fs level limit (length out₀ / setBytes) (monomialsOf set) m d (st₀ .steps) finds) a (cur .steps) (cur .count) out
 
   pub record Running (a : Mono) (cur : State) (out : List ℕ) : Type 0 where
     pub divisor : T (divides a m)
@@ -230,39 +232,39 @@ module _ (r : Rules) (n : ℕ) (terms : List ℕ) (level limit : ℕ) (set : Set
   running-start = record {
     divisor = one-divides m;
     long = refl;
-    stands = λ d finds h sh. stands-start r n fs level limit (length out₀ / 36) (monomialsOf set) m d (st₀ .steps) (st₀ .count) finds out₀ sh;
+    stands = λ d finds h sh. stands-start r n fs level limit (length out₀ / setBytes) (monomialsOf set) m d (st₀ .steps) (st₀ .count) finds out₀ sh;
   }
 
   -- the buffer still shows some finds
-  pub running-sheet : (a : Mono) (cur : State) (out : List ℕ) → Running a cur out → Sheet (st₀ .count) out₀ → Sheet (cur .count) out
-  running-sheet a cur out u s =
+  pub running-showing : (a : Mono) (cur : State) (out : List ℕ) → Running a cur out → Showing (st₀ .count) out₀ → Showing (cur .count) out
+  running-showing a cur out u s =
       let x = u .stands (level - set .len) (s .finds) (omega arith) (s .shown) in
       record { finds = x .finds; shown = x .shown }
 
   module _ {a : Mono} {cur : State} {out : List ℕ} (u : Running a cur out) where
     pub running-end : (T (leads m a) → ⊥) → (d : ℕ) (finds : Finds) → level - set .len ≤ d → Shown finds (st₀ .count) out₀
-        → Tells (Going cur) out (whole r n fs level limit (length out₀ / 36) (monomialsOf set) m d (st₀ .steps) finds)
+        → Tells (Going cur) out (whole r n fs level limit (length out₀ / setBytes) (monomialsOf set) m d (st₀ .steps) finds)
     running-end l d finds h sh =
         let x = u .stands d finds h sh in
-        record { finds = x .finds; shown = x .shown; is = stands-end r n fs level limit (length out₀ / 36) (monomialsOf set) m x (u .divisor) l }
+        record { finds = x .finds; shown = x .shown; is = stands-end r n fs level limit (length out₀ / setBytes) (monomialsOf set) m x (u .divisor) l }
 
     module _ (p : m ≡ one (length m) → ⊥) (l : T (leads m a)) where
       pub running-spent : limit ≤ cur .steps → (d : ℕ) (finds : Finds) → level - set .len ≤ d → Shown finds (st₀ .count) out₀
-          → whole r n fs level limit (length out₀ / 36) (monomialsOf set) m d (st₀ .steps) finds ≡ spent
-      running-spent k d finds h sh = stands-spent r n fs level limit (length out₀ / 36) (monomialsOf set) m (u .stands d finds h sh) (u .divisor) p l k
+          → whole r n fs level limit (length out₀ / setBytes) (monomialsOf set) m d (st₀ .steps) finds ≡ spent
+      running-spent k d finds h sh = stands-spent r n fs level limit (length out₀ / setBytes) (monomialsOf set) m (u .stands d finds h sh) (u .divisor) p l k
 
       pub running-shut : (cur' : State) → cur' .steps ≡ cur .steps + 1 → cur' .count ≡ cur .count → cur .steps < limit
           → opens r n level (monomialsOf set) (a, quo m a) ≡ false → Running (next m a) cur' out
       running-shut cur' e c k b = record {
         divisor = next-divides a m (u .divisor);
         long = u .long;
-        stands = λ d finds h sh. rw (e, c) (stands-shut r n fs level limit (length out₀ / 36) (monomialsOf set) m (u .stands d finds h sh) (u .divisor) p l k b);
+        stands = λ d finds h sh. rw (e, c) (stands-shut r n fs level limit (length out₀ / setBytes) (monomialsOf set) m (u .stands d finds h sh) (u .divisor) p l k b);
       }
 
       -- the child was opened, and its turn was told for every depth and finds
       module _ (size : ℕ) (few : set .len < size) (low : set .len < level) (k : cur .steps < limit) (b : opens r n level (monomialsOf set) (a, quo m a) ≡ true) where
         abbrev opened-child : ℕ → Finds → Run
-        opened-child d finds = run limit (length out₀ / 36) (opened r n fs level d (child n (monomialsOf set) (a, quo m a))) (cur .steps + 1) finds
+        opened-child d finds = run limit (length out₀ / setBytes) (opened r n fs level d (child n (monomialsOf set) (a, quo m a))) (cur .steps + 1) finds
 
         abbrev pub Told : Turn → List ℕ → Type 0
         Told turn out' = (d : ℕ) (finds : Finds) → level - size < d → Shown finds (cur .count) out → Tells turn out' (opened-child d finds)
@@ -273,25 +275,25 @@ module _ (r : Rules) (n : ℕ) (terms : List ℕ) (level limit : ℕ) (set : Set
           long = e ∙ u .long;
           stands = λ d finds h sh.
               let x = u .stands d finds h sh in
-              stands-going r n fs level limit (length out₀ / 36) (monomialsOf set) m x (u .divisor) p l k b cur' out' (f d (x .finds) (omega arith) (x .shown));
+              stands-going r n fs level limit (length out₀ / setBytes) (monomialsOf set) m x (u .divisor) p l k b cur' out' (f d (x .finds) (omega arith) (x .shown));
         }
 
         pub running-child-spent : (out' : List ℕ) → Told Spent out' → (d : ℕ) (finds : Finds) → level - set .len ≤ d → Shown finds (st₀ .count) out₀
-            → whole r n fs level limit (length out₀ / 36) (monomialsOf set) m d (st₀ .steps) finds ≡ spent
+            → whole r n fs level limit (length out₀ / setBytes) (monomialsOf set) m d (st₀ .steps) finds ≡ spent
         running-child-spent out' f d finds h sh =
             let x = u .stands d finds h sh in
-            stands-child-spent r n fs level limit (length out₀ / 36) (monomialsOf set) m x (u .divisor) p l k b (f d (x .finds) (omega arith) (x .shown))
+            stands-child-spent r n fs level limit (length out₀ / setBytes) (monomialsOf set) m x (u .divisor) p l k b (f d (x .finds) (omega arith) (x .shown))
 
         pub running-child-full : (t : ℕ) (out' : List ℕ) → Told (Full t) out' → (d : ℕ) (finds : Finds) → level - set .len ≤ d → Shown finds (st₀ .count) out₀
-            → whole r n fs level limit (length out₀ / 36) (monomialsOf set) m d (st₀ .steps) finds ≡ full t
+            → whole r n fs level limit (length out₀ / setBytes) (monomialsOf set) m d (st₀ .steps) finds ≡ full t
         running-child-full t out' f d finds h sh =
             let x = u .stands d finds h sh in
-            stands-child-full r n fs level limit (length out₀ / 36) (monomialsOf set) m x (u .divisor) p l k b t (f d (x .finds) (omega arith) (x .shown))
+            stands-child-full r n fs level limit (length out₀ / setBytes) (monomialsOf set) m x (u .divisor) p l k b t (f d (x .finds) (omega arith) (x .shown))
 
 -- ---- a set of the walk fits the tables of its signals
-pub walked-fitting : (s : List Mono) → Walked s → Fitting 54 s
-walked-fitting s w m h = (w .recorded .wide m h, walked-54 s w m h)
+pub walked-fitting : (s : List Mono) → Walked s → Fitting setExponent s
+walked-fitting s w m h = (w .recorded .wide m h, walked-fits s w m h)
 
 -- of V, told by its maker
-pub signals-fit : (b n : ℕ) (v s : List Mono) → 54 ≤ b → v ≡ signals 6 n s → Walked s → Fitting b v
-signals-fit b n v s h e w = subst (Fitting b) (sym e) (fitting-weaken 54 b (signals 6 n s) h (signals-fitting 54 n s (omega arith) (walked-fitting s w)))
+pub signals-fit : (b n : ℕ) (v s : List Mono) → setExponent ≤ b → v ≡ signals width n s → Walked s → Fitting b v
+signals-fit b n v s h e w = subst (Fitting b) (sym e) (fitting-weaken setExponent b (signals width n s) h (signals-fitting setExponent n s (omega arith) (walked-fitting s w)))

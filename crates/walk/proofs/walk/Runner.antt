@@ -8,17 +8,17 @@ use native.Mathlib.Omega.{arith}
 use borrow.Author.Tests.{leb-true}
 use lib.Dec.{T, T-not}
 use lib.ListN.{length}
-use Rattle.monomial.specs.Monomial.{Mono, one}
+use Rattle.monomial.specs.Monomial.{Mono, one, width}
 use Rattle.monomial.specs.Quotient.{quo, divides}
 use Rattle.monomial.specs.Divisors.{leads, next, pairs, divisors}
 use Rattle.monomial.specs.Order.{before}
-use Rattle.monomial.proofs.Members.{_∈_, here}
-use Rattle.monomial.proofs.order.Laws.{mono-order}
-use Rattle.monomial.proofs.order.Ascending.{from}
+use Rattle.monomial.specs.Claims.{_∈_, from}
+use Rattle.monomial.proofs.Members.{here}
 use Rattle.monomial.proofs.product.Laws.{mul-one}
 use Rattle.monomial.proofs.quotient.Laws.{divides-length, mul-quo, quo-divides}
 use Rattle.monomial.proofs.divisors.Following.{divisors-next}
 use Rattle.monomial.proofs.divisors.Pairs.{pairs-in, leads-last}
+use Rattle.wiring.specs.Panel.{cards, setBytes}
 use Rattle.wiring.specs.Choice.{chosen}
 use Rattle.wiring.specs.Terms.{records, system}
 use Rattle.wiring.specs.Sets.{monomialsOf}
@@ -29,7 +29,7 @@ use Rattle.walk.specs.declared.walk.State.{State}
 use Rattle.walk.specs.declared.walk.Turn.{Turn}
 use Rattle.walk.specs.Walk.{Finds, Rules, child, Step, triedAll, opened, run}
 use Rattle.walk.specs.Listing.{Shown}
-use Rattle.walk.specs.Turns.{Child, Tells, Sheet, Ready, Split, Splits}
+use Rattle.walk.specs.Turns.{Child, Tells, Showing, Ready, PairsFollow, Splits}
 use Rattle.walk.proofs.Rules.{below-its-level}
 use Rattle.walk.proofs.children.Laws.{not-both, split-longer, nonsquare-fits, child-walked}
 use Rattle.walk.proofs.walk.Laws.{open-tells, choice-member}
@@ -42,22 +42,22 @@ pair-member a m t l =
 
 -- fewer divisors are left behind a divisor that leads
 pub fewer-left : (a m b : Mono) → T (divides a m) → (m ≡ one (length m) → ⊥) → T (leads m a) → b ≡ next m a
-    → length (from mono-order b (divisors m)) < length (from mono-order a (divisors m))
+    → length (from before b (divisors m)) < length (from before a (divisors m))
 fewer-left a m b t p l e =
     let turn = ap length (divisors-next a m t (leads-last a m p l)) in
-    let same = ap (λ (x : Mono). length (from mono-order x (divisors m))) e in
+    let same = ap (λ (x : Mono). length (from before x (divisors m))) e in
     omega arith
 
 module _ (n : ℕ) (terms : List ℕ) (level : ℕ) (set : Set) (m : Mono) (count : ℕ) (out₀ : List ℕ)
     (ready : Ready n terms level set count out₀) (splits : Splits n terms level set m) where
   -- six exponents, and not 1: 1 is the product of 1 and 1, so it is in V2
-  pub gap-wide : length m ≡ 6
+  pub gap-wide : length m ≡ width
   gap-wide = nonsquare-fits terms (ready .clean) n (monomialsOf set) (ready .walked) m (splits .member) .0
 
   pub gap-proper : m ≡ one (length m) → ⊥
   gap-proper e =
-      let is : m ≡ one 6 = e ∙ ap one gap-wide in
-      not-both n (system (records terms)) (monomialsOf set) m (splits .member) (one 6, one 6) (mul-one (one 6) ∙ sym is)
+      let is : m ≡ one width = e ∙ ap one gap-wide in
+      not-both n (system (records terms)) (monomialsOf set) m (splits .member) (one width, one width) (mul-one (one width) ∙ sym is)
       (base-in n (monomialsOf set) here, base-in n (monomialsOf set) here)
 
   module _ (a : Mono) (t : T (divides a m)) (l : T (leads m a)) (r : Tried)
@@ -75,11 +75,11 @@ module _ (n : ℕ) (terms : List ℕ) (level : ℕ) (set : Set) (m : Mono) (coun
         let h = leb-true (length (child n (monomialsOf set) (a, quo m a))) level (sym (c .go) ∙ go) in
         omega arith
 
-    pub child-ready : (count' : ℕ) (out : List ℕ) → Sheet count' out → Ready n terms level (r .set) count' out
-    child-ready count' out sheet =
+    pub child-ready : (count' : ℕ) (out : List ℕ) → Showing count' out → Ready n terms level (r .set) count' out
+    child-ready count' out showing =
         let e : r .set .len ≡ length (child n (monomialsOf set) (a, quo m a)) = c .size go in
         let h : r .set .len ≤ level = child-within in
-        let few : length (child n (monomialsOf set) (a, quo m a)) ≤ 6 = omega (arith, ready .low) in
+        let few : length (child n (monomialsOf set) (a, quo m a)) ≤ cards = omega (arith, ready .low) in
         let w = child-walked terms (ready .clean) n (monomialsOf set) (ready .walked) m (splits .member) (a, quo m a) (pair-member a m t l) few in
         record {
           size = e ∙ sym (ap length (c .is go));
@@ -88,25 +88,25 @@ module _ (n : ℕ) (terms : List ℕ) (level : ℕ) (set : Set) (m : Mono) (coun
           few = ready .few;
           clean = ready .clean;
           walked = rw (c .is go) w;
-          sheet = sheet;
+          showing = showing;
         }
 
 -- what the opener says of the child, in the words of the runner
 pub told-as : (r : Rules) (n : ℕ) (terms : List ℕ) (level limit steps count : ℕ) (t : Tried) (s : List Mono) (out₀ out out' : List ℕ) (turn turn' : Turn)
     → monomialsOf (t .set) ≡ s → length out ≡ length out₀ → turn ≡ turn'
     → ((d : ℕ) (finds : Finds) → level - t .set .len < d → Shown finds count out
-    → Tells turn out' (run limit (length out / 36) (opened r n (system (records terms)) level d (monomialsOf (t .set))) steps finds))
+    → Tells turn out' (run limit (length out / setBytes) (opened r n (system (records terms)) level d (monomialsOf (t .set))) steps finds))
     → (d : ℕ) (finds : Finds) → level - t .set .len < d → Shown finds count out
-    → Tells turn' out' (run limit (length out₀ / 36) (opened r n (system (records terms)) level d s) steps finds)
+    → Tells turn' out' (run limit (length out₀ / setBytes) (opened r n (system (records terms)) level d s) steps finds)
 told-as r n terms level limit steps count t s out₀ out out' turn turn' e k same f d finds h sh =
     subst (λ (u : Turn). said u (length out₀) s) same (subst (λ (b : ℕ). said turn b s) k (subst (said turn (length out)) e (f d finds h sh)))
   where
     said : Turn → ℕ → List Mono → Type 0
-    said u size x = Tells u out' (run limit (size / 36) (opened r n (system (records terms)) level d x) steps finds)
+    said u size x = Tells u out' (run limit (size / setBytes) (opened r n (system (records terms)) level d x) steps finds)
 
 -- what the runner says of the pairs, in the words of the opener
 module _ (r : Rules) (n : ℕ) (terms : List ℕ) (level limit : ℕ) (set : Set) (st : State) (out₀ : List ℕ) (ready : Ready n terms level set (st .count) out₀)
-    (m : Mono) (out : List ℕ) (sp : Split r n terms level limit set st out₀ m out) where
+    (m : Mono) (out : List ℕ) (sp : PairsFollow r n terms level limit set st out₀ m out) where
   pub split-member : Splits n terms level set m
   split-member = record {
     below = omega (arith, ready .size, below-its-level r n level (monomialsOf set) (sp .first ∷ sp .others) (sp .on));
@@ -121,15 +121,15 @@ module _ (r : Rules) (n : ℕ) (terms : List ℕ) (level limit : ℕ) (set : Set
   split-steps d y = triedAll r n (system (records terms)) level (opened r n (system (records terms)) level d) (monomialsOf set) y
 
   pub split-tells : (turn : Turn) (out' : List ℕ)
-      → ((d : ℕ) (finds : Finds) → level - set .len ≤ d → Shown finds (st .count) out → Tells turn out' (run limit (length out / 36) (split-steps d m) (st .steps + 1) finds))
+      → ((d : ℕ) (finds : Finds) → level - set .len ≤ d → Shown finds (st .count) out → Tells turn out' (run limit (length out / setBytes) (split-steps d m) (st .steps + 1) finds))
       → (d : ℕ) (finds : Finds) → level - set .len < d → Shown finds (st .count) out₀
-      → Tells turn out' (run limit (length out₀ / 36) (opened r n (system (records terms)) level d (monomialsOf set)) (st .steps) finds)
+      → Tells turn out' (run limit (length out₀ / setBytes) (opened r n (system (records terms)) level d (monomialsOf set)) (st .steps) finds)
   split-tells turn out' f d finds h sh =
-      open-tells r n (system (records terms)) level limit (length out₀ / 36) (st .steps) finds (monomialsOf set) d (set .len) (sp .first) (sp .others) turn out'
+      open-tells r n (system (records terms)) level limit (length out₀ / setBytes) (st .steps) finds (monomialsOf set) d (set .len) (sp .first) (sp .others) turn out'
       h (sp .taken) (sp .are) (sp .on) (λ g k. follows g (f g finds k))
     where
       said : List ℕ → Mono → ℕ → Type 0
-      said o y g = Tells turn out' (run limit (length o / 36) (split-steps g y) (st .steps + 1) finds)
+      said o y g = Tells turn out' (run limit (length o / setBytes) (split-steps g y) (st .steps + 1) finds)
 
       follows : (g : ℕ) → (Shown finds (st .count) out → said out m g) → said out₀ (chosen (sp .first) (sp .others)) g
       follows g q = subst (λ (y : Mono). said out₀ y g) (sp .is) (subst (λ (o : List ℕ). Shown finds (st .count) o → said o m g) (sp .kept) q sh)

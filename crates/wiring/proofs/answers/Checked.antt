@@ -2,11 +2,12 @@
 -- derivative has x^5. So no one reply keeps the promise of checking for all inputs. Assumes nothing.
 use mathlib.Core.Path.{_≡_, refl, sym, ap, _∙_}
 use mathlib.Core.List.{List, [], _∷_}
-use Prim.Native.Nat.{ℕ}
+use Prim.Native.Nat.{ℕ, _-_}
 use native.Mathlib.Omega.{arith}
 use lib.ListN.{replicate}
 use Rattle.monomial.specs.Lists.{any, some, all, keep, place, gather, below, pairwise, pointwise, dictionary, insertBy, arrangeBy}
 use Rattle.monomial.specs.Monomial.{vars}
+use Rattle.wiring.specs.Panel.{setBytes}
 use Rattle.wiring.specs.declared.reply.Reply.{Reply}
 use Rattle.wiring.specs.Reply.{Numbers, numbers, five}
 use Rattle.wiring.specs.Coefficient.{signed, isZero}
@@ -23,7 +24,7 @@ abbrev pub xTo : ℕ → List ℕ
 xTo e = 1 ∷ 0 ∷ e ∷ 0 ∷ 0 ∷ 0 ∷ 0 ∷ 0 ∷ 1 ∷ 0 ∷ 0 ∷ 0 ∷ []
 
 abbrev pub xSquared : List ℕ
-xSquared = 2 ∷ replicate 35 0
+xSquared = 2 ∷ replicate (setBytes - 1) 0
 
 pub record TwoSystems : Type 0 where
   pub cubic : checked 1 (xTo 3) xSquared ≡ five 0 1 0 0 0

@@ -8,81 +8,43 @@ use Prim.Native.Nat.{ℕ, _+_, _≤_}
 use native.Mathlib.Omega.{arith}
 use borrow.Author.Tests.{eqb-true, eqb-false}
 use lib.Dec.{T, eqb, leb, leb→le, le→leb}
-use lib.IntN.{pos}
 use lib.ListN.{length, getD}
 use Rattle.monomial.specs.Lists.{some}
-use Rattle.monomial.specs.Monomial.{Mono}
+use Rattle.monomial.specs.Monomial.{Mono, width}
 use Rattle.monomial.proofs.Tests.{Tested, passed, failed, test, T→is, nT→is, is→T, is→nT, and-l, and-r, and-i}
 use Rattle.monomial.proofs.Members.{some-none}
 use Rattle.monomial.proofs.Counting.{at-in}
 use Rattle.monomial.proofs.order.Laws.{mono-order}
+use Rattle.wiring.specs.Panel.{setBytes}
 use Rattle.wiring.specs.declared.reply.Reply.{Reply}
 use Rattle.wiring.specs.declared.reply.Reply.the-variants.{Done, Setting, Length, Term, Twice, Nothing, Full, Spent, BadSet, NotQuadratic}
 use Rattle.wiring.specs.declared.terms.Fault.{Fault}
 use Rattle.wiring.specs.declared.terms.Fault.the-variants.{Clean, Wrong, Repeated}
 use Rattle.wiring.specs.Reply.{numbers}
 use Rattle.wiring.specs.Poly.{Poly, plain}
-use Rattle.wiring.specs.Derivative.{derivative}
 use Rattle.wiring.specs.Quadratic.{Quadratic}
-use Rattle.wiring.specs.Signals.{signals}
-use Rattle.wiring.specs.Terms.{Record, records, lengthRight, fault, system}
+use Rattle.wiring.specs.Terms.{records, lengthRight, fault, system}
 use Rattle.wiring.specs.Sets.{setOf, setRight}
 use Rattle.wiring.specs.Answers.{unlessFault, countRight, missing, firstUnmet, judged, recordJudged, verdict, checked}
+use Rattle.wiring.specs.Claims.{Measured, Breaks, Repeats, Flawless, Ranged, Lengths, beyond, WellFormed, signalsIn, derivativeIn, CheckSays, FirstUnlinked, RightRecord}
 use Rattle.wiring.proofs.reply.Laws.{same-reply}
-use Rattle.wiring.proofs.terms.Exact.{Measured, length-exact, Breaks, Repeats, Flawless, wrong-exact, repeated-exact, clean-exact}
-use Rattle.wiring.proofs.sets.Exact.{RightRecord, right-iff}
-use Rattle.wiring.proofs.quadratic.Definition1.{definition1, FirstUnlinked, first-unlinked, first-unlinked-one, first-unlinked-raised}
+use Rattle.wiring.proofs.terms.Exact.{length-exact, wrong-exact, repeated-exact, clean-exact}
+use Rattle.wiring.proofs.sets.Exact.{right-iff}
+use Rattle.wiring.proofs.quadratic.Definition1.{definition1, first-unlinked, first-unlinked-one, first-unlinked-raised}
 use Rattle.wiring.proofs.signals.Laws.{signals-length}
 use Rattle.wiring.proofs.answers.Laws.{judged-not, said-setting, said-terms-length, said-set-length, said-rest, record-bad, record-right, is-verdict}
 
 -- ---- the facts
-abbrev pub Ranged : ℕ → Type 0
-Ranged n = (1 ≤ n) × (n ≤ 6)
-
 pub count-in : (n : ℕ) → Ranged n → countRight n ≡ true
 unfolding countRight
-count-in n r = T→is (leb 1 n && leb n 6) (and-i (leb 1 n) (leb n 6) (le→leb 1 n (r .0)) (le→leb n 6 (r .1)))
+count-in n r = T→is (leb 1 n && leb n width) (and-i (leb 1 n) (leb n width) (le→leb 1 n (r .0)) (le→leb n width (r .1)))
 
 pub count-out : (n : ℕ) → T (countRight n) → Ranged n
 unfolding countRight
-count-out n t = (leb→le 1 n (and-l (leb 1 n) (leb n 6) t), leb→le n 6 (and-r (leb 1 n) (leb n 6) t))
-
-pub record Lengths (terms set : List ℕ) : Type 0 where
-  pub measured : Measured terms
-  pub long : length set ≡ 36
-
--- stands for a record beyond the last, of which nothing is said
-abbrev pub beyond : Record
-beyond = record { equation = 0; blank = 0; monomial = []; coefficient = pos 0 }
-
--- what all three have to be for a set to be judged
-pub record WellFormed (n : ℕ) (terms set : List ℕ) : Type 0 where
-  pub ranged : Ranged n
-  pub lengths : Lengths terms set
-  pub flawless : Flawless n (records terms) beyond
-  pub right : RightRecord n set
-
--- the signals of the set, and the derivation of the system
-abbrev pub signalsIn : ℕ → List ℕ → List Mono
-signalsIn n set = signals 6 n (setOf set)
-
-abbrev pub derivativeIn : List ℕ → Mono → Poly Mono
-derivativeIn terms = derivative plain (system (records terms))
+count-out n t = (leb→le 1 n (and-l (leb 1 n) (leb n width) t), leb→le n width (and-r (leb 1 n) (leb n width) t))
 
 -- ---- what each reply of checking says
 module _ (n : ℕ) (terms set : List ℕ) where
-  abbrev pub CheckSays : Reply → Type 0
-  CheckSays Setting = Ranged n → ⊥
-  CheckSays Length = Ranged n × ((Measured terms → ⊥) ⊎ (length set ≡ 36 → ⊥))
-  CheckSays (Term p) = Ranged n × Lengths terms set × Breaks n (records terms) beyond p
-  CheckSays (Twice p) = Ranged n × Lengths terms set × Repeats n (records terms) beyond p
-  CheckSays BadSet = Ranged n × Lengths terms set × Flawless n (records terms) beyond × (RightRecord n set → ⊥)
-  CheckSays (NotQuadratic o p) = WellFormed n terms set × (o ≡ length (setOf set)) × FirstUnlinked plain mono-order (signalsIn n set) (derivativeIn terms) [] p
-  CheckSays (Done o c k) = WellFormed n terms set × (o ≡ length (setOf set)) × (c ≡ 0) × (k ≡ 0) × Quadratic plain (signalsIn n set) (derivativeIn terms)
-  CheckSays (Nothing o k) = ⊥
-  CheckSays (Full o k) = ⊥
-  CheckSays (Spent o k) = ⊥
-
   abbrev fs : List (Poly Mono)
   fs = system (records terms)
 
@@ -109,7 +71,7 @@ module _ (n : ℕ) (terms set : List ℕ) where
   Meets = Quadratic plain (signalsIn n set) (derivativeIn terms)
 
   abbrev First : ℕ → Type 0
-  First p = FirstUnlinked plain mono-order (signalsIn n set) (derivativeIn terms) [] p
+  First p = FirstUnlinked plain (signalsIn n set) (derivativeIn terms) [] p
 
   quadratic-done : Meets → judged n fs s ≡ Done (length s) 0 0
   unfolding judged some
@@ -141,14 +103,14 @@ module _ (n : ℕ) (terms set : List ℕ) where
   unmeasured : Ranged n → (Measured terms → ⊥) → verdict n terms set ≡ Length
   unmeasured r f = said-terms-length n terms set (count-in n r) (nT→is (lengthRight terms) (λ t. f (length-exact terms .0 (T→is (lengthRight terms) t))))
 
-  misfit : Ranged n → (length set ≡ 36 → ⊥) → verdict n terms set ≡ Length
+  misfit : Ranged n → (length set ≡ setBytes → ⊥) → verdict n terms set ≡ Length
   misfit r f = go (test (lengthRight terms))
     where
       go : Tested (lengthRight terms) → verdict n terms set ≡ Length
       go (failed e) = said-terms-length n terms set (count-in n r) e
       go (passed e) = said-set-length n terms set (count-in n r) e f
 
-  said : (r : Reply) → CheckSays r → verdict n terms set ≡ r
+  said : (r : Reply) → CheckSays n terms set r → verdict n terms set ≡ r
   said Setting h = said-setting n terms set (nT→is (countRight n) (λ t. h (count-out n t)))
   said Length h = ⊎-elim (unmeasured (h .0)) (misfit (h .0)) (h .1)
   said (Term p) h = said-fault (h .0) (h .1) (Wrong p) (wrong-exact n (records terms) beyond p .1 (h .2))
@@ -164,7 +126,7 @@ module _ (n : ℕ) (terms set : List ℕ) where
   -- ---- and one of them holds
   record Told : Type 0 where
     reply : Reply
-    holds : CheckSays reply
+    holds : CheckSays n terms set reply
 
   told-set : WellFormed n terms set → Told
   told-set w = go (test (some (missing n fs s)))
@@ -192,13 +154,13 @@ module _ (n : ℕ) (terms set : List ℕ) where
       go (failed t) = record { reply = BadSet; holds = (r, l, clean, λ q. is→nT (setRight n set) t (right-iff n set .1 q)) }
 
   told-lengths : Ranged n → Told
-  told-lengths r = go (test (lengthRight terms)) (test (eqb (length set) 36))
+  told-lengths r = go (test (lengthRight terms)) (test (eqb (length set) setBytes))
     where
-      go : Tested (lengthRight terms) → Tested (eqb (length set) 36) → Told
+      go : Tested (lengthRight terms) → Tested (eqb (length set) setBytes) → Told
       go (failed e) q = record { reply = Length; holds = (r, inl (λ m. is→nT (lengthRight terms) e (is→T (lengthRight terms) (length-exact terms .1 m)))) }
-      go (passed e) (failed q) = record { reply = Length; holds = (r, inr (eqb-false (length set) 36 q)) }
+      go (passed e) (failed q) = record { reply = Length; holds = (r, inr (eqb-false (length set) setBytes q)) }
       go (passed e) (passed q) =
-          told-fault r (record { measured = length-exact terms .0 e; long = eqb-true (length set) 36 q }) (fault n (records terms)) refl
+          told-fault r (record { measured = length-exact terms .0 e; long = eqb-true (length set) setBytes q }) (fault n (records terms)) refl
 
   told : Told
   told = go (test (countRight n))
@@ -208,17 +170,17 @@ module _ (n : ℕ) (terms set : List ℕ) where
       go (failed e) = record { reply = Setting; holds = λ r. is→nT (countRight n) e (is→T (countRight n) (count-in n r)) }
 
   -- ---- what is said holds: one of the seven cases, since the other three hold of nothing
-  pub verdict-says : CheckSays (verdict n terms set)
-  verdict-says = subst CheckSays (sym (said (told .reply) (told .holds))) (told .holds)
+  pub verdict-says : CheckSays n terms set (verdict n terms set)
+  verdict-says = subst (CheckSays n terms set) (sym (said (told .reply) (told .holds))) (told .holds)
 
-  pub verdict-exact : (r : Reply) → (verdict n terms set ≡ r) ↔ CheckSays r
-  verdict-exact r = ((λ e. subst CheckSays e verdict-says), said r)
+  pub verdict-exact : (r : Reply) → (verdict n terms set ≡ r) ↔ CheckSays n terms set r
+  verdict-exact r = ((λ e. subst (CheckSays n terms set) e verdict-says), said r)
 
   -- ---- the seven, one by one
-  pub says-setting : (verdict n terms set ≡ Setting) ↔ ((1 ≤ n) × (n ≤ 6) → ⊥)
+  pub says-setting : (verdict n terms set ≡ Setting) ↔ ((1 ≤ n) × (n ≤ width) → ⊥)
   says-setting = verdict-exact Setting
 
-  pub says-length : (verdict n terms set ≡ Length) ↔ (Ranged n × ((Measured terms → ⊥) ⊎ (length set ≡ 36 → ⊥)))
+  pub says-length : (verdict n terms set ≡ Length) ↔ (Ranged n × ((Measured terms → ⊥) ⊎ (length set ≡ setBytes → ⊥)))
   says-length = verdict-exact Length
 
   pub says-term : (p : ℕ) → (verdict n terms set ≡ Term p) ↔ (Ranged n × Lengths terms set × Breaks n (records terms) beyond p)
@@ -231,7 +193,7 @@ module _ (n : ℕ) (terms set : List ℕ) where
   says-set = verdict-exact BadSet
 
   pub says-not-quadratic : (o p : ℕ) → (verdict n terms set ≡ NotQuadratic o p)
-      ↔ (WellFormed n terms set × (o ≡ length (setOf set)) × FirstUnlinked plain mono-order (signalsIn n set) (derivativeIn terms) [] p)
+      ↔ (WellFormed n terms set × (o ≡ length (setOf set)) × FirstUnlinked plain (signalsIn n set) (derivativeIn terms) [] p)
   says-not-quadratic o p = verdict-exact (NotQuadratic o p)
 
   pub says-done : (o c k : ℕ) → (verdict n terms set ≡ Done o c k)
@@ -244,10 +206,10 @@ module _ (n : ℕ) (terms set : List ℕ) where
       let h = says-not-quadratic o p .0 e in
       let m = h .0 .ranged .1 in
       let l = signals-length n (setOf set) m in
-      (first-unlinked-raised 6 n fs s p (h .2), omega (arith, h .2 .below))
+      (first-unlinked-raised width n fs s p (h .2), omega (arith, h .2 .below))
 
   -- ---- the contract of `check`: a reply keeps it exactly where what it says holds, and there is one such reply
-  pub check-exact : (r : Reply) → (numbers r ≡ checked n terms set) ↔ CheckSays r
+  pub check-exact : (r : Reply) → (numbers r ≡ checked n terms set) ↔ CheckSays n terms set r
   unfolding checked
   check-exact r = ((λ e. verdict-exact r .0 (is-verdict n terms set r e)), (λ h. ap numbers (sym (said r h))))
 

@@ -8,11 +8,13 @@ use borrow.Author.Tests.{eq-eqb, ne-eqb, le-leb, lt-leb}
 use lib.Dec.{T, eqb, leb, leb→le, eqb→eq}
 use lib.ListN.{length, getD, replicate}
 use Rattle.monomial.specs.Lists.{any, some, place, gather}
-use Rattle.monomial.specs.Monomial.{Mono}
+use Rattle.monomial.specs.Monomial.{Mono, width}
+use Rattle.monomial.specs.Claims.{_∈_}
 use Rattle.monomial.proofs.Tests.{and-l, and-r, T→is, nT→is, is→T, is→nT, Tested, passed, failed, test}
 use Rattle.monomial.proofs.Counting.{place-lt, place-any}
-use Rattle.monomial.proofs.Members.{_∈_, some-none}
+use Rattle.monomial.proofs.Members.{some-none}
 use Rattle.monomial.proofs.order.Laws.{mono-order}
+use Rattle.wiring.specs.Panel.{setBytes, setExponent, wireBytes}
 use Rattle.wiring.specs.declared.reply.Reply.{Reply}
 use Rattle.wiring.specs.declared.reply.Reply.the-variants.{Done, Setting, Length, Full, BadSet, NotQuadratic}
 use Rattle.wiring.specs.declared.terms.Fault.{Fault}
@@ -36,29 +38,29 @@ use Rattle.wiring.proofs.terms.Laws.{clean-widens}
 module _ (n : ℕ) (fs : List (Poly Mono)) (s : List Mono) where
   -- whether a signal's derivative has a nonsquare
   abbrev bad : Mono → Bool
-  bad z = some (unmet plain (signals 6 n s) (derivative plain fs z))
+  bad z = some (unmet plain (signals width n s) (derivative plain fs z))
 
-  some-missing : some (missing n fs s) ≡ any bad (signals 6 n s)
-  some-missing = some-nonsquares plain mono-order (signals 6 n s) (derivative plain fs)
+  some-missing : some (missing n fs s) ≡ any bad (signals width n s)
+  some-missing = some-nonsquares plain mono-order (signals width n s) (derivative plain fs)
 
-  pub first-as : (v : List Mono) (at : ℕ) → v ≡ signals 6 n s → at ≡ place (λ z. some (unmet plain v (derivative plain fs z))) v → at ≡ firstUnmet n fs s
+  pub first-as : (v : List Mono) (at : ℕ) → v ≡ signals width n s → at ≡ place (λ z. some (unmet plain v (derivative plain fs z))) v → at ≡ firstUnmet n fs s
   unfolding firstUnmet
   first-as v at e h = h ∙ ap (λ (l : List Mono). place (λ z. some (unmet plain l (derivative plain fs z))) l) e
 
   -- the loop's answer is a signal's number, or that of none
-  pub first-some : (at : ℕ) → at ≡ firstUnmet n fs s → at < length (signals 6 n s) → some (missing n fs s) ≡ true
+  pub first-some : (at : ℕ) → at ≡ firstUnmet n fs s → at < length (signals width n s) → some (missing n fs s) ≡ true
   unfolding firstUnmet
-  first-some at e h = some-missing ∙ T→is (any bad (signals 6 n s)) (place-any bad (signals 6 n s) (omega arith))
+  first-some at e h = some-missing ∙ T→is (any bad (signals width n s)) (place-any bad (signals width n s) (omega arith))
 
-  pub first-none : (at : ℕ) → at ≡ firstUnmet n fs s → length (signals 6 n s) ≤ at → some (missing n fs s) ≡ false
+  pub first-none : (at : ℕ) → at ≡ firstUnmet n fs s → length (signals width n s) ≤ at → some (missing n fs s) ≡ false
   unfolding firstUnmet
-  first-none at e h = some-missing ∙ nT→is (any bad (signals 6 n s)) (λ t. let l = place-lt bad (signals 6 n s) t in omega arith)
+  first-none at e h = some-missing ∙ nT→is (any bad (signals width n s)) (λ t. let l = place-lt bad (signals width n s) t in omega arith)
 
-  pub judged-not : (at : ℕ) → at ≡ firstUnmet n fs s → at < length (signals 6 n s) → NotQuadratic (length s) at ≡ judged n fs s
+  pub judged-not : (at : ℕ) → at ≡ firstUnmet n fs s → at < length (signals width n s) → NotQuadratic (length s) at ≡ judged n fs s
   unfolding judged
   judged-not at e h = rw (first-some at e h) (ap (NotQuadratic (length s)) e)
 
-  pub judged-done : (at : ℕ) → at ≡ firstUnmet n fs s → length (signals 6 n s) ≤ at → Done (length s) 0 0 ≡ judged n fs s
+  pub judged-done : (at : ℕ) → at ≡ firstUnmet n fs s → length (signals width n s) ≤ at → Done (length s) 0 0 ≡ judged n fs s
   unfolding judged
   judged-done at e h = rw (first-none at e h)
 
@@ -79,20 +81,20 @@ module _ (n : ℕ) (fs : List (Poly Mono)) (s : List Mono) where
       go (failed p) = let q : Done (length s) 0 0 ≡ Done o c k = rw p at e in cc
 
   -- every monomial of every derivative is then in V2
-  pub none-met : missing n fs s ≡ [] → Met plain (signals 6 n s) (derivative plain fs)
-  none-met e z m hz hm = go (test (inV2 plain (signals 6 n s) m))
+  pub none-met : missing n fs s ≡ [] → Met plain (signals width n s) (derivative plain fs)
+  none-met e z m hz hm = go (test (inV2 plain (signals width n s) m))
     where
-      go : Tested (inV2 plain (signals 6 n s) m) → T (inV2 plain (signals 6 n s) m)
-      go (passed p) = is→T (inV2 plain (signals 6 n s) m) p
+      go : Tested (inV2 plain (signals width n s) m) → T (inV2 plain (signals width n s) m)
+      go (passed p) = is→T (inV2 plain (signals width n s) m) p
       go (failed p) =
-          let u = unmet-in plain mono-order (signals 6 n s) (derivative plain fs z) m hm (is→nT (inV2 plain (signals 6 n s) m) p) in
-          let l = nonsquares-in plain mono-order (signals 6 n s) (derivative plain fs) z m hz u in
+          let u = unmet-in plain mono-order (signals width n s) (derivative plain fs z) m hm (is→nT (inV2 plain (signals width n s) m) p) in
+          let l = nonsquares-in plain mono-order (signals width n s) (derivative plain fs) z m hz u in
           absurd (List·Memᴰ·not-nil (subst (λ (r : List Mono). m ∈ r) e l))
 
 -- ---- the checks in their order
-pub count-few : (n : ℕ) → countRight n ≡ true → n ≤ 6
+pub count-few : (n : ℕ) → countRight n ≡ true → n ≤ width
 unfolding countRight
-count-few n e = leb→le n 6 (and-r (leb 1 n) (leb n 6) (is→T (leb 1 n && leb n 6) e))
+count-few n e = leb→le n width (and-r (leb 1 n) (leb n width) (is→T (leb 1 n && leb n width) e))
 
 module _ (n : ℕ) (terms set : List ℕ) where
   abbrev fs : List (Poly Mono)
@@ -107,13 +109,13 @@ module _ (n : ℕ) (terms set : List ℕ) where
     unfolding verdict
     said-terms-length h = rw (e, h)
 
-    pub said-set-length : lengthRight terms ≡ true → (length set ≡ 36 → ⊥) → verdict n terms set ≡ Length
+    pub said-set-length : lengthRight terms ≡ true → (length set ≡ setBytes → ⊥) → verdict n terms set ≡ Length
     unfolding verdict
-    said-set-length h k = rw (e, h, ne-eqb (length set) 36 k)
+    said-set-length h k = rw (e, h, ne-eqb (length set) setBytes k)
 
-    pub said-rest : lengthRight terms ≡ true → length set ≡ 36 → (f : Fault) → f ≡ fault n (records terms) → unlessFault (λ x. x) f (recordJudged n fs set) ≡ verdict n terms set
+    pub said-rest : lengthRight terms ≡ true → length set ≡ setBytes → (f : Fault) → f ≡ fault n (records terms) → unlessFault (λ x. x) f (recordJudged n fs set) ≡ verdict n terms set
     unfolding verdict
-    said-rest h k f q = rw (e, h, eq-eqb (length set) 36 k, q)
+    said-rest h k f q = rw (e, h, eq-eqb (length set) setBytes k, q)
 
   pub record-bad : setRight n set ≡ false → recordJudged n fs set ≡ BadSet
   unfolding recordJudged
@@ -127,7 +129,7 @@ module _ (n : ℕ) (terms set : List ℕ) where
   pub record Accepted : Type 0 where
     pub count : T (countRight n)
     pub measured : T (lengthRight terms)
-    pub long : length set ≡ 36
+    pub long : length set ≡ setBytes
     pub clean : fault n (records terms) ≡ Clean
     pub right : T (setRight n set)
     pub none : missing n fs (setOf set) ≡ []
@@ -152,13 +154,13 @@ module _ (n : ℕ) (terms set : List ℕ) where
   unfolding verdict
   accepted o c k e =
       let a = unless-done (countRight n) Setting _ o c k (λ q. let z : _≡_ {A = ℕ} 0 1 = cc in omega arith) e in
-      let b = unless-done (lengthRight terms && eqb (length set) 36) Length _ o c k (λ q. let z : _≡_ {A = ℕ} 0 1 = cc in omega arith) (a .1) in
+      let b = unless-done (lengthRight terms && eqb (length set) setBytes) Length _ o c k (λ q. let z : _≡_ {A = ℕ} 0 1 = cc in omega arith) (a .1) in
       let f = accepted-fault o c k (fault n (records terms)) (recordJudged n fs set) (b .1) in
       let s = accepted-set o c k (f .1) in (
         record {
           count = a .0;
-          measured = and-l (lengthRight terms) (eqb (length set) 36) (b .0);
-          long = eqb→eq (length set) 36 (and-r (lengthRight terms) (eqb (length set) 36) (b .0));
+          measured = and-l (lengthRight terms) (eqb (length set) setBytes) (b .0);
+          long = eqb→eq (length set) setBytes (and-r (lengthRight terms) (eqb (length set) setBytes) (b .0));
           clean = f .0;
           right = s .0;
           none = done-none n fs (setOf set) (s .1);
@@ -171,14 +173,14 @@ pub listed-done : (order : ℕ) (list : List Wire) (at size : ℕ) (out : List �
 unfolding listed
 listed-done order list at size out s e =
     let c = s .counted in
-    let fits : leb (8 * length list) size ≡ true = le-leb (8 * length list) size (omega (arith, s .room)) in
-    let n : length out - 8 * at ≡ size - 8 * length list = omega arith in
+    let fits : leb (wireBytes * length list) size ≡ true = le-leb (wireBytes * length list) size (omega (arith, s .room)) in
+    let n : length out - wireBytes * at ≡ size - wireBytes * length list = omega arith in
     rw fits (ap₂ (λ (k : ℕ) (l : List ℕ). outcome (Done order k 0) l) c (s .bytes ∙ ap (λ (k : ℕ). gather wireRecord list ++ replicate k 0) n))
 
-pub listed-full : (order : ℕ) (list : List Wire) (size : ℕ) (out zeros : List ℕ) → length out < 8 * length list → length out ≡ size → zeros ≡ replicate size 0
+pub listed-full : (order : ℕ) (list : List Wire) (size : ℕ) (out zeros : List ℕ) → length out < wireBytes * length list → length out ≡ size → zeros ≡ replicate size 0
     → outcome (Full order 0) zeros ≡ listed order list size
 unfolding listed
-listed-full order list size out zeros h e z = rw (lt-leb (8 * length list) size (omega arith), z)
+listed-full order list size out zeros h e z = rw (lt-leb (wireBytes * length list) size (omega arith), z)
 
 module _ (n : ℕ) (terms set : List ℕ) (size : ℕ) where
   pub wired-refused : (r : Reply) → verdict n terms set ≡ r → (numbers r .code ≡ 0 → ⊥) → wired n terms set size ≡ refused r size
@@ -212,8 +214,8 @@ wirable n terms bytes out size r a s e l = record {
   clean = clean-widens n (records terms) (count-few n count) (a .clean);
   few = count-few n count;
   small = s .fits;
-  fits = subst (Fitting 54) (sym held) (right-fits n bytes (a .long) (a .right));
-  met = subst (λ (m : List Mono). Met plain (signals 6 n m) (derivative plain (system (records terms)))) (sym held) (none-met n (system (records terms)) (setOf bytes) (a .none));
+  fits = subst (Fitting setExponent) (sym held) (right-fits n bytes (a .long) (a .right));
+  met = subst (λ (m : List Mono). Met plain (signals width n m) (derivative plain (system (records terms)))) (sym held) (none-met n (system (records terms)) (setOf bytes) (a .none));
   blank = e ∙ ap (λ (k : ℕ). replicate k 0) (sym l);
 }
   where

@@ -2,7 +2,6 @@
 -- the bytes say: the records of each left variable are its derivative. Assumes nothing.
 use mathlib.Core.Path.{_≡_, refl, sym, ap, _∙_, subst}
 use mathlib.Core.Logic.{_↔_}
-use mathlib.Core.Bool.{cond}
 use mathlib.Core.List.{List, [], _++_}
 use Prim.Native.Nat.{ℕ, _*_, _-_, _/_, _≤_, _<_}
 use native.Mathlib.Omega.{arith}
@@ -11,10 +10,12 @@ use lib.Dec.{leb, eqb}
 use lib.IntN.{natAbs}
 use lib.ListN.{length, getD, take, drop, replicate, length-append, length-replicate}
 use Rattle.monomial.specs.Monomial.{Mono}
+use Rattle.monomial.specs.Claims.{_∈_}
 use Rattle.monomial.proofs.Tests.{Tested, passed, failed, test, is→T}
-use Rattle.monomial.proofs.Members.{_∈_, keep-in}
+use Rattle.monomial.proofs.Members.{keep-in}
 use Rattle.monomial.proofs.Counting.{at-in}
 use Rattle.monomial.proofs.order.Laws.{mono-order}
+use Rattle.wiring.specs.Panel.{cards, termBytes, termsBytes, mostSignals, mostWires, wiresBytes, wireBytes}
 use Rattle.wiring.specs.declared.reply.Reply.{Reply}
 use Rattle.wiring.specs.declared.reply.Reply.the-variants.{Done, Setting, Length, Term, Twice, Nothing, Full, Spent, BadSet, NotQuadratic}
 use Rattle.wiring.specs.Reply.{Outcome, numbers, outcome}
@@ -23,49 +24,25 @@ use Rattle.wiring.specs.Quadratic.{Quadratic}
 use Rattle.wiring.specs.Terms.{records, system}
 use Rattle.wiring.specs.Sets.{setOf}
 use Rattle.wiring.specs.Wires.{Wire, wireRecord, wireList}
-use Rattle.wiring.specs.Answers.{verdict, wires, listed, wired}
+use Rattle.wiring.specs.Answers.{verdict, listed, wired}
+use Rattle.wiring.specs.Claims.{WellFormed, signalsIn, derivativeIn, CheckSays, Wired, joined, Correct, Decodes, listIn, WireSays, wireLeaves, Patch}
 use Rattle.wiring.proofs.reply.Laws.{same-reply, code-done}
 use Rattle.wiring.proofs.quadratic.Definition1.{definition1}
 use Rattle.wiring.proofs.signals.Laws.{signals-length}
 use Rattle.wiring.proofs.terms.Laws.{records-length}
 use Rattle.wiring.proofs.sets.Exact.{right-recordable}
 use Rattle.wiring.proofs.kinds.Plain.{plain-lawful}
-use Rattle.wiring.proofs.wires.Laws.{Wired, joined, wiring-left}
+use Rattle.wiring.proofs.wires.Laws.{wiring-left}
 use Rattle.wiring.proofs.wires.Sheets.{list-length}
-use Rattle.wiring.proofs.wires.Correct.{Correct, wiring-correct, Decodes, wire-decodes, list-at, list-rest}
+use Rattle.wiring.proofs.wires.Correct.{wiring-correct, wire-decodes, list-at, list-rest}
 use Rattle.wiring.proofs.answers.Limits.{well-right, total-fits-32}
 use Rattle.wiring.proofs.answers.Laws.{none-met, wired-refused, wired-listed}
-use Rattle.wiring.proofs.answers.Exact.{WellFormed, signalsIn, derivativeIn, CheckSays, verdict-says, verdict-exact}
+use Rattle.wiring.proofs.answers.Exact.{verdict-says, verdict-exact}
 use Rattle.wiring.proofs.wires.Length.{wiring-most}
-
--- the list of a set record
-abbrev pub listIn : ℕ → List ℕ → List ℕ → List Wire
-listIn n terms set = wires n (system (records terms)) (setOf set)
 
 module _ (n : ℕ) (terms set : List ℕ) (size : ℕ) where
   abbrev list : List Wire
   list = listIn n terms set
-
-  -- ---- what each reply of wiring says: a refusal of checking, or whether the list fits
-  abbrev pub WireSays : Reply → Type 0
-  WireSays (Done o c k) =
-      WellFormed n terms set × Quadratic plain (signalsIn n set) (derivativeIn terms)
-      × (o ≡ length (setOf set)) × (c ≡ length (listIn n terms set)) × (k ≡ 0) × (8 * length (listIn n terms set) ≤ size)
-  WireSays (Full o k) =
-      WellFormed n terms set × Quadratic plain (signalsIn n set) (derivativeIn terms)
-      × (o ≡ length (setOf set)) × (k ≡ 0) × (size < 8 * length (listIn n terms set))
-  WireSays Setting = CheckSays n terms set Setting
-  WireSays Length = CheckSays n terms set Length
-  WireSays (Term p) = CheckSays n terms set (Term p)
-  WireSays (Twice p) = CheckSays n terms set (Twice p)
-  WireSays BadSet = CheckSays n terms set BadSet
-  WireSays (NotQuadratic o p) = CheckSays n terms set (NotQuadratic o p)
-  WireSays (Nothing o k) = ⊥
-  WireSays (Spent o k) = ⊥
-
-  -- and what it leaves in the buffer: the list, then zeros, or only zeros
-  abbrev pub leaves : Reply → List ℕ
-  leaves r = cond (eqb (numbers r .code) 0) (wireList (listIn n terms set) ++ replicate (size - 8 * length (listIn n terms set)) 0) (replicate size 0)
 
   -- ---- what holds is said
   refuses : (r : Reply) → CheckSays n terms set r → (numbers r .code ≡ 0 → ⊥) → outcome r (replicate size 0) ≡ wired n terms set size
@@ -75,15 +52,15 @@ module _ (n : ℕ) (terms set : List ℕ) (size : ℕ) where
     lists : wired n terms set size ≡ listed (length (setOf set)) list size
     lists = wired-listed n terms set size (length (setOf set)) 0 0 (verdict-exact n terms set (Done (length (setOf set)) 0 0) .1 (w, refl, refl, refl, q))
 
-    lists-done : 8 * length list ≤ size → outcome (Done (length (setOf set)) (length list) 0) (leaves (Done 0 0 0)) ≡ wired n terms set size
+    lists-done : wireBytes * length list ≤ size → outcome (Done (length (setOf set)) (length list) 0) (wireLeaves n terms set size (Done 0 0 0)) ≡ wired n terms set size
     unfolding listed
-    lists-done h = rw (lists, le-leb (8 * length list) size h)
+    lists-done h = rw (lists, le-leb (wireBytes * length list) size h)
 
-    lists-full : size < 8 * length list → outcome (Full (length (setOf set)) 0) (replicate size 0) ≡ wired n terms set size
+    lists-full : size < wireBytes * length list → outcome (Full (length (setOf set)) 0) (replicate size 0) ≡ wired n terms set size
     unfolding listed
-    lists-full h = rw (lists, lt-leb (8 * length list) size h)
+    lists-full h = rw (lists, lt-leb (wireBytes * length list) size h)
 
-  says : (r : Reply) → WireSays r → outcome r (leaves r) ≡ wired n terms set size
+  says : (r : Reply) → WireSays n terms set size r → outcome r (wireLeaves n terms set size r) ≡ wired n terms set size
   says (Done o c k) h = rw (h .2, h .3, h .4) (lists-done (h .0) (h .1) (h .5))
   says (Full o k) h = rw (h .2, h .3) (lists-full (h .0) (h .1) (h .4))
   says Setting h = refuses Setting h (λ e. omega arith)
@@ -98,14 +75,14 @@ module _ (n : ℕ) (terms set : List ℕ) (size : ℕ) where
   -- ---- and one of them holds
   record Told : Type 0 where
     reply : Reply
-    holds : WireSays reply
+    holds : WireSays n terms set size reply
 
   told-list : WellFormed n terms set → Quadratic plain (signalsIn n set) (derivativeIn terms) → Told
-  told-list w q = go (test (leb (8 * length list) size))
+  told-list w q = go (test (leb (wireBytes * length list) size))
     where
-      go : Tested (leb (8 * length list) size) → Told
-      go (passed e) = record { reply = Done (length (setOf set)) (length list) 0; holds = (w, q, refl, refl, refl, leb-true (8 * length list) size e) }
-      go (failed e) = record { reply = Full (length (setOf set)) 0; holds = (w, q, refl, refl, leb-false (8 * length list) size e) }
+      go : Tested (leb (wireBytes * length list) size) → Told
+      go (passed e) = record { reply = Done (length (setOf set)) (length list) 0; holds = (w, q, refl, refl, refl, leb-true (wireBytes * length list) size e) }
+      go (failed e) = record { reply = Full (length (setOf set)) 0; holds = (w, q, refl, refl, leb-false (wireBytes * length list) size e) }
 
   told-by : (r : Reply) → CheckSays n terms set r → Told
   told-by (Done o c k) h = told-list (h .0) (h .4)
@@ -123,19 +100,23 @@ module _ (n : ℕ) (terms set : List ℕ) (size : ℕ) where
   told = told-by (verdict n terms set) (verdict-says n terms set)
 
   -- ---- the contract of `wire`: a reply and a buffer keep it exactly where what the reply says holds and the buffer is what it leaves
-  pub wire-exact : (r : Reply) (bytes : List ℕ) → (outcome r bytes ≡ wired n terms set size) ↔ (WireSays r × (bytes ≡ leaves r))
+  pub wire-exact : (r : Reply) (bytes : List ℕ) → (outcome r bytes ≡ wired n terms set size) ↔ (WireSays n terms set size r × (bytes ≡ wireLeaves n terms set size r))
   wire-exact r bytes = (out, λ h. ap (outcome r) (h .1) ∙ says r (h .0))
     where
-      out : outcome r bytes ≡ wired n terms set size → WireSays r × (bytes ≡ leaves r)
+      out : outcome r bytes ≡ wired n terms set size → WireSays n terms set size r × (bytes ≡ wireLeaves n terms set size r)
       out e =
-          let both : outcome r bytes ≡ outcome (told .reply) (leaves (told .reply)) = e ∙ sym (says (told .reply) (told .holds)) in
+          let both : outcome r bytes ≡ outcome (told .reply) (wireLeaves n terms set size (told .reply)) = e ∙ sym (says (told .reply) (told .holds)) in
           let one : r ≡ told .reply = same-reply r (told .reply) (ap (λ (x : Outcome). x .said) both) in
-          (subst WireSays (sym one) (told .holds), ap (λ (x : Outcome). x .bytes) both ∙ ap leaves (sym one))
+          (subst (WireSays n terms set size) (sym one) (told .holds), ap (λ (x : Outcome). x .bytes) both ∙ ap (wireLeaves n terms set size) (sym one))
+
+  -- some reply is always given
+  pub wire-replies : (r : Reply) × (outcome r (wireLeaves n terms set size r) ≡ wired n terms set size)
+  wire-replies = (told .reply, says (told .reply) (told .holds))
 
   -- full: the list is longer than the buffer holds
   pub wire-full : (o k : ℕ) (bytes : List ℕ) → (outcome (Full o k) bytes ≡ wired n terms set size)
       ↔ ((WellFormed n terms set × Quadratic plain (signalsIn n set) (derivativeIn terms)
-      × (o ≡ length (setOf set)) × (k ≡ 0) × (size < 8 * length (listIn n terms set))) × (bytes ≡ replicate size 0))
+      × (o ≡ length (setOf set)) × (k ≡ 0) × (size < wireBytes * length (listIn n terms set))) × (bytes ≡ replicate size 0))
   wire-full o k bytes = wire-exact (Full o k) bytes
 
   -- there is one such reply and one such buffer
@@ -149,18 +130,18 @@ module _ (n : ℕ) (terms set : List ℕ) (size : ℕ) where
   pub wire-zeros : (r : Reply) (bytes : List ℕ) → outcome r bytes ≡ wired n terms set size → (numbers r .code ≡ 0 → ⊥) → bytes ≡ replicate size 0
   wire-zeros r bytes e f = rw (ne-eqb (numbers r .code) 0 f) at (wire-exact r bytes .0 e .1)
 
-  full-length : 8 * length list ≤ size → length (wireList list ++ replicate (size - 8 * length list) 0) ≡ size
+  full-length : wireBytes * length list ≤ size → length (wireList list ++ replicate (size - wireBytes * length list) 0) ≡ size
   full-length h =
-      let front : length (wireList list) ≡ 8 * length list = list-length list in
-      let back : length {A = ℕ} (replicate (size - 8 * length list) 0) ≡ size - 8 * length list = length-replicate (size - 8 * length list) 0 in
-      length-append (wireList list) (replicate (size - 8 * length list) 0) ∙ omega arith
+      let front : length (wireList list) ≡ wireBytes * length list = list-length list in
+      let back : length {A = ℕ} (replicate (size - wireBytes * length list) 0) ≡ size - wireBytes * length list = length-replicate (size - wireBytes * length list) 0 in
+      length-append (wireList list) (replicate (size - wireBytes * length list) 0) ∙ omega arith
 
-  leaves-length : (r : Reply) → WireSays r → length (leaves r) ≡ size
+  leaves-length : (r : Reply) → WireSays n terms set size r → length (wireLeaves n terms set size r) ≡ size
   leaves-length r h = go (test (eqb (numbers r .code) 0))
     where
-      go : Tested (eqb (numbers r .code) 0) → length (leaves r) ≡ size
+      go : Tested (eqb (numbers r .code) 0) → length (wireLeaves n terms set size r) ≡ size
       go (failed e) = rw e (length-replicate size 0)
-      go (passed e) = let d = code-done r (eqb-true (numbers r .code) 0 e) in rw e (full-length (subst WireSays (d .is) h .5))
+      go (passed e) = let d = code-done r (eqb-true (numbers r .code) 0 e) in rw e (full-length (subst (WireSays n terms set size) (d .is) h .5))
 
   pub wire-length : (r : Reply) (bytes : List ℕ) → outcome r bytes ≡ wired n terms set size → length bytes ≡ size
   wire-length r bytes e = let o = wire-exact r bytes .0 e in ap length (o .1) ∙ leaves-length r (o .0)
@@ -169,26 +150,17 @@ module _ (n : ℕ) (terms set : List ℕ) (size : ℕ) where
   wired-length = ap (λ (x : Outcome). length (x .bytes)) (sym (says (told .reply) (told .holds))) ∙ leaves-length (told .reply) (told .holds)
 
 -- ---- done: what the bytes say
--- so many records, each in eight bytes of the buffer, then zeros; their list is correct
-pub record Patch (n : ℕ) (terms set : List ℕ) (count : ℕ) (bytes : List ℕ) : Type 0 where
-  pub list : List Wire
-  pub counted : count ≡ length list
-  pub most : count ≤ 224
-  pub correct : Correct plain (signalsIn n set) (derivativeIn terms) list
-  pub written : (j : ℕ) (none : Wire) → j < count → Decodes (getD list j none) (take 8 (drop (8 * j) bytes))
-  pub rest : (k : ℕ) → 8 * count ≤ k → getD bytes k 0 ≡ 0
-
 module _ (n : ℕ) (terms set : List ℕ) (w : WellFormed n terms set) where
-  few : length (setOf set) ≤ 6
+  few : length (setOf set) ≤ cards
   few = right-recordable n set (well-right n terms set w) (w .lengths .long) .few
 
-  pub list-most : length (listIn n terms set) ≤ 224
+  pub list-most : length (listIn n terms set) ≤ mostWires
   list-most =
-      let size : length (records terms) ≡ length terms / 12 = records-length terms in
-      let most : length terms ≤ 384 = w .lengths .measured .limited in
+      let size : length (records terms) ≡ length terms / termBytes = records-length terms in
+      let most : length terms ≤ termsBytes = w .lengths .measured .limited in
       wiring-most n (records terms) (setOf set) (omega arith) few
 
-  signals-few : length (signalsIn n set) ≤ 13
+  signals-few : length (signalsIn n set) ≤ mostSignals
   signals-few = let m = w .ranged .1 in let k = few in let l = signals-length n (setOf set) m in omega arith
 
   module _ (q : Quadratic plain (signalsIn n set) (derivativeIn terms)) where
@@ -208,7 +180,7 @@ module _ (n : ℕ) (terms set : List ℕ) (w : WellFormed n terms set) where
     list-decodes x h =
         let v : List Mono = signalsIn n set in
         let r = list-wired x h in
-        let many : length v ≤ 13 = signals-few in
+        let many : length v ≤ mostSignals = signals-few in
         let k : x .left < length v = wiring-left plain v (derivativeIn terms) x h in
         let fits : natAbs (x .coefficient) < 2147483648 = rw (r .total) (total-fits-32 n terms set w (getD v (x .left) []) (at-in v (x .left) [] k) (joined plain v x)) in
         wire-decodes x (omega arith) (omega (arith, r .a-below)) (omega (arith, r .b-below)) fits
@@ -220,7 +192,7 @@ wire-done n terms set size o c k bytes e = record {
   most = rw counted (list-most n terms set (h .0));
   correct = list-correct n terms set (h .0) (h .1);
   written = λ j none l. subst (Decodes (getD list j none)) (sym (eight j none l)) (list-decodes n terms set (h .0) (h .1) (getD list j none) (at-in list j none (rw (← counted) l)));
-  rest = λ j l. rw left (list-rest list (size - 8 * length list) j (rw (← counted) l));
+  rest = λ j l. rw left (list-rest list (size - wireBytes * length list) j (rw (← counted) l));
 }
   where
     list : List Wire
@@ -229,20 +201,20 @@ wire-done n terms set size o c k bytes e = record {
     h : WireSays n terms set size (Done o c k)
     h = wire-exact n terms set size (Done o c k) bytes .0 e .0
 
-    left : bytes ≡ wireList list ++ replicate (size - 8 * length list) 0
+    left : bytes ≡ wireList list ++ replicate (size - wireBytes * length list) 0
     left = wire-exact n terms set size (Done o c k) bytes .0 e .1
 
     counted : c ≡ length list
     counted = h .3
 
-    eight : (j : ℕ) (none : Wire) → j < c → take 8 (drop (8 * j) bytes) ≡ wireRecord (getD list j none)
-    eight j none l = ap (λ (b : List ℕ). take 8 (drop (8 * j) b)) left ∙ list-at list (replicate (size - 8 * length list) 0) j none (rw (← counted) l)
+    eight : (j : ℕ) (none : Wire) → j < c → take wireBytes (drop (wireBytes * j) bytes) ≡ wireRecord (getD list j none)
+    eight j none l = ap (λ (b : List ℕ). take wireBytes (drop (wireBytes * j) b)) left ∙ list-at list (replicate (size - wireBytes * length list) 0) j none (rw (← counted) l)
 
 -- 1,792 bytes are enough for every list
-pub wire-enough : (n : ℕ) (terms set : List ℕ) (size : ℕ) → WellFormed n terms set → Quadratic plain (signalsIn n set) (derivativeIn terms) → 1792 ≤ size
+pub wire-enough : (n : ℕ) (terms set : List ℕ) (size : ℕ) → WellFormed n terms set → Quadratic plain (signalsIn n set) (derivativeIn terms) → wiresBytes ≤ size
     → (r : Reply) (bytes : List ℕ) → outcome r bytes ≡ wired n terms set size → r ≡ Done (length (setOf set)) (length (listIn n terms set)) 0
 wire-enough n terms set size w q h r bytes e =
-    let most : length (listIn n terms set) ≤ 224 = list-most n terms set w in
+    let most : length (listIn n terms set) ≤ mostWires = list-most n terms set w in
     let done : Reply = Done (length (setOf set)) (length (listIn n terms set)) 0 in
-    let also = wire-exact n terms set size done (leaves n terms set size done) .1 ((w, q, refl, refl, refl, omega arith), refl) in
-    wire-determined n terms set size r done bytes (leaves n terms set size done) e also .0
+    let also = wire-exact n terms set size done (wireLeaves n terms set size done) .1 ((w, q, refl, refl, refl, omega arith), refl) in
+    wire-determined n terms set size r done bytes (wireLeaves n terms set size done) e also .0

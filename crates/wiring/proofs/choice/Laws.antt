@@ -11,10 +11,11 @@ use lib.Dec.{T, eqb, ltb, eqb→eq, eqb-refl, ltb→lt, lt→ltb}
 use Rattle.monomial.specs.Monomial.{Mono}
 use Rattle.monomial.specs.Order.{same, before}
 use Rattle.monomial.specs.Divisors.{score}
+use Rattle.monomial.specs.Claims.{_⊆_, Ascending, Order, Compared, less, equal, more}
 use Rattle.monomial.proofs.Tests.{or-l, or-r, or-e, and-l, and-r, and-i, cond-cases, is→T, is→nT}
 use Rattle.monomial.proofs.Members.{here, there}
-use Rattle.monomial.proofs.order.Laws.{Order, Compared, less, equal, more, ℕ-order, mono-order}
-use Rattle.monomial.proofs.order.Ascending.{_⊆_, Ascending, head-first}
+use Rattle.monomial.proofs.order.Laws.{ℕ-order, mono-order}
+use Rattle.monomial.proofs.order.Ascending.{head-first}
 use Rattle.wiring.specs.declared.choice.Pick.{Pick}
 use Rattle.wiring.specs.Choice.{cheaper, chosen, Picked, Heads, BestOf, Best}
 

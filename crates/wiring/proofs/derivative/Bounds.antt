@@ -15,44 +15,47 @@ use mir.Syntax.{w32}
 use mir.Val.{SFits, toZ, ofZ}
 use mir.ValLaws.{toZ-pos, toZ-ofZ}
 use Rattle.monomial.specs.Lists.{keep, below}
-use Rattle.monomial.specs.Monomial.{Mono}
+use Rattle.monomial.specs.Monomial.{Mono, width}
 use Rattle.monomial.specs.Order.{same}
 use Rattle.monomial.specs.Product.{mul, AtMost}
+use Rattle.monomial.specs.Claims.{_∈_}
 use Rattle.monomial.proofs.Tests.{Tested, passed, failed, test, is→T}
-use Rattle.monomial.proofs.Members.{_∈_, here, there, take-in}
+use Rattle.monomial.proofs.Members.{here, there, take-in}
 use Rattle.monomial.proofs.Loops.{pointwise-length}
 use Rattle.monomial.proofs.order.Laws.{mono-order}
 use Rattle.monomial.proofs.product.Laws.{atMost-mul, atMost-set, atMost-at}
+use Rattle.wiring.specs.Panel.{termBytes, mostCoefficient, setExponent, termExponent}
 use Rattle.wiring.specs.Poly.{Kind, Term, Poly, plain, coeff, times, monos, support}
 use Rattle.wiring.specs.Derivative.{derivative, part, partsFrom, power, image}
 use Rattle.wiring.specs.Terms.{Record, recordAt, records, equation, system, CleanTerms}
+use Rattle.wiring.specs.Kinds.{Lawful}
+use Rattle.wiring.specs.Claims.{summed, addedUp, Unlike, Sized}
 use Rattle.wiring.proofs.Ints.{abs-sum, abs-product}
 use Rattle.wiring.proofs.Poly.{coeff-append, coeff-absent, support-out, Scaled, times-out}
-use Rattle.wiring.proofs.kinds.Laws.{Lawful}
 use Rattle.wiring.proofs.kinds.Plain.{plain-lawful}
 use Rattle.wiring.proofs.coefficient.Laws.{fits-32}
-use Rattle.wiring.proofs.terms.Laws.{alike-in, Rightful, clean-at, records-length, records-at, Unlike, clean-in, clean-take, clean-unlike}
+use Rattle.wiring.proofs.terms.Laws.{alike-in, Rightful, clean-at, records-length, records-at, clean-in, clean-take, clean-unlike}
 use Rattle.wiring.proofs.derivative.Rules.{Parted, absent, present, parted}
-use Rattle.wiring.proofs.derivative.Records.{derived, equation-out, equation-own, equation-other, system-length, summed, addedUp, added-next, exchange, contribution, adds-flat, adds-hit, adds-miss}
+use Rattle.wiring.proofs.derivative.Records.{derived, equation-out, equation-own, equation-other, system-length, added-next, exchange, contribution, adds-flat, adds-hit, adds-miss}
 
 -- ---- exponents
 -- the image of a record with six exponents, at most d each
-pub image-fits : (r : Record) (d b : ℕ) (z : Mono) → length (r .monomial) ≡ 6 → AtMost d (r .monomial) → length z ≡ 6 → AtMost b z
-    → (length (image r z) ≡ 6) × AtMost (b + d) (image r z)
+pub image-fits : (r : Record) (d b : ℕ) (z : Mono) → length (r .monomial) ≡ width → AtMost d (r .monomial) → length z ≡ width → AtMost b z
+    → (length (image r z) ≡ width) × AtMost (b + d) (image r z)
 image-fits r d b z l small lz a =
     let i = r .equation - 1 in
     let e = power r z - 1 in
     let h : power r z ≤ b = atMost-at b z i a in
-    let k : length (set z i e) ≡ 6 = length-set z i e ∙ lz in
+    let k : length (set z i e) ≡ width = length-set z i e ∙ lz in
     (pointwise-length _+_ (set z i e) (r .monomial) (k ∙ sym l) ∙ k, atMost-mul b d (set z i e) (r .monomial) (atMost-set b z i e (omega arith) a) small)
 
 -- the monomials of a derivative have six exponents, at most 9 more than the monomial's own
-pub derivative-fits : (bytes : List ℕ) → CleanTerms bytes → (b : ℕ) (z : Mono) → length z ≡ 6 → AtMost b z
-    → (m : Mono) → m ∈ support plain (derivative plain (system (records bytes)) z) → (length m ≡ 6) × AtMost (b + 9) m
+pub derivative-fits : (bytes : List ℕ) → CleanTerms bytes → (b : ℕ) (z : Mono) → length z ≡ width → AtMost b z
+    → (m : Mono) → m ∈ support plain (derivative plain (system (records bytes)) z) → (length m ≡ width) × AtMost (b + termExponent) m
 derivative-fits bytes c b z l a m h =
     let from = derived (records bytes) z m (support-out plain mono-order (derivative plain (system (records bytes)) z) m h .0) in
     let r = clean-in bytes c (from .by) (from .listed) in
-    subst (λ (x : Mono). (length x ≡ 6) × AtMost (b + 9) x) (from .is) (image-fits (from .by) 9 b z (r .long) (r .small) l a)
+    subst (λ (x : Mono). (length x ≡ width) × AtMost (b + termExponent) x) (from .is) (image-fits (from .by) termExponent b z (r .long) (r .small) l a)
 
 -- ---- totals, for any kind of monomials
 -- no monomial twice in a polynomial
@@ -147,12 +150,6 @@ equation-apart (q ∷ rs) i u = go (test (eqb (q .equation) (suc i))) (equation-
         subst Apart (sym (equation-own q rs i e)) ((λ h. clash e (Memᴰ·of-map (λ (x : Term Mono). x .1) (equation rs i) h)), ih)
     go (failed p) ih = subst Apart (sym (equation-other q rs i (eqb-false (q .equation) (suc i) p))) ih
 
--- records of one width, coefficients at most c, no two alike
-pub record Sized (w c : ℕ) (rs : List Record) : Type 0 where
-  pub long : (r : Record) → r ∈ rs → length (r .monomial) ≡ w
-  pub limited : (r : Record) → r ∈ rs → natAbs (r .coefficient) ≤ c
-  pub unlike : Unlike rs
-
 equation-distinct : (w c : ℕ) (rs : List Record) → Sized w c rs → (i : ℕ) → Distinct plain w c (equation rs i)
 equation-distinct w c rs s i = record {
   sized = λ t h. let o = equation-out rs i t h in subst (λ (x : Term Mono). length (x .1) ≡ w) (o .is) (s .long (o .by) (o .listed));
@@ -163,11 +160,11 @@ equation-distinct w c rs s i = record {
 pub system-distinct : (w c : ℕ) (rs : List Record) → Sized w c rs → (f : Poly Mono) → f ∈ system rs → Distinct plain w c f
 unfolding system
 system-distinct w c rs s f h =
-    let e : (i : ℕ) × (i ∈ below 6) × (equation rs i ≡ f) = Memᴰ·of-map (equation rs) (below 6) h in
+    let e : (i : ℕ) × (i ∈ below width) × (equation rs i ≡ f) = Memᴰ·of-map (equation rs) (below width) h in
     subst (Distinct plain w c) (e .2) (equation-distinct w c rs s (e .0))
 
 pub total-bounded : (w c b : ℕ) (rs : List Record) → Sized w c rs → (z m : Mono) → length z ≡ w → AtMost b z
-    → natAbs (coeff plain (derivative plain (system rs) z) m) ≤ 6 * (b * c)
+    → natAbs (coeff plain (derivative plain (system rs) z) m) ≤ width * (b * c)
 total-bounded w c b rs s z m lz a =
     subst (λ (n : ℕ). natAbs (coeff plain (derivative plain (system rs) z) m) ≤ n * (b * c)) (system-length rs)
     (derivative-bounded plain plain-lawful w c b z lz (λ i. atMost-at b z i a) m (system rs) (system-distinct w c rs s))
@@ -177,49 +174,49 @@ module _ (bytes : List ℕ) (clean : CleanTerms bytes) where
   first-in : (t : ℕ) (r : Record) → r ∈ take t (records bytes) → Rightful r
   first-in t r h = clean-in bytes clean r (take-in t (records bytes) h)
 
-  pub clean-sized : (t : ℕ) → Sized 6 1000000 (take t (records bytes))
+  pub clean-sized : (t : ℕ) → Sized width mostCoefficient (take t (records bytes))
   clean-sized t = record {
     long = λ r h. first-in t r h .long;
     limited = λ r h. first-in t r h .limited;
-    unlike = clean-unlike 6 [] (take t (records bytes)) (clean-take 6 [] (records bytes) t clean);
+    unlike = clean-unlike width [] (take t (records bytes)) (clean-take width [] (records bytes) t clean);
   }
 
   pub clean-exchange : (z m : Mono) (t : ℕ) → summed (take t (records bytes)) z m ≡ coeff plain (derivative plain (system (take t (records bytes))) z) m
   clean-exchange z m t = exchange (take t (records bytes)) z m (λ r h. (first-in t r h .low, first-in t r h .high))
 
-  pub sum-bounded : (b : ℕ) (z m : Mono) → length z ≡ 6 → AtMost b z → (t : ℕ) → natAbs (summed (take t (records bytes)) z m) ≤ 6 * (b * 1000000)
-  sum-bounded b z m lz a t = rw (clean-exchange z m t) (total-bounded 6 1000000 b (take t (records bytes)) (clean-sized t) z m lz a)
+  pub sum-bounded : (b : ℕ) (z m : Mono) → length z ≡ width → AtMost b z → (t : ℕ) → natAbs (summed (take t (records bytes)) z m) ≤ width * (b * mostCoefficient)
+  sum-bounded b z m lz a t = rw (clean-exchange z m t) (total-bounded width mostCoefficient b (take t (records bytes)) (clean-sized t) z m lz a)
 
-  -- with exponents up to 72 every sum on the way fits a signed 32-bit number
-  pub sum-fits : (z m : Mono) → length z ≡ 6 → AtMost 72 z → (t : ℕ) → natAbs (summed (take t (records bytes)) z m) < 2147483648
-  sum-fits z m lz a t = let h = sum-bounded 72 z m lz a t in omega arith
+  -- with exponents of signals every sum on the way fits a signed 32-bit number
+  pub sum-fits : (z m : Mono) → length z ≡ width → AtMost setExponent z → (t : ℕ) → natAbs (summed (take t (records bytes)) z m) < 2147483648
+  sum-fits z m lz a t = let h = sum-bounded setExponent z m lz a t in omega arith
 
   -- the sum over all of them is the total
   pub sum-ends : (z m : Mono) (t : ℕ) → length (records bytes) ≤ t → summed (take t (records bytes)) z m ≡ coeff plain (derivative plain (system (records bytes)) z) m
   sum-ends z m t h = clean-exchange z m t ∙ ap (λ (rs : List Record). coeff plain (derivative plain (system rs) z) m) (take-all t (records bytes) h)
 
-  pub clean-total : (b : ℕ) (z m : Mono) → length z ≡ 6 → AtMost b z → natAbs (coeff plain (derivative plain (system (records bytes)) z) m) ≤ 6 * (b * 1000000)
+  pub clean-total : (b : ℕ) (z m : Mono) → length z ≡ width → AtMost b z → natAbs (coeff plain (derivative plain (system (records bytes)) z) m) ≤ width * (b * mostCoefficient)
   clean-total b z m lz a = rw (← sum-ends z m (length (records bytes)) (omega arith)) (sum-bounded b z m lz a (length (records bytes)))
 
-  pub total-fits : (z m : Mono) → length z ≡ 6 → AtMost 72 z → natAbs (coeff plain (derivative plain (system (records bytes)) z) m) < 2147483648
-  total-fits z m lz a = let h = clean-total 72 z m lz a in omega arith
+  pub total-fits : (z m : Mono) → length z ≡ width → AtMost setExponent z → natAbs (coeff plain (derivative plain (system (records bytes)) z) m) < 2147483648
+  total-fits z m lz a = let h = clean-total setExponent z m lz a in omega arith
 
 -- ---- a loop that adds the records up in 32 bits, sum so far, and has come to record number t
 pub record Adding (bytes : List ℕ) (z m : Mono) (sum t : ℕ) : Type 0 where
   pub clean : CleanTerms bytes
-  pub long : length z ≡ 6
-  pub small : AtMost 72 z
+  pub long : length z ≡ width
+  pub small : AtMost setExponent z
   pub so-far : toZ w32 sum ≡ summed (take t (records bytes)) z m
 
-pub adding-start : (bytes : List ℕ) (z m : Mono) → CleanTerms bytes → length z ≡ 6 → AtMost 72 z → Adding bytes z m 0 0
+pub adding-start : (bytes : List ℕ) (z m : Mono) → CleanTerms bytes → length z ≡ width → AtMost setExponent z → Adding bytes z m 0 0
 unfolding addedUp
 adding-start bytes z m c l a = record { clean = c; long = l; small = a; so-far = refl }
 
-pub adding-ends : {bytes : List ℕ} {z m : Mono} {sum t : ℕ} → Adding bytes z m sum t → length bytes / 12 ≤ t
+pub adding-ends : {bytes : List ℕ} {z m : Mono} {sum t : ℕ} → Adding bytes z m sum t → length bytes / termBytes ≤ t
     → toZ w32 sum ≡ coeff plain (derivative plain (system (records bytes)) z) m
 adding-ends {bytes} {z} {m} {sum} {t} a h = a .so-far ∙ sum-ends bytes (a .clean) z m t (rw (records-length bytes) h)
 
-module _ {bytes : List ℕ} {z m : Mono} {sum t : ℕ} (a : Adding bytes z m sum t) (h : t < length bytes / 12) where
+module _ {bytes : List ℕ} {z m : Mono} {sum t : ℕ} (a : Adding bytes z m sum t) (h : t < length bytes / termBytes) where
   -- the sum with record number t
   next-is : summed (take (t + 1) (records bytes)) z m ≡ summed (take t (records bytes)) z m +ℤ contribution (recordAt bytes t) z m
   next-is =
@@ -243,8 +240,8 @@ module _ {bytes : List ℕ} {z m : Mono} {sum t : ℕ} (a : Adding bytes z m sum
 
   -- the product and the sum as the machine takes them: k is the record's power, x its coefficient
   module _ (k : ℕ) (k-is : k ≡ power (recordAt bytes t) z) where
-    limited : k ≤ 72
-    limited = rw k-is (atMost-at 72 z (recordAt bytes t .equation - 1) (a .small))
+    limited : k ≤ setExponent
+    limited = rw k-is (atMost-at setExponent z (recordAt bytes t .equation - 1) (a .small))
 
     pub power-fits : SFits w32 (pos k)
     power-fits = let l = limited in fits-32 (pos k) (omega arith)
@@ -253,7 +250,7 @@ module _ {bytes : List ℕ} {z m : Mono} {sum t : ℕ} (a : Adding bytes z m sum
     abbrev product : ℤ
     product = toZ w32 k *ℤ toZ w32 (ofZ w32 x)
 
-    million : natAbs x ≤ 1000000
+    million : natAbs x ≤ mostCoefficient
     million = rw x-is (clean-at bytes (a .clean) t h .limited)
 
     plain-product : product ≡ pos k *ℤ x
@@ -262,7 +259,7 @@ module _ {bytes : List ℕ} {z m : Mono} {sum t : ℕ} (a : Adding bytes z m sum
     pub product-fits : SFits w32 product
     product-fits =
         let size : natAbs (pos k *ℤ x) ≡ k * natAbs x = abs-product (pos k) x in
-        let most : k * natAbs x ≤ 72 * 1000000 = mul-le-mul (limited k k-is) million in
+        let most : k * natAbs x ≤ setExponent * mostCoefficient = mul-le-mul (limited k k-is) million in
         rw plain-product (fits-32 (pos k *ℤ x) (omega arith))
 
     module _ (y : Mono) (y-is : y ≡ image (recordAt bytes t) z) (hit : same y m ≡ true) where

@@ -7,14 +7,15 @@ use Prim.Native.Nat.{ℕ, zero, suc, _+_, _<_}
 use native.Mathlib.Omega.{arith}
 use lib.IntN.{ℤ, pos, _+ℤ_, _-ℤ_, _*ℤ_, +ℤ-idl, +ℤ-idr, +ℤ-comm, +ℤ-negℤ-cancel, zero-*ℤ, *ℤ-zero, *ℤ-comm}
 use lib.ListN.{getD}
+use Rattle.monomial.specs.Claims.{_∈_}
 use Rattle.monomial.proofs.Tests.{Tested, passed, failed, test, is→T, is→nT}
-use Rattle.monomial.proofs.Members.{_∈_, here, there}
+use Rattle.monomial.proofs.Members.{here, there}
 use Rattle.wiring.specs.Coefficient.{isZero}
 use Rattle.wiring.specs.Poly.{Kind, Poly, Same, coeff, monos, times}
 use Rattle.wiring.specs.Derivative.{part, partsFrom, derivative}
+use Rattle.wiring.specs.Kinds.{variable, Built, unit, single, product, inverse, Lawful, OfWidth, Derivation}
 use Rattle.wiring.proofs.Ints.{mid4, distrib-l, distrib-r, one-*ℤ}
 use Rattle.wiring.proofs.Poly.{zero-is, is-zero, coeff-append, weighed, weighed-same}
-use Rattle.wiring.proofs.kinds.Laws.{variable, Built, unit, single, product, inverse, Lawful}
 
 -- ---- the summand of one variable: its exponent is 0, or it is not
 pub data Parted {M : Type 0} (k : Kind M) (i : ℕ) (z : M) (f : Poly M) : Type 0 where
@@ -42,20 +43,10 @@ part-raised k i z f n = go (parted k i z f)
     go (absent q p) = absurd (n q)
     go (present m p) = p
 
--- every monomial of every equation is in w variables
-abbrev pub Sized : {M : Type 0} → Kind M → ℕ → List (Poly M) → Type 0
-Sized {M} k w fs = (f : Poly M) (m : M) → f ∈ fs → m ∈ monos f → k .width m ≡ w
-
-pub sized-at : {M : Type 0} (k : Kind M) (w : ℕ) (fs : List (Poly M)) → Sized k w fs → (i : ℕ) (m : M) → m ∈ monos (getD fs i []) → k .width m ≡ w
+pub sized-at : {M : Type 0} (k : Kind M) (w : ℕ) (fs : List (Poly M)) → OfWidth k w fs → (i : ℕ) (m : M) → m ∈ monos (getD fs i []) → k .width m ≡ w
 sized-at k w [] h i m n = absurd (List·Memᴰ·not-nil n)
 sized-at k w (f ∷ fs) h zero m n = h f m here n
 sized-at k w (f ∷ fs) h (suc i) m n = sized-at k w fs (λ g x q. h g x (there q)) i m n
-
--- what the rules say of a derivation D of monomials in w variables, where fs has the equations
-pub record Derivation {M : Type 0} (k : Kind M) (w : ℕ) (fs : List (Poly M)) (D : M → Poly M) : Type 0 where
-  pub constant : Same k (D (k .one w)) []
-  pub variable : (i : ℕ) → i < w → Same k (D (variable k w i)) (getD fs i [])
-  pub product : (z y : M) → k .width z ≡ w → k .width y ≡ w → Same k (D (k .mul z y)) (times k (pos 1) z (D y) ++ times k (pos 1) y (D z))
 
 module _ {M : Type 0} (k : Kind M) (l : Lawful k) where
   -- ---- the derivative of 1
@@ -199,7 +190,7 @@ module _ {M : Type 0} (k : Kind M) (l : Lawful k) where
   product-rule fs z y e m =
       parts-rule 0 fs z y m e ∙ sym (coeff-append k (l .order) (times k (pos 1) z (partsFrom k 0 y fs)) (times k (pos 1) y (partsFrom k 0 z fs)) m)
 
-  pub derivative-rules : (w : ℕ) (fs : List (Poly M)) → Sized k w fs → Derivation k w fs (derivative k fs)
+  pub derivative-rules : (w : ℕ) (fs : List (Poly M)) → OfWidth k w fs → Derivation k w fs (derivative k fs)
   derivative-rules w fs h = record {
     constant = λ m. ap (λ (p : Poly M). coeff k p m) (one-rule w fs);
     variable = λ i b m. ap (λ (p : Poly M). coeff k p m) (variable-rule w i fs b (sized-at k w fs h i));

@@ -7,7 +7,7 @@ use Prim.Native.Nat.{ℕ, suc, _+_}
 use native.Mathlib.Omega.{arith}
 use lib.IntN.{pos}
 use lib.ListN.{getD}
-use Rattle.monomial.proofs.Members.{_∈_}
+use Rattle.monomial.specs.Claims.{_∈_}
 use Rattle.wiring.specs.Poly.{Kind, Term, Poly, monos}
 use Rattle.wiring.specs.Derivative.{part, partsFrom, derivative}
 use Rattle.wiring.proofs.Poly.{monos-append, times-out}

@@ -1,29 +1,16 @@
 -- The panel's kind of monomials obeys the laws of a kind: its exponents are the natural numbers. Assumes nothing.
-use mathlib.Core.Path.{_≡_, refl, ap, _∙_}
+use mathlib.Core.Path.{_≡_, refl}
 use mathlib.Core.Logic.{inl}
-use mathlib.Core.List.{[], _∷_}
-use Prim.Native.Nat.{ℕ, zero, suc, _+_, _-_, _<_}
+use Prim.Native.Nat.{ℕ, zero, suc, _+_, _-_}
 use native.Mathlib.Omega.{arith}
 use lib.Dec.{eqb, ltb}
 use lib.IntN.{pos}
-use lib.ListN.{length, getD, set}
-use Rattle.monomial.specs.Monomial.{Mono, one, vars}
-use Rattle.monomial.proofs.Members.{map-at}
+use Rattle.monomial.specs.Monomial.{one, vars}
 use Rattle.monomial.proofs.order.Laws.{ℕ-order}
+use Rattle.monomial.proofs.Variables.{var-is}
 use Rattle.wiring.specs.Poly.{plain}
-use Rattle.wiring.proofs.sets.Laws.{vars-length}
-use Rattle.wiring.proofs.kinds.Laws.{Lawful}
-use Rattle.wiring.proofs.kinds.Powers.{Exponent, Near, is-none, stepped, Summing, lawful}
-
--- ---- 1 and the variables
--- a variable is 1 with one exponent raised
-pub var-is : (w i : ℕ) (d : Mono) → i < w → getD (vars w) i d ≡ set (one w) i 1
-unfolding vars
-var-is zero i d h = let z : ⊥ = omega arith in absurd z
-var-is (suc w) zero d h = refl
-var-is (suc w) (suc i) d h =
-    let l : length (vars w) ≡ w = vars-length w in
-    map-at (_∷_ 0) (vars w) i [] d (omega arith) ∙ ap (_∷_ 0) (var-is w i [] (omega arith))
+use Rattle.wiring.specs.Kinds.{Lawful, Exponent, Near, is-none, stepped, Summing}
+use Rattle.wiring.proofs.kinds.Powers.{lawful}
 
 -- ---- the exponents
 abbrev naturals : Exponent ℕ

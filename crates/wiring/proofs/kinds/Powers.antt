@@ -1,83 +1,22 @@
 -- Monomials that are lists of exponents, whatever numbers serve as exponents: from the laws of the exponents, those of the kind.
 -- Assumes nothing.
 use mathlib.Core.Path.{_≡_, refl, sym, ap, ap₂, _∙_}
-use mathlib.Core.Logic.{_⊎_, inl, inr}
-use mathlib.Core.Bool.{Bool}
+use mathlib.Core.Logic.{inl, inr}
 use mathlib.Core.List.{List, [], _∷_}
 use Prim.Native.Nat.{ℕ, zero, suc, _+_, _<_, _≤_}
 use native.Mathlib.Omega.{arith}
-use lib.IntN.{ℤ, pos, natAbs, _+ℤ_}
 use lib.ListN.{length, getD, set, replicate, length-set, length-replicate}
 use lib.Seq.{getD-set-same, getD-set-other, set-set, set-getD}
-use Rattle.monomial.specs.Lists.{pairwise, dictionary, pointwise}
+use Rattle.monomial.specs.Lists.{pointwise}
 use Rattle.monomial.proofs.Members.{fill-at}
-use Rattle.monomial.proofs.Loops.{pointwise-length, pointwise-comm, pointwise-assoc, pointwise-unit, pointwise-cancel}
-use Rattle.monomial.proofs.order.Laws.{Order, list-order}
+use Rattle.monomial.proofs.Loops.{pointwise-length, pointwise-comm, pointwise-assoc, pointwise-unit, pointwise-cancel, pointwise-everywhere, pointwise-change, pointwise-raise}
+use Rattle.monomial.proofs.order.Laws.{list-order}
 use Rattle.wiring.specs.Poly.{Kind}
-use Rattle.wiring.proofs.kinds.Laws.{variable, Built, unit, single, product, inverse, Lawful}
+use Rattle.wiring.specs.Kinds.{variable, Built, unit, single, product, inverse, Lawful, Exponent, powers, size, Tick, Near, is-none, stepped, Summing}
 
 -- a list of one entry again and again, with that entry set once more
 fill-set : {A : Type 0} (x : A) (w i : ℕ) → set (replicate w x) i x ≡ replicate w x
 fill-set x w i = ap (set (replicate w x) i) (sym (fill-at x w i)) ∙ set-getD (replicate w x) i x
-
--- numbers that serve as exponents: 0 and 1, sums, one less, and the whole number that each is
-pub record Exponent (E : Type 0) : Type 0 where
-  pub none : E
-  pub once : E
-  pub plus : E → E → E
-  pub less : E → E
-  pub number : E → ℤ
-  pub same : E → E → Bool
-  pub before : E → E → Bool
-
--- the monomials that are lists of them
-abbrev pub powers : {E : Type 0} → Exponent E → (ℕ → List (List E)) → Kind (List E)
-powers x vars = record {
-  width = length;
-  one = λ w. replicate w (x .none);
-  vars = vars;
-  mul = pointwise (x .plus);
-  power = λ z i. x .number (getD z i (x .none));
-  over = λ z i. set z i (x .less (getD z i (x .none)));
-  same = pairwise (x .same);
-  before = dictionary (x .same) (x .before);
-}
-
--- how far an exponent is from 0
-abbrev pub size : {E : Type 0} → Exponent E → E → ℕ
-size x e = natAbs (x .number e)
-
--- a tick: 1, or the inverse of 1
-abbrev pub Tick : {E : Type 0} → Exponent E → E → Type 0
-Tick x s = (x .once ≡ s) ⊎ (x .plus (x .once) s ≡ x .none)
-
--- an exponent is 0, or a tick more than a smaller one
-pub data Near {E : Type 0} (x : Exponent E) (e : E) : Type 0 where
-  is-none : x .none ≡ e → Near x e
-  stepped : (s d : E) → Tick x s → size x d < size x e → x .plus s d ≡ e → Near x e
-
-pub record Summing {E : Type 0} (x : Exponent E) : Type 0 where
-  pub order : Order (x .same) (x .before)
-  pub plus-comm : (a b : E) → x .plus a b ≡ x .plus b a
-  pub plus-assoc : (a b c : E) → x .plus (x .plus a b) c ≡ x .plus a (x .plus b c)
-  pub plus-none : (a : E) → x .plus a (x .none) ≡ a
-  pub plus-cancel : (a b c : E) → x .plus a b ≡ x .plus a c → b ≡ c
-  pub number-none : x .number (x .none) ≡ pos 0
-  pub number-once : x .number (x .once) ≡ pos 1
-  pub number-plus : (a b : E) → x .number (x .plus a b) ≡ x .number a +ℤ x .number b
-  pub less-once : x .less (x .once) ≡ x .none
-  pub plus-less : (a b : E) → (x .number b ≡ pos 0 → ⊥) → x .plus a (x .less b) ≡ x .less (x .plus a b)
-  pub near : (e : E) → Near x e
-
--- of a product, one factor may be divided by a variable, where its exponent may fall before a sum as well as after it
-pub over-mul : {E : Type 0} (x : Exponent E) (a b : List E) (i : ℕ)
-    → ((e : E) → x .plus e (x .less (getD b i (x .none))) ≡ x .less (x .plus e (getD b i (x .none))))
-    → pointwise (x .plus) a (set b i (x .less (getD b i (x .none)))) ≡ set (pointwise (x .plus) a b) i (x .less (getD (pointwise (x .plus) a b) i (x .none)))
-unfolding pointwise
-over-mul x [] b i h = refl
-over-mul x (e ∷ a) [] i h = refl
-over-mul x (e ∷ a) (f ∷ b) zero h = ap (λ g. g ∷ pointwise (x .plus) a b) (h e)
-over-mul x (e ∷ a) (f ∷ b) (suc i) h = ap (_∷_ (x .plus e f)) (over-mul x a b i h)
 
 module _ {E : Type 0} (x : Exponent E) (l : Summing x) where
   abbrev mul : List E → List E → List E
@@ -91,22 +30,11 @@ module _ {E : Type 0} (x : Exponent E) (l : Summing x) where
 
   -- ---- exponents by their places
   mul-at : (a b : List E) (i : ℕ) → length a ≡ length b → at (mul a b) i ≡ x .plus (at a i) (at b i)
-  unfolding pointwise
-  mul-at [] [] i h = sym (l .plus-none (x .none))
-  mul-at [] (f ∷ b) i h = let o : ⊥ = omega arith in absurd o
-  mul-at (e ∷ a) [] i h = let o : ⊥ = omega arith in absurd o
-  mul-at (e ∷ a) (f ∷ b) zero h = refl
-  mul-at (e ∷ a) (f ∷ b) (suc i) h = mul-at a b i (omega arith)
+  mul-at a b i h = pointwise-everywhere (x .plus) (x .none) (l .plus-none (x .none)) a b i h
 
   -- a power of one variable times z
-  one-mul : (z : List E) → mul (one (length z)) z ≡ z
-  one-mul z = pointwise-comm (x .plus) (l .plus-comm) (one (length z)) z ∙ pointwise-unit (x .plus) (x .none) (l .plus-none) z
-
   raise : (z : List E) (i : ℕ) (s : E) → i < length z → mul (set (one (length z)) i s) z ≡ set z i (x .plus s (at z i))
-  unfolding pointwise
-  raise [] i s h = let o : ⊥ = omega arith in absurd o
-  raise (e ∷ z) zero s h = ap (_∷_ (x .plus s e)) (one-mul z)
-  raise (e ∷ z) (suc i) s h = ap₂ _∷_ (l .plus-comm (x .none) e ∙ l .plus-none e) (raise z i s (omega arith))
+  raise z i s h = pointwise-raise (x .plus) (x .none) (λ e. l .plus-comm (x .none) e ∙ l .plus-none e) z i s h
 
   -- ---- 1 and the variables make every monomial
   unfoldable degree : List E → ℕ
@@ -203,6 +131,6 @@ module _ {E : Type 0} (x : Exponent E) (l : Summing x) where
       power-other = λ w i j h n. ap (x .number) (variable-at w i j h ∙ getD-set-other (one w) i j (x .once) (x .none) n ∙ fill-at (x .none) w j) ∙ l .number-none;
       power-mul = λ a b i h. ap (x .number) (mul-at a b i h) ∙ l .number-plus (at a i) (at b i);
       over-own = over-own;
-      over-mul = λ a b i n. over-mul x a b i (λ e. l .plus-less e (at b i) n);
+      over-mul = λ a b i n. pointwise-change (x .plus) (x .less) (x .none) a b i (λ e. l .plus-less e (at b i) n);
       built = λ z. build (degree z) (length z) z refl (omega arith);
     }

@@ -8,17 +8,18 @@ use Prim.Native.Nat.{ℕ, zero, suc, _<_, _≤_}
 use native.Mathlib.Omega.{arith}
 use lib.Dec.{T}
 use lib.IntN.{ℤ, pos}
-use lib.ListN.{length, getD}
+use lib.ListN.{getD}
 use Rattle.monomial.specs.Lists.{any, some, place}
 use Rattle.monomial.specs.Monomial.{Mono, one}
+use Rattle.monomial.specs.Claims.{_∈_, Order}
 use Rattle.monomial.proofs.Tests.{Tested, passed, failed, test, is→T, is→nT}
-use Rattle.monomial.proofs.Members.{_∈_, here, there, some-none, some-out}
+use Rattle.monomial.proofs.Members.{here, there, some-none, some-out}
 use Rattle.monomial.proofs.Counting.{place-lt, place-passes, place-least}
-use Rattle.monomial.proofs.order.Laws.{Order, mono-order}
 use Rattle.wiring.specs.Poly.{Kind, Poly, plain, Same, coeff, monos, support}
 use Rattle.wiring.specs.Derivative.{derivative}
 use Rattle.wiring.specs.Signals.{signals}
 use Rattle.wiring.specs.Quadratic.{Product, multiplied, inV2, unmet, nonsquares, Linked, Quadratic}
+use Rattle.wiring.specs.Claims.{FirstUnlinked}
 use Rattle.wiring.proofs.Poly.{coeff-listed, support-out, graph, graph-support}
 use Rattle.wiring.proofs.kinds.Plain.{plain-lawful}
 use Rattle.wiring.proofs.derivative.Rules.{one-rule}
@@ -118,12 +119,7 @@ module _ {M : Type 0} (k : Kind M) (o : Order (k .same) (k .before)) (v : List M
 
     -- ---- the first member whose derivative is no list of products
     module _ (x : M) where
-      pub record FirstUnlinked (i : ℕ) : Type 0 where
-        pub below : i < length v
-        pub unlinked : Linked k v (d (getD v i x)) → ⊥
-        pub earlier : (j : ℕ) → j < i → Linked k v (d (getD v j x))
-
-      pub first-unlinked : T (some (nonsquares k v d)) → FirstUnlinked (place (λ z. some (unmet k v (d z))) v)
+      pub first-unlinked : T (some (nonsquares k v d)) → FirstUnlinked k v d x (place (λ z. some (unmet k v (d z))) v)
       first-unlinked t = record { below = place-lt has v found; unlinked = here-not; earlier = linked-before }
         where
           has : M → Bool
@@ -142,15 +138,15 @@ module _ {M : Type 0} (k : Kind M) (o : Order (k .same) (k .before)) (v : List M
           linked-before j h = let z : M = getD v j x in linked-iff (d z) .1 (some-none (unmet k v (d z)) (place-least has v x j h))
 
       -- there is one such number
-      pub first-unlinked-one : (i j : ℕ) → FirstUnlinked i → FirstUnlinked j → i ≡ j
+      pub first-unlinked-one : (i j : ℕ) → FirstUnlinked k v d x i → FirstUnlinked k v d x j → i ≡ j
       first-unlinked-one i j f g = omega (arith, not-before i j f g, not-before j i g f)
         where
-          not-before : (a b : ℕ) → FirstUnlinked a → FirstUnlinked b → a < b → ⊥
+          not-before : (a b : ℕ) → FirstUnlinked k v d x a → FirstUnlinked k v d x b → a < b → ⊥
           not-before a b p q h = p .unlinked (q .earlier a h)
 
 -- signal number 0 is 1, whose derivative is zero: the first that fails is a variable or a new monomial
 pub first-unlinked-raised : (w n : ℕ) (fs : List (Poly Mono)) (s : List Mono) (i : ℕ)
-    → FirstUnlinked plain mono-order (signals w n s) (derivative plain fs) [] i → 1 ≤ i
+    → FirstUnlinked plain (signals w n s) (derivative plain fs) [] i → 1 ≤ i
 unfolding signals multiplied
 first-unlinked-raised w n fs s (suc i) f = omega arith
 first-unlinked-raised w n fs s zero f = absurd (f .unlinked (record { list = []; members = λ q h. absurd (List·Memᴰ·not-nil h); equal = nothing }))

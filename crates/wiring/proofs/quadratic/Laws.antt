@@ -5,13 +5,13 @@ use mathlib.Core.Bool.{Bool, not}
 use mathlib.Core.List.{List, [], _∷_, map, List·Memᴰ·cases-cons, List·Memᴰ·not-nil, List·Memᴰ·append-cases, Memᴰ·append-left, Memᴰ·append-right, Memᴰ·cast, Memᴰ·map, Memᴰ·of-map}
 use lib.Dec.{T, T-not, not-T}
 use Rattle.monomial.specs.Lists.{any, some, gather}
+use Rattle.monomial.specs.Claims.{_∈_, Ascending, Order}
 use Rattle.monomial.proofs.Tests.{same-test}
-use Rattle.monomial.proofs.Members.{_∈_, here, there, any-in, any-out, Passing, some-in, some-out, keep-in, keep-out, gather-in, gather-out, Gathered}
-use Rattle.monomial.proofs.order.Laws.{Order}
-use Rattle.monomial.proofs.order.Ascending.{Ascending, arrange-asc, arrange-in, arrange-out, among-in, among-out}
+use Rattle.monomial.proofs.Members.{here, there, any-in, any-out, Passing, some-in, some-out, keep-in, keep-out, gather-in, gather-out, Gathered}
+use Rattle.monomial.proofs.order.Ascending.{arrange-asc, arrange-in, arrange-out, among-in, among-out}
 use Rattle.wiring.specs.Poly.{Kind, Poly, support}
 use Rattle.wiring.specs.Quadratic.{products, factor, inV2, unmet, nonsquares}
-use Rattle.wiring.proofs.kinds.Laws.{Lawful}
+use Rattle.wiring.specs.Kinds.{Lawful}
 
 module _ {M : Type 0} (k : Kind M) (o : Order (k .same) (k .before)) (v : List M) where
   -- ---- V2

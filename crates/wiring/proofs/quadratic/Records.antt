@@ -15,10 +15,12 @@ use lib.Seq.{take-suc, take-all}
 use Rattle.monomial.specs.Lists.{any, some, keep, gather}
 use Rattle.monomial.specs.Monomial.{Mono}
 use Rattle.monomial.specs.Order.{same, before}
+use Rattle.monomial.specs.Claims.{_∈_, _⊆_, Order}
 use Rattle.monomial.proofs.Tests.{and-l, and-r, and-i, T→is, nT→is, is→T, is→nT, Tested, passed, failed, test}
-use Rattle.monomial.proofs.Members.{_∈_, there, any-in, any-out, Passing, some-in, some-out, keep-in, keep-out, gather-in, gather-out, Gathered}
-use Rattle.monomial.proofs.order.Laws.{Order, mono-order}
-use Rattle.monomial.proofs.order.Ascending.{_⊆_, keep-asc}
+use Rattle.monomial.proofs.Members.{there, any-in, any-out, Passing, some-in, some-out, keep-in, keep-out, gather-in, gather-out, Gathered}
+use Rattle.monomial.proofs.order.Laws.{mono-order}
+use Rattle.monomial.proofs.order.Ascending.{keep-asc}
+use Rattle.wiring.specs.Panel.{termBytes}
 use Rattle.wiring.specs.Coefficient.{isZero}
 use Rattle.wiring.specs.Poly.{Poly, plain, coeff, support}
 use Rattle.wiring.specs.Derivative.{derivative, power, image, offers}
@@ -208,7 +210,7 @@ meeting-heads f rs z p t best e m h =
     none = subst (λ (s : Bool). BestOf before s [] (p .m .e)) (sym e) (λ y k. List·Memᴰ·not-nil k)
 
 -- ---- the records of the bytes, by number
-pub at-record : {A : Type 0} (f : Record → A) (bytes : List ℕ) (t : ℕ) → t < length bytes / 12 → f (getD (records bytes) t (recordAt bytes t)) ≡ f (recordAt bytes t)
+pub at-record : {A : Type 0} (f : Record → A) (bytes : List ℕ) (t : ℕ) → t < length bytes / termBytes → f (getD (records bytes) t (recordAt bytes t)) ≡ f (recordAt bytes t)
 at-record f bytes t h = ap f (records-at bytes t (recordAt bytes t) h)
 
 -- ---- with the table of V2 for its test, a loop over the records meets the nonsquares

@@ -10,39 +10,22 @@ use lib.Dec.{T, eqb, eqb→eq, not-T, T-not}
 use lib.ListN.{length, getD, take, drop, replicate, length-append, length-drop, length-replicate, take-append-drop}
 use lib.Seq.{length-take-le, take-suc, take-add, getD-append-add, getD-take, getD-drop, ext-getD}
 use Rattle.monomial.specs.Lists.{any, all, gather, place}
-use Rattle.monomial.specs.Monomial.{Mono, one, constants}
-use Rattle.monomial.specs.Order.{same, before}
+use Rattle.monomial.specs.Monomial.{Mono, one, constants, width}
+use Rattle.monomial.specs.Order.{same}
+use Rattle.monomial.specs.Claims.{_∈_}
 use Rattle.monomial.proofs.Tests.{Tested, passed, failed, test, T→is, nT→is, and-l, and-r, and-i}
-use Rattle.monomial.proofs.Members.{_∈_, here, all-in, all-out, take-in, gather-append, fill-at}
+use Rattle.monomial.proofs.Members.{here, all-in, all-out, take-in, gather-append, fill-at}
 use Rattle.monomial.proofs.Counting.{at-in}
 use Rattle.monomial.proofs.Strips.{strip-length, strip-at}
 use Rattle.monomial.proofs.order.Laws.{mono-order}
-use Rattle.monomial.proofs.order.Ascending.{Ascending, among-in, among-out}
+use Rattle.monomial.proofs.order.Ascending.{among-in, among-out}
+use Rattle.wiring.specs.Panel.{cards, setBytes, setExponent}
 use Rattle.wiring.specs.Signals.{flat}
 use Rattle.wiring.specs.Terms.{exponentsRight}
 use Rattle.wiring.specs.Sets.{places, sizeOf, setOf, ascending, monomialRight, setRight, setRecord}
-use Rattle.wiring.proofs.signals.Laws.{Wide}
+use Rattle.wiring.specs.Claims.{Permitted, RightRecord, Recordable, Wide}
 use Rattle.wiring.proofs.terms.Laws.{Fit, exponents-in, exponents-everywhere}
 use Rattle.wiring.proofs.sets.Laws.{placeAt, places-length, places-at, places-width, used-length, used-at, ascending-in, ascending-out}
-
--- ---- the facts
--- what a set may hold: its monomials ascend strictly, none is 1 or a single variable, no exponent is above 54, and those beyond xn are 0
-pub record Permitted (n : ℕ) (s : List Mono) : Type 0 where
-  pub ascends : Ascending before s
-  pub new : (m : Mono) → m ∈ s → m ∈ constants 6 → ⊥
-  pub small : (m : Mono) → m ∈ s → (i : ℕ) → getD m i 0 ≤ 54
-  pub within : (m : Mono) → m ∈ s → (i : ℕ) → n ≤ i → getD m i 0 ≡ 0
-
--- such a set, and zero bytes behind it
-pub record RightRecord (n : ℕ) (bytes : List ℕ) : Type 0 where
-  pub zeros : (k : ℕ) → 6 * sizeOf bytes ≤ k → getD bytes k 0 ≡ 0
-  pub permitted : Permitted n (setOf bytes)
-
--- such a set of at most six monomials in six variables
-pub record Recordable (n : ℕ) (s : List Mono) : Type 0 where
-  pub few : length s ≤ 6
-  pub wide : (m : Mono) → m ∈ s → length m ≡ 6
-  pub permitted : Permitted n s
 
 -- ---- zeros
 zero-all : (l : List ℕ) → T (all (eqb 0) l) → (k : ℕ) → getD l k 0 ≡ 0
@@ -68,11 +51,11 @@ module _ (n : ℕ) where
   unfolding monomialRight
   permitted-out s a t =
       let right : (m : Mono) → m ∈ s → T (monomialRight n m) = λ m h. all-out (monomialRight n) t h in
-      let fit : (m : Mono) → m ∈ s → (i : ℕ) → Fit 54 n (getD m i 0) i =
-      λ m h i. exponents-everywhere 54 n m (and-r (not (any (same m) (constants 6))) (exponentsRight 54 n m) (right m h)) i in
+      let fit : (m : Mono) → m ∈ s → (i : ℕ) → Fit setExponent n (getD m i 0) i =
+      λ m h i. exponents-everywhere setExponent n m (and-r (not (any (same m) (constants width))) (exponentsRight setExponent n m) (right m h)) i in
       record {
         ascends = ascending-out s a;
-        new = λ m h k. T-not (any (same m) (constants 6)) (and-l (not (any (same m) (constants 6))) (exponentsRight 54 n m) (right m h)) (among-in mono-order k);
+        new = λ m h k. T-not (any (same m) (constants width)) (and-l (not (any (same m) (constants width))) (exponentsRight setExponent n m) (right m h)) (among-in mono-order k);
         small = λ m h i. fit m h i .small;
         within = λ m h i. fit m h i .zero;
       }
@@ -83,29 +66,29 @@ module _ (n : ℕ) where
     where
       right : (m : Mono) → m ∈ s → T (monomialRight n m)
       right m h =
-          and-i (not (any (same m) (constants 6))) (exponentsRight 54 n m)
-          (not-T (any (same m) (constants 6)) (λ t. p .new m h (among-out mono-order m (constants 6) t)))
-          (exponents-in 54 n m (λ i k. record { small = p .small m h i; zero = p .within m h i }))
+          and-i (not (any (same m) (constants width))) (exponentsRight setExponent n m)
+          (not-T (any (same m) (constants width)) (λ t. p .new m h (among-out mono-order m (constants width) t)))
+          (exponents-in setExponent n m (λ i k. record { small = p .small m h i; zero = p .within m h i }))
 
   pub right-iff : (bytes : List ℕ) → T (setRight n bytes) ↔ RightRecord n bytes
   unfolding setRight
   right-iff bytes = (facts, rule)
     where
       rest : List ℕ
-      rest = drop (6 * sizeOf bytes) bytes
+      rest = drop (width * sizeOf bytes) bytes
 
       facts : T (setRight n bytes) → RightRecord n bytes
       facts t = record {
         zeros = λ k h.
-            let e : 6 * sizeOf bytes + (k - 6 * sizeOf bytes) ≡ k = omega arith in
-            rw (getD-drop (6 * sizeOf bytes) bytes (k - 6 * sizeOf bytes) 0, e) at (zero-all rest (search (and-l, and-r, t)) (k - 6 * sizeOf bytes));
+            let e : width * sizeOf bytes + (k - width * sizeOf bytes) ≡ k = omega arith in
+            rw (getD-drop (width * sizeOf bytes) bytes (k - width * sizeOf bytes) 0, e) at (zero-all rest (search (and-l, and-r, t)) (k - width * sizeOf bytes));
         permitted = permitted-out (setOf bytes) (search (and-l, and-r, t)) (search (and-l, and-r, t));
       }
 
       rule : RightRecord n bytes → T (setRight n bytes)
       rule r =
           let s = setOf bytes in
-          let none : T (all (eqb 0) rest) = all-zero rest (λ k. getD-drop (6 * sizeOf bytes) bytes k 0 ∙ r .zeros (6 * sizeOf bytes + k) (omega arith)) in
+          let none : T (all (eqb 0) rest) = all-zero rest (λ k. getD-drop (width * sizeOf bytes) bytes k 0 ∙ r .zeros (width * sizeOf bytes + k) (omega arith)) in
           let first : T (all (eqb 0) rest && ascending s) = and-i (all (eqb 0) rest) (ascending s) none (ascending-in s (r .permitted .ascends)) in
           and-i (all (eqb 0) rest && ascending s) (all (monomialRight n) s) first (permitted-in s (r .permitted))
 
@@ -128,56 +111,56 @@ module _ {A : Type 0} (f : A → Bool) where
       rw (nT→is (f x) (least 0 (omega arith))) (ap suc (place-is l i d (omega arith) (λ j k. least (suc j) (omega arith)) (λ k. here (omega arith))))
 
 -- ---- the record of a set, place by place
-pub record-is : (s : List Mono) → setRecord s ≡ flat s ++ replicate (36 - 6 * length s) 0
+pub record-is : (s : List Mono) → setRecord s ≡ flat s ++ replicate (setBytes - width * length s) 0
 unfolding setRecord
 record-is s = refl
 
-module _ (s : List Mono) (few : length s ≤ 6) (wide : Wide s) where
-  pub record-length : length (setRecord s) ≡ 36
+module _ (s : List Mono) (few : length s ≤ cards) (wide : Wide s) where
+  pub record-length : length (setRecord s) ≡ setBytes
   unfolding setRecord
   record-length =
-      let long : length (flat s) ≡ 6 * length s = strip-length (λ m. m) 6 s wide in
-      let tail : length {A = ℕ} (replicate (36 - 6 * length s) 0) ≡ 36 - 6 * length s = length-replicate (36 - 6 * length s) 0 in
-      length-append (flat s) (replicate (36 - 6 * length s) 0) ∙ omega arith
+      let long : length (flat s) ≡ width * length s = strip-length (λ m. m) width s wide in
+      let tail : length {A = ℕ} (replicate (setBytes - width * length s) 0) ≡ setBytes - width * length s = length-replicate (setBytes - width * length s) 0 in
+      length-append (flat s) (replicate (setBytes - width * length s) 0) ∙ omega arith
 
-  record-zeros : (k : ℕ) → 6 * length s ≤ k → getD (setRecord s) k 0 ≡ 0
+  record-zeros : (k : ℕ) → width * length s ≤ k → getD (setRecord s) k 0 ≡ 0
   unfolding setRecord
   record-zeros k h =
       let g = flat s in
-      let long : length g ≡ 6 * length s = strip-length (λ m. m) 6 s wide in
+      let long : length g ≡ width * length s = strip-length (λ m. m) width s wide in
       let e : length g + (k - length g) ≡ k = omega arith in
-      rw (sym e) (getD-append-add g (replicate (36 - 6 * length s) 0) (k - length g) 0 ∙ fill-at 0 (36 - 6 * length s) (k - length g))
+      rw (sym e) (getD-append-add g (replicate (setBytes - width * length s) 0) (k - length g) 0 ∙ fill-at 0 (setBytes - width * length s) (k - length g))
 
   -- a place of the set, and an unused one
   record-at : (i : ℕ) → i < length s → placeAt (setRecord s) i ≡ getD s i []
   unfolding setRecord
-  record-at i h = strip-at (λ m. m) 6 s wide (replicate (36 - 6 * length s) 0) i [] h
+  record-at i h = strip-at (λ m. m) width s wide (replicate (setBytes - width * length s) 0) i [] h
 
-  record-unused : (i : ℕ) → length s ≤ i → i < 6 → placeAt (setRecord s) i ≡ one 6
+  record-unused : (i : ℕ) → length s ≤ i → i < cards → placeAt (setRecord s) i ≡ one width
   record-unused i h k =
       let r = setRecord s in
-      let long : length (placeAt r i) ≡ 6 = length-take-le 6 (drop (6 * i) r) (omega (arith, length-drop (6 * i) r, record-length)) in
-      let none : (j : ℕ) → j < 6 → getD (placeAt r i) j 0 ≡ 0 =
-      λ j l. getD-take 6 (drop (6 * i) r) j 0 l ∙ getD-drop (6 * i) r j 0 ∙ record-zeros (6 * i + j) (omega arith) in
-      zero-list (placeAt r i) 6 long none
+      let long : length (placeAt r i) ≡ width = length-take-le width (drop (width * i) r) (omega (arith, length-drop (width * i) r, record-length)) in
+      let none : (j : ℕ) → j < width → getD (placeAt r i) j 0 ≡ 0 =
+      λ j l. getD-take width (drop (width * i) r) j 0 l ∙ getD-drop (width * i) r j 0 ∙ record-zeros (width * i + j) (omega arith) in
+      zero-list (placeAt r i) width long none
 
-  module _ (new : (m : Mono) → m ∈ s → m ≡ one 6 → ⊥) where
+  module _ (new : (m : Mono) → m ∈ s → m ≡ one width → ⊥) where
     pub record-size : sizeOf (setRecord s) ≡ length s
     unfolding sizeOf
-    record-size = place-is (same (one 6)) (places r) (length s) [] (omega (arith, places-length r)) used unused
+    record-size = place-is (same (one width)) (places r) (length s) [] (omega (arith, places-length r)) used unused
       where
         r : List ℕ
         r = setRecord s
 
-        used : (j : ℕ) → j < length s → T (same (one 6) (getD (places r) j [])) → ⊥
+        used : (j : ℕ) → j < length s → T (same (one width) (getD (places r) j [])) → ⊥
         used j h t =
-            let e : one 6 ≡ getD s j [] = mono-order .same-eq (one 6) (getD (places r) j []) t ∙ places-at r j [] (omega arith) ∙ record-at j h in
+            let e : one width ≡ getD s j [] = mono-order .same-eq (one width) (getD (places r) j []) t ∙ places-at r j [] (omega arith) ∙ record-at j h in
             new (getD s j []) (at-in s j [] h) (sym e)
 
-        unused : length s < length (places r) → T (same (one 6) (getD (places r) (length s) []))
+        unused : length s < length (places r) → T (same (one width) (getD (places r) (length s) []))
         unused h =
-            let room : length s < 6 = omega (arith, places-length r) in
-            rw (places-at r (length s) [] room, record-unused (length s) (omega arith) room) (mono-order .same-refl (one 6))
+            let room : length s < cards = omega (arith, places-length r) in
+            rw (places-at r (length s) [] room, record-unused (length s) (omega arith) room) (mono-order .same-refl (one width))
 
     pub record-holds : setOf (setRecord s) ≡ s
     unfolding setOf
@@ -189,7 +172,7 @@ module _ (s : List Mono) (few : length s ≤ 6) (wide : Wide s) where
 
 -- ---- sets and their records
 module _ (n : ℕ) (s : List Mono) (r : Recordable n s) where
-  not-one : (m : Mono) → m ∈ s → m ≡ one 6 → ⊥
+  not-one : (m : Mono) → m ∈ s → m ≡ one width → ⊥
   not-one m h e = r .permitted .new m h (List·Memᴰ·head e)
 
   -- the record of a set holds the set
@@ -206,21 +189,21 @@ module _ (n : ℕ) (s : List Mono) (r : Recordable n s) where
       })
 
 -- the first k places, one behind the other, are the first 6 * k bytes
-bytes-used : (bytes : List ℕ) (k : ℕ) → k ≤ 6 → flat (take k (places bytes)) ≡ take (6 * k) bytes
+bytes-used : (bytes : List ℕ) (k : ℕ) → k ≤ cards → flat (take k (places bytes)) ≡ take (width * k) bytes
 unfolding gather
 bytes-used bytes zero h = refl
 bytes-used bytes (suc k) h =
     let t = places bytes in
     let next : take (suc k) t ≡ take k t ++ (placeAt bytes k ∷ []) =
     take-suc t k [] (omega (arith, places-length bytes)) ∙ ap (λ m. take k t ++ (m ∷ [])) (places-at bytes k [] (omega arith)) in
-    let e : 6 * suc k ≡ 6 * k + 6 = omega arith in
+    let e : width * suc k ≡ width * k + width = omega arith in
     ap flat next ∙ gather-append (λ m. m) (take k t) (placeAt bytes k ∷ []) ∙ ap₂ _++_ (bytes-used bytes k (omega arith)) (append-nil (placeAt bytes k))
-    ∙ sym (take-add (6 * k) 6 bytes) ∙ ap (λ (j : ℕ). take j bytes) (sym e)
+    ∙ sym (take-add (width * k) width bytes) ∙ ap (λ (j : ℕ). take j bytes) (sym e)
 
-module _ (n : ℕ) (bytes : List ℕ) (t : T (setRight n bytes)) (l : length bytes ≡ 36) where
-  size-few : sizeOf bytes ≤ 6
+module _ (n : ℕ) (bytes : List ℕ) (t : T (setRight n bytes)) (l : length bytes ≡ setBytes) where
+  size-few : sizeOf bytes ≤ cards
   unfolding sizeOf
-  size-few = omega (arith, place-most (same (one 6)) (places bytes), places-length bytes)
+  size-few = omega (arith, place-most (same (one width)) (places bytes), places-length bytes)
 
   set-long : length (setOf bytes) ≡ sizeOf bytes
   unfolding setOf
@@ -235,18 +218,18 @@ module _ (n : ℕ) (bytes : List ℕ) (t : T (setRight n bytes)) (l : length byt
     permitted = right-iff n bytes .0 t .permitted;
   }
 
-  right-front : flat (setOf bytes) ≡ take (6 * sizeOf bytes) bytes
+  right-front : flat (setOf bytes) ≡ take (width * sizeOf bytes) bytes
   unfolding setOf
   right-front = bytes-used bytes (sizeOf bytes) size-few
 
-  right-tail : replicate (36 - 6 * length (setOf bytes)) 0 ≡ drop (6 * sizeOf bytes) bytes
+  right-tail : replicate (setBytes - width * length (setOf bytes)) 0 ≡ drop (width * sizeOf bytes) bytes
   right-tail =
-      let at = 6 * sizeOf bytes in
-      let width = 36 - 6 * length (setOf bytes) in
+      let at = width * sizeOf bytes in
+      let width = setBytes - width * length (setOf bytes) in
       let long : length (drop at bytes) ≡ width = omega (arith, set-long, length-drop at bytes) in
       sym (zero-list (drop at bytes) width long (λ k h. getD-drop at bytes k 0 ∙ right-iff n bytes .0 t .zeros (at + k) (omega arith)))
 
   -- and the record is that set's
   pub right-record : setRecord (setOf bytes) ≡ bytes
   unfolding setRecord
-  right-record = ap₂ _++_ right-front right-tail ∙ take-append-drop (6 * sizeOf bytes) bytes
+  right-record = ap₂ _++_ right-front right-tail ∙ take-append-drop (width * sizeOf bytes) bytes

@@ -3,54 +3,50 @@ use mathlib.Core.Path.{_≡_, refl, sym, ap, ap₂, subst, _∙_}
 use mathlib.Core.Logic.{⊎-elim}
 use mathlib.Core.Bool.{Bool, true, false, _&&_}
 use mathlib.Core.List.{List, [], _∷_, List·Memᴰ·cases-cons, Memᴰ·of-map}
-use Prim.Native.Nat.{ℕ, zero, suc, _+_, _*_, _-_, _<_, _≤_}
+use Prim.Native.Nat.{ℕ, suc, _+_, _*_, _-_, _<_, _≤_}
 use native.Mathlib.Omega.{arith}
 use native.Mathlib.Numerals.{add-one}
 use lib.Dec.{T, eqb}
-use lib.ListN.{length, getD, take, drop, length-map, length-drop, drop-of-length-le}
+use lib.ListN.{length, getD, take, drop, length-drop, drop-of-length-le}
 use lib.Seq.{length-take-le, getD-take, drop-cons}
 use Rattle.monomial.specs.Lists.{all, below}
-use Rattle.monomial.specs.Monomial.{Mono, vars}
+use Rattle.monomial.specs.Monomial.{Mono, width}
 use Rattle.monomial.specs.Order.{before}
+use Rattle.monomial.specs.Claims.{_∈_, Ascending, empty, first}
 use Rattle.monomial.proofs.Tests.{is→T, is→nT, nT→is, and-l, and-r, and-i, same-test}
-use Rattle.monomial.proofs.Members.{_∈_, here, all-in, all-out, take-in}
+use Rattle.monomial.proofs.Members.{here, all-in, all-out, take-in}
 use Rattle.monomial.proofs.Counting.{below-out, below-at}
 use Rattle.monomial.proofs.order.Laws.{mono-order}
-use Rattle.monomial.proofs.order.Ascending.{Ascending, empty, first, head-first, tail-asc}
+use Rattle.monomial.proofs.order.Ascending.{head-first, tail-asc}
+use Rattle.wiring.specs.Panel.{cards, setBytes, setExponent}
 use Rattle.wiring.specs.Signals.{Fitting}
 use Rattle.wiring.specs.Terms.{exponentsRight}
 use Rattle.wiring.specs.Sets.{places, sizeOf, setOf, ascending, monomialRight, setRight, monomialsOf, SetReads}
 use Rattle.wiring.specs.declared.sets.SetRead.{SetRead}
 use Rattle.wiring.proofs.terms.Laws.{all-small}
 
--- ---- 1 and the variables
-pub vars-length : (w : ℕ) → length (vars w) ≡ w
-unfolding vars
-vars-length zero = refl
-vars-length (suc w) = ap suc (length-map (vars w) (_∷_ 0) ∙ vars-length w)
-
 -- ---- the places of a record
 -- the six bytes from place i on
 abbrev pub placeAt : List ℕ → ℕ → Mono
-placeAt bytes i = take 6 (drop (6 * i) bytes)
+placeAt bytes i = take width (drop (width * i) bytes)
 
-pub places-length : (bytes : List ℕ) → length (places bytes) ≡ 6
+pub places-length : (bytes : List ℕ) → length (places bytes) ≡ cards
 unfolding places below
 places-length bytes = refl
 
-pub places-at : (bytes : List ℕ) (i : ℕ) (d : Mono) → i < 6 → getD (places bytes) i d ≡ placeAt bytes i
+pub places-at : (bytes : List ℕ) (i : ℕ) (d : Mono) → i < cards → getD (places bytes) i d ≡ placeAt bytes i
 unfolding places
-places-at bytes i d h = below-at (placeAt bytes) 6 i d h
+places-at bytes i d h = below-at (placeAt bytes) cards i d h
 
-pub places-width : (bytes : List ℕ) → length bytes ≡ 36 → (m : Mono) → m ∈ places bytes → length m ≡ 6
+pub places-width : (bytes : List ℕ) → length bytes ≡ setBytes → (m : Mono) → m ∈ places bytes → length m ≡ width
 unfolding places
 places-width bytes l m h =
-    let p : (i : ℕ) × (i ∈ below 6) × (placeAt bytes i ≡ m) = Memᴰ·of-map (placeAt bytes) (below 6) h in
-    let i : p .0 < 6 = below-out 6 (p .0) (p .1) in
-    let long : length (placeAt bytes (p .0)) ≡ 6 = length-take-le 6 (drop (6 * p .0) bytes) (simp length-drop (omega arith)) in
+    let p : (i : ℕ) × (i ∈ below cards) × (placeAt bytes i ≡ m) = Memᴰ·of-map (placeAt bytes) (below cards) h in
+    let i : p .0 < cards = below-out cards (p .0) (p .1) in
+    let long : length (placeAt bytes (p .0)) ≡ width = length-take-le width (drop (width * p .0) bytes) (simp length-drop (omega arith)) in
     ap length (sym (p .2)) ∙ long
 
-module _ (bytes : List ℕ) (len : ℕ) (h : len ≤ 6) where
+module _ (bytes : List ℕ) (len : ℕ) (h : len ≤ cards) where
   pub used-length : length (take len (places bytes)) ≡ len
   used-length = length-take-le len (places bytes) (omega (arith, places-length bytes))
 
@@ -58,10 +54,10 @@ module _ (bytes : List ℕ) (len : ℕ) (h : len ≤ 6) where
   used-at i d k = getD-take len (places bytes) i d k ∙ places-at bytes i d (omega arith)
 
   -- the place before place i, by its bytes
-  pub used-before : (i : ℕ) (d : Mono) → 1 ≤ i → i < len → getD (take len (places bytes)) (i - 1) d ≡ take 6 (drop (6 * i - 6) bytes)
+  pub used-before : (i : ℕ) (d : Mono) → 1 ≤ i → i < len → getD (take len (places bytes)) (i - 1) d ≡ take width (drop (width * i - width) bytes)
   used-before i d j k =
-      let at : 6 * (i - 1) ≡ 6 * i - 6 = omega arith in
-      used-at (i - 1) d (omega arith) ∙ ap (λ (a : ℕ). take 6 (drop a bytes)) at
+      let at : width * (i - 1) ≡ width * i - width = omega arith in
+      used-at (i - 1) d (omega arith) ∙ ap (λ (a : ℕ). take width (drop a bytes)) at
 
 -- ---- ascending lists: the test, the fact, and the test of neighbours
 pub ascending-out : (l : List Mono) → T (ascending l) → Ascending before l
@@ -129,28 +125,28 @@ module _ {l : List Mono} {i : ℕ} (c : Climbing l i) where
 
 -- the same for the first len places of a record, each by its bytes
 pub record Neighbouring (bytes : List ℕ) (len i : ℕ) : Type 0 where
-  pub few : len ≤ 6
+  pub few : len ≤ cards
   pub climbing : Climbing (take len (places bytes)) i
 
-pub neighbouring-start : (bytes : List ℕ) (len : ℕ) → len ≤ 6 → Neighbouring bytes len 1
+pub neighbouring-start : (bytes : List ℕ) (len : ℕ) → len ≤ cards → Neighbouring bytes len 1
 neighbouring-start bytes len h = record { few = h; climbing = climbing-start (take len (places bytes)) }
 
 module _ {bytes : List ℕ} {len i : ℕ} (c : Neighbouring bytes len i) where
   used : i < len → i < length (take len (places bytes))
   used h = omega (arith, used-length bytes len (c .few))
 
-  neighbours : i < len → (x y : Mono) → x ≡ take 6 (drop (6 * i - 6) bytes) → y ≡ placeAt bytes i
+  neighbours : i < len → (x y : Mono) → x ≡ take width (drop (width * i - width) bytes) → y ≡ placeAt bytes i
       → before (getD (take len (places bytes)) (i - 1) []) (getD (take len (places bytes)) i []) ≡ before x y
   neighbours h x y d e =
       let p = used-before bytes len (c .few) i [] (c .climbing .low) h ∙ sym d in
       let q = used-at bytes len (c .few) i [] h ∙ sym e in
       ap₂ before p q
 
-  pub neighbouring-fails : i < len → (x y : Mono) → x ≡ take 6 (drop (6 * i - 6) bytes) → y ≡ placeAt bytes i → before x y ≡ false
+  pub neighbouring-fails : i < len → (x y : Mono) → x ≡ take width (drop (width * i - width) bytes) → y ≡ placeAt bytes i → before x y ≡ false
       → false ≡ ascending (take len (places bytes))
   neighbouring-fails h x y d e f = climbing-fails (c .climbing) (used h) (neighbours h x y d e ∙ f)
 
-  pub neighbouring-on : i < len → (x y : Mono) → x ≡ take 6 (drop (6 * i - 6) bytes) → y ≡ placeAt bytes i → before x y ≡ true → Neighbouring bytes len (i + 1)
+  pub neighbouring-on : i < len → (x y : Mono) → x ≡ take width (drop (width * i - width) bytes) → y ≡ placeAt bytes i → before x y ≡ true → Neighbouring bytes len (i + 1)
   neighbouring-on h x y d e t = record { few = c .few; climbing = climbing-on (c .climbing) (used h) (neighbours h x y d e ∙ t) }
 
   pub neighbouring-ends : len ≤ i → true ≡ ascending (take len (places bytes))
@@ -177,7 +173,7 @@ module _ {A : Type 0} {f : A → Bool} {l : List A} {at i : ℕ} (d : A) (c : Ch
 -- ---- reading a record whose size is known: each test that fails refuses it, and one that passes all three holds its set
 module _ (n : ℕ) (bytes : List ℕ) (len : ℕ) (e : len ≡ sizeOf bytes) where
   zeros : Bool
-  zeros = all (eqb 0) (drop (6 * len) bytes)
+  zeros = all (eqb 0) (drop (width * len) bytes)
 
   order : Bool
   order = ascending (take len (places bytes))
@@ -198,7 +194,7 @@ module _ (n : ℕ) (bytes : List ℕ) (len : ℕ) (e : len ≡ sizeOf bytes) whe
   }
 
   module _ (r : SetRead) (bad : r .good ≡ false) (none : r .set .len ≡ 0) where
-    pub refused-bytes : all (eqb 0) (drop (6 * len) bytes) ≡ false → SetReads n bytes r
+    pub refused-bytes : all (eqb 0) (drop (width * len) bytes) ≡ false → SetReads n bytes r
     unfolding zeros
     refused-bytes f = refused r bad none (λ t. is→nT zeros f (search (and-l, and-r, t)))
 
@@ -210,8 +206,8 @@ module _ (n : ℕ) (bytes : List ℕ) (len : ℕ) (e : len ≡ sizeOf bytes) whe
     unfolding each
     refused-monomial f = refused r bad none (λ t. is→nT each f (search (and-l, and-r, t)))
 
-  pub accepted : all (eqb 0) (drop (6 * len) bytes) ≡ true → ascending (take len (places bytes)) ≡ true → all (monomialRight n) (take len (places bytes)) ≡ true
-      → (r : SetRead) → r .good ≡ true → len ≤ 6 → monomialsOf (r .set) ≡ take len (places bytes) → r .set .len ≡ len → SetReads n bytes r
+  pub accepted : all (eqb 0) (drop (width * len) bytes) ≡ true → ascending (take len (places bytes)) ≡ true → all (monomialRight n) (take len (places bytes)) ≡ true
+      → (r : SetRead) → r .good ≡ true → len ≤ cards → monomialsOf (r .set) ≡ take len (places bytes) → r .set .len ≡ len → SetReads n bytes r
   unfolding setOf zeros order each
   accepted z o m r good h is long =
       let whole : take len (places bytes) ≡ setOf bytes = ap (λ (k : ℕ). take k (places bytes)) e in
@@ -223,11 +219,11 @@ module _ (n : ℕ) (bytes : List ℕ) (len : ℕ) (e : len ≡ sizeOf bytes) whe
       }
 
 -- ---- what a right record holds
-pub right-fits : (n : ℕ) (bytes : List ℕ) → length bytes ≡ 36 → T (setRight n bytes) → Fitting 54 (setOf bytes)
+pub right-fits : (n : ℕ) (bytes : List ℕ) → length bytes ≡ setBytes → T (setRight n bytes) → Fitting setExponent (setOf bytes)
 unfolding setRight setOf monomialRight exponentsRight
 right-fits n bytes l t m h =
     let r : T (monomialRight n m) = all-out (monomialRight n) (search (and-l, and-r, t)) h in
-    (places-width bytes l m (take-in (sizeOf bytes) (places bytes) h), all-small 54 m (search (and-l, and-r, r)))
+    (places-width bytes l m (take-in (sizeOf bytes) (places bytes) h), all-small setExponent m (search (and-l, and-r, r)))
 
 pub right-asc : (n : ℕ) (bytes : List ℕ) → T (setRight n bytes) → Ascending before (setOf bytes)
 unfolding setRight

@@ -2,25 +2,29 @@
 use mathlib.Core.Path.{_≡_, refl, sym, ap, ap₂, subst, _∙_}
 use mathlib.Core.Logic.{_⊎_, ⊎-elim}
 use mathlib.Core.Bool.{Bool, true, false}
-use mathlib.Core.List.{List, [], _∷_, _++_, map, append-nil, List·Memᴰ·cases-cons, List·Memᴰ·not-nil, List·Memᴰ·append-cases, Memᴰ·append-left, Memᴰ·append-right, Memᴰ·of-map}
+use mathlib.Core.List.{List, [], _∷_, _++_, map, append-nil, List·Memᴰ·not-nil, List·Memᴰ·append-cases, Memᴰ·append-left, Memᴰ·append-right, Memᴰ·of-map}
 use Prim.Native.Nat.{ℕ, zero, suc, _+_, _*_, _/_, _<_, _≤_}
 use native.Mathlib.Omega.{arith}
 use native.Mathlib.Numerals.{add-one}
-use native.Mathlib.Nat.{mul-le-mul-left}
-use lib.ListN.{length, getD, take, drop, set, length-append, length-map, length-set, length-replicate, drop-of-length-le, List·getD-append}
+use native.Mathlib.Nat.{mul-le-mul-left, mul-le-mul-right}
+use lib.ListN.{length, getD, take, drop, set, length-append, length-map, length-set, drop-of-length-le, List·getD-append}
 use lib.Seq.{paste, length-take-le, getD-take, take-set-lt, take-suc-set, take-all, take-paste, length-paste, drop-cons, append-snoc, getD-append-add, ext-getD}
 use Rattle.monomial.specs.Lists.{any, gather, below}
-use Rattle.monomial.specs.Monomial.{Mono, one, vars, constants}
+use Rattle.monomial.specs.Monomial.{Mono, one, vars, constants, width}
 use Rattle.monomial.specs.Product.{mul, AtMost, FitsBytes}
 use Rattle.monomial.specs.declared.Monomial.{Monomial}
+use Rattle.monomial.specs.Claims.{_∈_}
 use Rattle.monomial.proofs.Loops.{Seeking, seeking-start, seeking-found, seeking-on, seeking-ends, pointwise-length}
-use Rattle.monomial.proofs.Members.{_∈_, here, there, take-in, gather-append, map-at}
+use Rattle.monomial.proofs.Members.{here, there, take-in, gather-append, map-at}
 use Rattle.monomial.proofs.Counting.{at-in, below-length, below-at}
 use Rattle.monomial.proofs.Strips.{strip-length, strip-at}
 use Rattle.monomial.proofs.product.Laws.{atMost-weaken, atMost-mul}
+use Rattle.monomial.proofs.Variables.{constants-fit, vars-length}
+use Rattle.wiring.specs.Panel.{cards, mostSignals, tableBytes, mostProducts}
 use Rattle.wiring.specs.Poly.{Kind, plain}
 use Rattle.wiring.specs.Quadratic.{products}
 use Rattle.wiring.specs.Signals.{signals, front, flat, tabled, Fitting}
+use Rattle.wiring.specs.Claims.{base, Wide}
 
 -- ---- an array and its first places
 -- what owning an array of monomials tells of its length: `search (needs, array-length)`
@@ -123,65 +127,61 @@ module _ {size : ℕ} {t : List Mono} {m : List Monomial} {at : ℕ} (w : Copyin
   copying-end h = writing-end (rw (drop-of-length-le t h) at w)
 
 -- ---- V
-pub signals-length : (n : ℕ) (s : List Mono) → n ≤ 6 → length (signals 6 n s) ≡ n + 1 + length s
-unfolding signals vars
+pub signals-length : (n : ℕ) (s : List Mono) → n ≤ width → length (signals width n s) ≡ n + 1 + length s
+unfolding signals
 signals-length n s h =
-    let front-is : length (take (suc n) (constants 6)) ≡ suc n = length-take-le (suc n) (constants 6) (omega arith) in
-    length-append (take (suc n) (constants 6)) s ∙ omega arith
+    let front-is : length (take (suc n) (constants width)) ≡ suc n = length-take-le (suc n) (constants width) (omega (arith, vars-length width)) in
+    length-append (take (suc n) (constants width)) s ∙ omega arith
 
 -- the constants and then the set, each by its number
-pub signals-constant : (n : ℕ) (s : List Mono) (i : ℕ) (d : Mono) → n ≤ 6 → i ≤ n → getD (signals 6 n s) i d ≡ getD (constants 6) i d
-unfolding signals vars
+pub signals-constant : (n : ℕ) (s : List Mono) (i : ℕ) (d : Mono) → n ≤ width → i ≤ n → getD (signals width n s) i d ≡ getD (constants width) i d
+unfolding signals
 signals-constant n s i d h k =
-    let front-is : length (take (suc n) (constants 6)) ≡ suc n = length-take-le (suc n) (constants 6) (omega arith) in
-    List·getD-append (take (suc n) (constants 6)) s d i (omega arith) ∙ getD-take (suc n) (constants 6) i d (omega arith)
+    let front-is : length (take (suc n) (constants width)) ≡ suc n = length-take-le (suc n) (constants width) (omega (arith, vars-length width)) in
+    List·getD-append (take (suc n) (constants width)) s d i (omega arith) ∙ getD-take (suc n) (constants width) i d (omega arith)
 
-pub signals-new : (n : ℕ) (s : List Mono) (j : ℕ) (d : Mono) → n ≤ 6 → getD (signals 6 n s) (n + 1 + j) d ≡ getD s j d
-unfolding signals vars
+pub signals-new : (n : ℕ) (s : List Mono) (j : ℕ) (d : Mono) → n ≤ width → getD (signals width n s) (n + 1 + j) d ≡ getD s j d
+unfolding signals
 signals-new n s j d h =
-    let front-is : length (take (suc n) (constants 6)) ≡ n + 1 = length-take-le (suc n) (constants 6) (omega arith) ∙ sym (add-one n) in
-    ap (λ (k : ℕ). getD (signals 6 n s) (k + j) d) (sym front-is) ∙ getD-append-add (take (suc n) (constants 6)) s j d
-
--- 1 and the variables are in V of every set, and so are the set's own monomials
-abbrev pub base : ℕ → List Mono
-base n = take (suc n) (constants 6)
+    let front-is : length (take (suc n) (constants width)) ≡ n + 1 = length-take-le (suc n) (constants width) (omega (arith, vars-length width)) ∙ sym (add-one n) in
+    ap (λ (k : ℕ). getD (signals width n s) (k + j) d) (sym front-is) ∙ getD-append-add (take (suc n) (constants width)) s j d
 
 module _ (n : ℕ) where
-  pub base-in : (s : List Mono) {x : Mono} → x ∈ base n → x ∈ signals 6 n s
+  pub base-in : (s : List Mono) {x : Mono} → x ∈ base n → x ∈ signals width n s
   unfolding signals
   base-in s h = Memᴰ·append-left s h
 
-  pub set-in : (s : List Mono) {x : Mono} → x ∈ s → x ∈ signals 6 n s
+  pub set-in : (s : List Mono) {x : Mono} → x ∈ s → x ∈ signals width n s
   unfolding signals
   set-in s h = Memᴰ·append-right (base n) h
 
-  pub signals-cases : (s : List Mono) {x : Mono} → x ∈ signals 6 n s → (x ∈ base n) ⊎ (x ∈ s)
+  pub signals-cases : (s : List Mono) {x : Mono} → x ∈ signals width n s → (x ∈ base n) ⊎ (x ∈ s)
   unfolding signals
   signals-cases s h = List·Memᴰ·append-cases (base n) h
 
 -- ---- two loops that write V of n variables and the first len places of u: the constants, then the set
 pub record Signalling (n len : ℕ) (u m : List Monomial) (at : ℕ) : Type 0 where
-  pub variables : n ≤ 6
+  pub variables : n ≤ width
   pub source : len ≤ length u
-  pub copying : Copying 13 (signals 6 n (front len u)) m at
+  pub copying : Copying mostSignals (signals width n (front len u)) m at
 
-pub signalling-start : (n len : ℕ) (u m : List Monomial) → n ≤ 6 → len ≤ 6 → length u ≡ 6 → length m ≡ 13 → front 1 m ≡ one 6 ∷ [] → Signalling n len u m 1
+pub signalling-start : (n len : ℕ) (u m : List Monomial) → n ≤ width → len ≤ cards → length u ≡ cards → length m ≡ mostSignals → front 1 m ≡ one width ∷ [] → Signalling n len u m 1
 unfolding signals
 signalling-start n len u m h k l long first =
     let source : len ≤ length u = omega arith in
     let s = front len u in
-    let room : length (signals 6 n s) ≤ 13 = omega (arith, signals-length n s h, front-length len u source) in
-    let tail = take n (vars 6) ++ s in
+    let room : length (signals width n s) ≤ mostSignals = omega (arith, signals-length n s h, front-length len u source) in
+    let tail = take n (vars width) ++ s in
     record { variables = h; source = source; copying = record { long = long; room = room; within = omega arith; whole = ap (λ l. l ++ tail) first } }
 
 module _ {n len : ℕ} {u m : List Monomial} {at : ℕ} (r : Signalling n len u m at) where
-  many : length (signals 6 n (front len u)) ≡ n + 1 + len
+  many : length (signals width n (front len u)) ≡ n + 1 + len
   many = signals-length n (front len u) (r .variables) ∙ ap (λ (k : ℕ). n + 1 + k) (front-length len u (r .source))
 
-  pub signalling-constant : (x : Monomial) → at ≤ n → x .e ≡ getD (constants 6) at (one 6) → Signalling n len u (set m at x) (at + 1)
+  pub signalling-constant : (x : Monomial) → at ≤ n → x .e ≡ getD (constants width) at (one width) → Signalling n len u (set m at x) (at + 1)
   signalling-constant x h e =
-      let same = e ∙ sym (signals-constant n (front len u) at (one 6) (r .variables) h) in
-      record { variables = r .variables; source = r .source; copying = copying-next (r .copying) x (one 6) (omega (arith, many)) same }
+      let same = e ∙ sym (signals-constant n (front len u) at (one width) (r .variables) h) in
+      record { variables = r .variables; source = r .source; copying = copying-next (r .copying) x (one width) (omega (arith, many)) same }
 
   -- the constants are written
   pub signalling-turn : at ≡ n + 1 → Signalling n len u m (n + 1 + 0)
@@ -190,41 +190,19 @@ module _ {n len : ℕ} {u m : List Monomial} {at : ℕ} (r : Signalling n len u 
   pub signalling-new : (x : Monomial) (j : ℕ) → at ≡ n + 1 + j → j < len → x .e ≡ entry u j → Signalling n len u (set m at x) (n + 1 + (j + 1))
   signalling-new x j p h e =
       let s = front len u in
-      let named : x .e ≡ getD (signals 6 n s) at [] =
-      e ∙ sym (front-at len u j [] h (r .source)) ∙ sym (signals-new n s j [] (r .variables)) ∙ ap (λ (k : ℕ). getD (signals 6 n s) k []) (sym p) in
-      let next : Copying 13 (signals 6 n s) (set m at x) (at + 1) = copying-next (r .copying) x [] (omega (arith, many)) named in
+      let named : x .e ≡ getD (signals width n s) at [] =
+      e ∙ sym (front-at len u j [] h (r .source)) ∙ sym (signals-new n s j [] (r .variables)) ∙ ap (λ (k : ℕ). getD (signals width n s) k []) (sym p) in
+      let next : Copying mostSignals (signals width n s) (set m at x) (at + 1) = copying-next (r .copying) x [] (omega (arith, many)) named in
       let q : at + 1 ≡ n + 1 + (j + 1) = omega arith in
-      record { variables = r .variables; source = r .source; copying = subst (λ (k : ℕ). Copying 13 (signals 6 n s) (set m at x) k) q next }
+      record { variables = r .variables; source = r .source; copying = subst (λ (k : ℕ). Copying mostSignals (signals width n s) (set m at x) k) q next }
 
-  pub signalling-end : at ≡ n + 1 + len → front (n + 1 + len) m ≡ signals 6 n (front len u)
-  signalling-end p = subst (λ (k : ℕ). front k m ≡ signals 6 n (front len u)) p (copying-end (r .copying) (omega (arith, many)))
+  pub signalling-end : at ≡ n + 1 + len → front (n + 1 + len) m ≡ signals width n (front len u)
+  signalling-end p = subst (λ (k : ℕ). front k m ≡ signals width n (front len u)) p (copying-end (r .copying) (omega (arith, many)))
 
--- 1 and the variables have their width, and exponents of at most 1
-one-fits : (b w : ℕ) → AtMost b (one w)
-one-fits b zero = tt
-one-fits b (suc w) = (omega arith, one-fits b w)
-
-vars-fit : (b w : ℕ) → 1 ≤ b → (m : Mono) → m ∈ vars w → (length m ≡ w) × AtMost b m
-unfolding vars
-vars-fit b zero h m k = absurd (List·Memᴰ·not-nil k)
-vars-fit b (suc w) h m k = ⊎-elim first (later (vars-fit b w h)) (List·Memᴰ·cases-cons k)
-  where
-    first : m ≡ 1 ∷ one w → (length m ≡ suc w) × AtMost b m
-    first e = rw e (ap suc (length-replicate w 0), (h, one-fits b w))
-
-    later : ((z : Mono) → z ∈ vars w → (length z ≡ w) × AtMost b z) → m ∈ map (_∷_ 0) (vars w) → (length m ≡ suc w) × AtMost b m
-    later fit n =
-        let p : (z : Mono) × (z ∈ vars w) × (0 ∷ z ≡ m) = Memᴰ·of-map (_∷_ 0) (vars w) n in
-        let q = fit (p .0) (p .1) in
-        rw (sym (p .2)) (ap suc (q .0), (omega arith, q .1))
-
-pub constants-fit : (b w : ℕ) → 1 ≤ b → (m : Mono) → m ∈ constants w → (length m ≡ w) × AtMost b m
-constants-fit b w h m k = ⊎-elim (λ e. rw e (length-replicate w 0, one-fits b w)) (vars-fit b w h m) (List·Memᴰ·cases-cons k)
-
-pub signals-fitting : (b n : ℕ) (s : List Mono) → 1 ≤ b → Fitting b s → Fitting b (signals 6 n s)
+pub signals-fitting : (b n : ℕ) (s : List Mono) → 1 ≤ b → Fitting b s → Fitting b (signals width n s)
 unfolding signals
 signals-fitting b n s h f m k =
-    ⊎-elim (λ j. constants-fit b 6 h m (take-in (suc n) (constants 6) j)) (f m) (List·Memᴰ·append-cases (take (suc n) (constants 6)) k)
+    ⊎-elim (λ j. constants-fit b width h m (take-in (suc n) (constants width) j)) (f m) (List·Memᴰ·append-cases (take (suc n) (constants width)) k)
 
 pub fitting-weaken : (b c : ℕ) (s : List Mono) → b ≤ c → Fitting b s → Fitting c s
 fitting-weaken b c s h f m k = (f m k .0, atMost-weaken m h (f m k .1))
@@ -247,9 +225,10 @@ module _ {M : Type 0} (k : Kind M) where
       let both = length-append (map (k .mul x) (x ∷ v)) (products k v) in
       omega arith
 
-  pub products-room : (v : List M) → length v ≤ 13 → length (products k v) ≤ 91
-  products-room v h =
-      let low : length v * suc (length v) ≤ length v * 14 = mul-le-mul-left (length v) (omega arith) in
+  pub products-room : (b : ℕ) (v : List M) → length v ≤ b → length (products k v) ≤ b * suc b / 2
+  products-room b v h =
+      let low : length v * suc (length v) ≤ length v * suc b = mul-le-mul-left (length v) (omega arith) in
+      let high : length v * suc b ≤ b * suc b = mul-le-mul-right (suc b) h in
       omega (arith, products-length v)
 
   pub products-wide : (v : List M) (P : M → Type 0) → ((x y : M) → P x → P y → P (k .mul x y)) → ((x : M) → x ∈ v → P x) → (m : M) → m ∈ products k v → P m
@@ -262,78 +241,74 @@ module _ {M : Type 0} (k : Kind M) where
       (List·Memᴰ·append-cases (map (k .mul x) (x ∷ v)) i)
 
 -- ---- monomials side by side in bytes
--- each has six exponents
-abbrev pub Wide : List Mono → Type 0
-Wide l = (m : Mono) → m ∈ l → length m ≡ 6
-
-pub tabled-length : (bytes : List ℕ) → length (tabled bytes) ≡ length bytes / 6
+pub tabled-length : (bytes : List ℕ) → length (tabled bytes) ≡ length bytes / width
 unfolding tabled
-tabled-length bytes = length-map (below (length bytes / 6)) (λ i. take 6 (drop (6 * i) bytes)) ∙ below-length (length bytes / 6)
+tabled-length bytes = length-map (below (length bytes / width)) (λ i. take width (drop (width * i) bytes)) ∙ below-length (length bytes / width)
 
-pub tabled-at : (bytes : List ℕ) (i : ℕ) (d : Mono) → i < length bytes / 6 → getD (tabled bytes) i d ≡ take 6 (drop (6 * i) bytes)
+pub tabled-at : (bytes : List ℕ) (i : ℕ) (d : Mono) → i < length bytes / width → getD (tabled bytes) i d ≡ take width (drop (width * i) bytes)
 unfolding tabled
-tabled-at bytes i d h = below-at (λ j. take 6 (drop (6 * j) bytes)) (length bytes / 6) i d h
+tabled-at bytes i d h = below-at (λ j. take width (drop (width * j) bytes)) (length bytes / width) i d h
 
 pub tabled-flat : (l : List Mono) → Wide l → tabled (flat l) ≡ l
 tabled-flat l w = ext-getD [] (tabled (flat l)) l many at
   where
-    long : length (flat l) ≡ 6 * length l
-    long = strip-length (λ m. m) 6 l w
+    long : length (flat l) ≡ width * length l
+    long = strip-length (λ m. m) width l w
 
     many : length (tabled (flat l)) ≡ length l
     many = tabled-length (flat l) ∙ omega (arith, long)
 
     at : (i : ℕ) → i < length (tabled (flat l)) → getD (tabled (flat l)) i [] ≡ getD l i []
     at i h =
-        let few : i < length (flat l) / 6 = omega (arith, tabled-length (flat l)) in
+        let few : i < length (flat l) / width = omega (arith, tabled-length (flat l)) in
         tabled-at (flat l) i [] few
-        ∙ ap (λ (u : List ℕ). take 6 (drop (6 * i) u)) (sym (append-nil (flat l)))
-        ∙ strip-at (λ m. m) 6 l w [] i [] (omega (arith, many))
+        ∙ ap (λ (u : List ℕ). take width (drop (width * i) u)) (sym (append-nil (flat l)))
+        ∙ strip-at (λ m. m) width l w [] i [] (omega (arith, many))
 
 -- a loop that looks through a table for a monomial that passes f, and has come to place i
 module _ (f : Mono → Bool) (bytes : List ℕ) {i : ℕ} (s : Seeking f (tabled bytes) i) where
-  pub tabled-found : i < length bytes / 6 → f (take 6 (drop (6 * i) bytes)) ≡ true → true ≡ any f (tabled bytes)
+  pub tabled-found : i < length bytes / width → f (take width (drop (width * i) bytes)) ≡ true → true ≡ any f (tabled bytes)
   tabled-found h e = seeking-found f [] s (omega (arith, tabled-length bytes)) (ap f (tabled-at bytes i [] h) ∙ e)
 
-  pub tabled-on : i < length bytes / 6 → f (take 6 (drop (6 * i) bytes)) ≡ false → Seeking f (tabled bytes) (i + 1)
+  pub tabled-on : i < length bytes / width → f (take width (drop (width * i) bytes)) ≡ false → Seeking f (tabled bytes) (i + 1)
   tabled-on h e = seeking-on f [] s (omega (arith, tabled-length bytes)) (ap f (tabled-at bytes i [] h) ∙ e)
 
-  pub tabled-ends : length bytes / 6 ≤ i → false ≡ any f (tabled bytes)
+  pub tabled-ends : length bytes / width ≤ i → false ≡ any f (tabled bytes)
   tabled-ends h = seeking-ends f s (omega (arith, tabled-length bytes))
 
 -- a loop that writes the list t into bytes, and has written `done`, up to byte at; the rest is left
 pub record Laying (t : List Mono) (bytes : List ℕ) (at : ℕ) (left : List Mono) : Type 0 where
   pub done : List Mono
   pub wide : Wide t
-  pub room : 6 * length t ≤ length bytes
-  pub reached : at ≡ 6 * length done
+  pub room : width * length t ≤ length bytes
+  pub reached : at ≡ width * length done
   pub laid : take at bytes ≡ flat done
   pub whole : done ++ left ≡ t
 
-pub laying-start : (t : List Mono) (bytes : List ℕ) → Wide t → 6 * length t ≤ length bytes → Laying t bytes 0 t
+pub laying-start : (t : List Mono) (bytes : List ℕ) → Wide t → width * length t ≤ length bytes → Laying t bytes 0 t
 unfolding gather
 laying-start t bytes w h = record { done = []; wide = w; room = h; reached = refl; laid = refl; whole = refl }
 
 module _ {t : List Mono} {bytes : List ℕ} {at : ℕ} where
   -- something is left, so there is room for it
-  pub laying-room : {y : Mono} {left : List Mono} → Laying t bytes at (y ∷ left) → at + 6 ≤ length bytes
+  pub laying-room : {y : Mono} {left : List Mono} → Laying t bytes at (y ∷ left) → at + width ≤ length bytes
   laying-room {y} {left} w =
       let all : length (w .done) + length (y ∷ left) ≡ length t = sym (length-append (w .done) (y ∷ left)) ∙ ap length (w .whole) in
       omega (arith, w .room, w .reached)
 
-  pub laying-put : {y : Mono} {left : List Mono} → Laying t bytes at (y ∷ left) → (x : Mono) → x ≡ y → Laying t (paste bytes at x 6) (at + 6) left
+  pub laying-put : {y : Mono} {left : List Mono} → Laying t bytes at (y ∷ left) → (x : Mono) → x ≡ y → Laying t (paste bytes at x width) (at + width) left
   unfolding gather
   laying-put {y} {left} w x e =
-      let h : at + 6 ≤ length bytes = laying-room w in
-      let six : length x ≡ 6 = ap length e ∙ w .wide y (subst (λ (l : List Mono). y ∈ l) (w .whole) (Memᴰ·append-right (w .done) here)) in
+      let h : at + width ≤ length bytes = laying-room w in
+      let six : length x ≡ width = ap length e ∙ w .wide y (subst (λ (l : List Mono). y ∈ l) (w .whole) (Memᴰ·append-right (w .done) here)) in
       let more : flat (w .done ++ (y ∷ [])) ≡ flat (w .done) ++ y =
       gather-append (λ m. m) (w .done) (y ∷ []) ∙ ap (λ (l : List ℕ). flat (w .done) ++ l) (append-nil y) in
       record {
         done = w .done ++ (y ∷ []);
         wide = w .wide;
-        room = omega (arith, w .room, length-paste bytes at x 6 h (omega arith));
+        room = omega (arith, w .room, length-paste bytes at x width h (omega arith));
         reached = omega (arith, w .reached, length-append (w .done) (y ∷ []));
-        laid = take-paste bytes at x 6 (omega arith) (omega arith) ∙ ap₂ _++_ (w .laid) (take-all 6 x (omega arith) ∙ e) ∙ sym more;
+        laid = take-paste bytes at x width (omega arith) (omega arith) ∙ ap₂ _++_ (w .laid) (take-all width x (omega arith) ∙ e) ∙ sym more;
         whole = append-snoc (w .done) y left ∙ w .whole;
       }
 
@@ -342,29 +317,29 @@ module _ {t : List Mono} {bytes : List ℕ} {at : ℕ} where
       let all : w .done ≡ t = sym (append-nil (w .done)) ∙ w .whole in
       ap tabled (w .laid ∙ ap flat all) ∙ tabled-flat t (w .wide)
 
-  pub laying-within : {left : List Mono} → Laying t bytes at left → at ≤ 6 * length t
+  pub laying-within : {left : List Mono} → Laying t bytes at left → at ≤ width * length t
   laying-within {left} w = omega (arith, w .reached, length-append (w .done) left, ap length (w .whole))
 
 -- ---- two loops that write V2 of the first len places of u into bytes: the outer one has come to the row of a, the inner one to the place of b in it
 pub record Rows (len : ℕ) (u : List Monomial) (bytes : List ℕ) (at a : ℕ) : Type 0 where
   pub source : len ≤ length u
-  pub few : len ≤ 13
+  pub few : len ≤ mostSignals
   pub laying : Laying (products plain (front len u)) bytes at (products plain (drop a (front len u)))
 
 pub record Row (len : ℕ) (u : List Monomial) (bytes : List ℕ) (at a b : ℕ) : Type 0 where
   pub source : len ≤ length u
-  pub few : len ≤ 13
+  pub few : len ≤ mostSignals
   pub laying : Laying (products plain (front len u)) bytes at (map (mul (entry u a)) (drop b (front len u)) ++ products plain (drop (a + 1) (front len u)))
 
 -- V2 of so few has room
-rows-few : (len : ℕ) (u : List Monomial) → len ≤ 13 → len ≤ length u → length (products plain (front len u)) ≤ 91
-rows-few len u h k = products-room plain (front len u) (omega (arith, front-length len u k))
+rows-few : (len : ℕ) (u : List Monomial) → len ≤ mostSignals → len ≤ length u → length (products plain (front len u)) ≤ mostProducts
+rows-few len u h k = products-room plain mostSignals (front len u) (omega (arith, front-length len u k))
 
-pub rows-start : (len : ℕ) (u : List Monomial) (bytes : List ℕ) → len ≤ 13 → length u ≡ 13 → 546 ≤ length bytes → Fitting 127 (front len u) → Rows len u bytes 0 0
+pub rows-start : (len : ℕ) (u : List Monomial) (bytes : List ℕ) → len ≤ mostSignals → length u ≡ mostSignals → tableBytes ≤ length bytes → Fitting 127 (front len u) → Rows len u bytes 0 0
 rows-start len u bytes h k l f =
     let v = front len u in
     let source : len ≤ length u = omega arith in
-    let wide : Wide (products plain v) = products-wide plain v (λ m. length m ≡ 6) (λ x y p q. pointwise-length _+_ x y (p ∙ sym q) ∙ p) (λ x i. f x i .0) in
+    let wide : Wide (products plain v) = products-wide plain v (λ m. length m ≡ width) (λ x y p q. pointwise-length _+_ x y (p ∙ sym q) ∙ p) (λ x i. f x i .0) in
     record { source = source; few = h; laying = laying-start (products plain v) bytes wide (omega (arith, rows-few len u h source)) }
 
 module _ {len : ℕ} {u : List Monomial} {bytes : List ℕ} {at a : ℕ} (r : Rows len u bytes at a) where
@@ -379,7 +354,7 @@ module _ {len : ℕ} {u : List Monomial} {bytes : List ℕ} {at a : ℕ} (r : Ro
   unfolding products
   rows-end h = laying-end (rw (drop-of-length-le (front len u) {i = a} (omega (arith, front-length len u (r .source)))) at (r .laying))
 
-  pub rows-within : at ≤ 546
+  pub rows-within : at ≤ tableBytes
   rows-within = omega (arith, laying-within (r .laying), rows-few len u (r .few) (r .source))
 
 module _ {len : ℕ} {u : List Monomial} {bytes : List ℕ} {at a b : ℕ} (r : Row len u bytes at a b) where
@@ -389,13 +364,13 @@ module _ {len : ℕ} {u : List Monomial} {bytes : List ℕ} {at a b : ℕ} (r : 
       (mul (entry u a) (entry u b) ∷ (map (mul (entry u a)) (drop (b + 1) (front len u)) ++ products plain (drop (a + 1) (front len u))))
   left h = rw (front-drop len u b h (r .source)) at (r .laying)
 
-  pub row-room : b < len → at + 6 ≤ length bytes
+  pub row-room : b < len → at + width ≤ length bytes
   row-room h = laying-room (left h)
 
-  pub row-within : at ≤ 546
+  pub row-within : at ≤ tableBytes
   row-within = omega (arith, laying-within (r .laying), rows-few len u (r .few) (r .source))
 
-  pub row-put : (x : Mono) → b < len → x ≡ mul (entry u a) (entry u b) → (now : List ℕ) → now ≡ paste bytes at x 6 → Row len u now (at + 6) a (b + 1)
+  pub row-put : (x : Mono) → b < len → x ≡ mul (entry u a) (entry u b) → (now : List ℕ) → now ≡ paste bytes at x width → Row len u now (at + width) a (b + 1)
   row-put x h e now w = rw w (record { source = r .source; few = r .few; laying = laying-put (left h) x e })
 
   pub row-out : len ≤ b → Rows len u bytes at (a + 1)

@@ -16,49 +16,38 @@ use Rattle.monomial.specs.Lists.{any, place}
 use Rattle.monomial.proofs.Tests.{Tested, passed, failed, test, T→is, is→T, nT→is, is→nT, and-l, and-r, and-i}
 use Rattle.monomial.proofs.Members.{any-in}
 use Rattle.monomial.proofs.Counting.{place-lt, place-passes, at-in}
+use Rattle.wiring.specs.Panel.{termBytes, termsBytes, mostCoefficient, termExponent}
 use Rattle.wiring.specs.Coefficient.{isZero}
 use Rattle.wiring.specs.Terms.{Record, lengthRight, coefficientRight, termRight, alike, fault}
 use Rattle.wiring.specs.declared.terms.Fault.the-variants.{Clean, Wrong, Repeated}
+use Rattle.wiring.specs.Claims.{Measured, Keeps, Alike, Fine, Breaks, Repeats, Flawless}
 use Rattle.wiring.proofs.Poly.{zero-is, is-zero}
 use Rattle.wiring.proofs.terms.Laws.{wrong-clean, repeated-clean, exponents-in, exponents-everywhere, Fields, fields-in, fields-out, alike-in, alike-out, Judging, judging-start, judging-wrong, judging-repeated, judging-on, judging-ends}
 
 -- ---- the length
-pub record Measured (bytes : List ℕ) : Type 0 where
-  pub divided : length bytes % 12 ≡ 0
-  pub limited : length bytes ≤ 384
-
 pub length-exact : (bytes : List ℕ) → (lengthRight bytes ≡ true) ↔ Measured bytes
 unfolding lengthRight
-length-exact bytes = (out, λ m. rw (eq-eqb (length bytes % 12) 0 (m .divided), le-leb (length bytes) 384 (m .limited)))
+length-exact bytes = (out, λ m. rw (eq-eqb (length bytes % termBytes) 0 (m .divided), le-leb (length bytes) termsBytes (m .limited)))
   where
-    out : (eqb (length bytes % 12) 0 && leb (length bytes) 384) ≡ true → Measured bytes
+    out : (eqb (length bytes % termBytes) 0 && leb (length bytes) termsBytes) ≡ true → Measured bytes
     out e =
-        let t = is→T (eqb (length bytes % 12) 0 && leb (length bytes) 384) e in
+        let t = is→T (eqb (length bytes % termBytes) 0 && leb (length bytes) termsBytes) e in
         record {
-          divided = eqb→eq (length bytes % 12) 0 (and-l (eqb (length bytes % 12) 0) (leb (length bytes) 384) t);
-          limited = leb→le (length bytes) 384 (and-r (eqb (length bytes % 12) 0) (leb (length bytes) 384) t);
+          divided = eqb→eq (length bytes % termBytes) 0 (and-l (eqb (length bytes % termBytes) 0) (leb (length bytes) termsBytes) t);
+          limited = leb→le (length bytes) termsBytes (and-r (eqb (length bytes % termBytes) 0) (leb (length bytes) termsBytes) t);
         }
 
 -- ---- a record's rule, field by field
-pub record Keeps (n : ℕ) (r : Record) : Type 0 where
-  pub low : 1 ≤ r .equation
-  pub high : r .equation ≤ n
-  pub blank : r .blank ≡ 0
-  pub small : (i : ℕ) → getD (r .monomial) i 0 ≤ 9
-  pub beyond : (i : ℕ) → n ≤ i → getD (r .monomial) i 0 ≡ 0
-  pub nonzero : r .coefficient ≡ pos 0 → ⊥
-  pub limited : natAbs (r .coefficient) ≤ 1000000
-
-pub coefficient-exact : (c : ℤ) → T (coefficientRight c) ↔ ((c ≡ pos 0 → ⊥) × (natAbs c ≤ 1000000))
+pub coefficient-exact : (c : ℤ) → T (coefficientRight c) ↔ ((c ≡ pos 0 → ⊥) × (natAbs c ≤ mostCoefficient))
 unfolding coefficientRight
 coefficient-exact c = (
-  (λ t. ((λ e. T-not (isZero c) (and-l (not (isZero c)) (leb (natAbs c) 1000000) t) (is-zero c e)), leb→le (natAbs c) 1000000 (and-r (not (isZero c)) (leb (natAbs c) 1000000) t))),
-  (λ h. and-i (not (isZero c)) (leb (natAbs c) 1000000) (not-T (isZero c) (λ t. h .0 (zero-is c t))) (le→leb (natAbs c) 1000000 (h .1))),
+  (λ t. ((λ e. T-not (isZero c) (and-l (not (isZero c)) (leb (natAbs c) mostCoefficient) t) (is-zero c e)), leb→le (natAbs c) mostCoefficient (and-r (not (isZero c)) (leb (natAbs c) mostCoefficient) t))),
+  (λ h. and-i (not (isZero c)) (leb (natAbs c) mostCoefficient) (not-T (isZero c) (λ t. h .0 (zero-is c t))) (le→leb (natAbs c) mostCoefficient (h .1))),
 )
 
 keeps-out : (n : ℕ) (r : Record) → Fields n r → Keeps n r
 keeps-out n r f =
-    let fit = exponents-everywhere 9 n (r .monomial) (f .exponents) in
+    let fit = exponents-everywhere termExponent n (r .monomial) (f .exponents) in
     let range = coefficient-exact (r .coefficient) .0 (f .coefficient) in
     record { low = f .low; high = f .high; blank = f .blank; small = λ i. fit i .small; beyond = λ i h. fit i .zero h; nonzero = range .0; limited = range .1 }
 
@@ -67,7 +56,7 @@ keeps-in n r k = record {
   low = k .low;
   high = k .high;
   blank = k .blank;
-  exponents = exponents-in 9 n (r .monomial) (λ i h. record { small = k .small i; zero = k .beyond i });
+  exponents = exponents-in termExponent n (r .monomial) (λ i h. record { small = k .small i; zero = k .beyond i });
   coefficient = coefficient-exact (r .coefficient) .1 (k .nonzero, k .limited);
 }
 
@@ -89,42 +78,8 @@ module _ (n : ℕ) (rs : List Record) (d : Record) where
   abbrev at : ℕ → Record
   at i = getD rs i d
 
-  -- records i and j have the same equation and exponents
-  pub record Alike (i j : ℕ) : Type 0 where
-    pub equations : getD rs i d .equation ≡ getD rs j d .equation
-    pub monomials : getD rs i d .monomial ≡ getD rs j d .monomial
-
-  -- record i keeps its rule and repeats none before it
-  pub record Fine (i : ℕ) : Type 0 where
-    pub keeps : Keeps n (getD rs i d)
-    pub new : (j : ℕ) → j < i → Alike i j → ⊥
-
-  -- place p: its record breaks the rule, and those before it are fine
-  pub record Breaks (p : ℕ) : Type 0 where
-    pub number : ℕ
-    pub counted : number < length rs
-    pub place : p ≡ suc number
-    pub wrong : Keeps n (getD rs number d) → ⊥
-    pub before : (j : ℕ) → j < number → Fine j
-
-  -- place p: its record keeps the rule and repeats an earlier one, and those before it are fine
-  pub record Repeats (p : ℕ) : Type 0 where
-    pub number : ℕ
-    pub counted : number < length rs
-    pub place : p ≡ suc number
-    pub keeps : Keeps n (getD rs number d)
-    pub earlier : ℕ
-    pub sooner : earlier < number
-    pub same : Alike number earlier
-    pub before : (j : ℕ) → j < number → Fine j
-
-  -- every record keeps its rule, and no two are alike
-  pub record Flawless : Type 0 where
-    pub keeps : (i : ℕ) → i < length rs → Keeps n (getD rs i d)
-    pub apart : (i j : ℕ) → j < i → i < length rs → Alike i j → ⊥
-
   -- ---- the tests
-  repeated-out : (i : ℕ) → i ≤ length rs → T (any (alike (at i)) (take i rs)) → (j : ℕ) × (j < i) × Alike i j
+  repeated-out : (i : ℕ) → i ≤ length rs → T (any (alike (at i)) (take i rs)) → (j : ℕ) × (j < i) × Alike n rs d i j
   repeated-out i h t =
       let l : length (take i rs) ≡ i = length-take-le i rs h in
       let j = place (alike (at i)) (take i rs) in
@@ -134,50 +89,50 @@ module _ (n : ℕ) (rs : List Record) (d : Record) where
       let own = alike-out (at i) (at j) (subst (λ (r : Record). T (alike (at i) r)) (getD-take i rs j d k) like) in
       (j, k, record { equations = own .0; monomials = own .1 })
 
-  repeated-in : (i j : ℕ) → j < i → i ≤ length rs → Alike i j → T (any (alike (at i)) (take i rs))
+  repeated-in : (i j : ℕ) → j < i → i ≤ length rs → Alike n rs d i j → T (any (alike (at i)) (take i rs))
   repeated-in i j k h a =
       let l : length (take i rs) ≡ i = length-take-le i rs h in
       let like = subst (λ (r : Record). T (alike (at i) r)) (sym (getD-take i rs j d k)) (alike-in (at i) (at j) (a .equations) (a .monomials)) in
       any-in (alike (at i)) (at-in (take i rs) j d (omega arith)) like
 
   -- ---- the loop comes to record i where those before it are fine
-  judged : (i : ℕ) → i ≤ length rs → ((j : ℕ) → j < i → Fine j) → Judging n rs i
+  judged : (i : ℕ) → i ≤ length rs → ((j : ℕ) → j < i → Fine n rs d j) → Judging n rs i
   judged zero h f = judging-start n rs
   judged (suc i) h f =
       let own = f i (omega arith) in
       let new = nT→is (any (alike (at i)) (take i rs)) (λ t. let e = repeated-out i (omega arith) t in own .new (e .0) (e .1) (e .2)) in
       subst (Judging n rs) (add-one i) (judging-on d (judged i (omega arith) (λ j k. f j (omega arith))) (omega arith) (term-exact n (at i) .1 (own .keeps)) new)
 
-  wrong-says : (p : ℕ) → Breaks p → fault n rs ≡ Wrong p
+  wrong-says : (p : ℕ) → Breaks n rs d p → fault n rs ≡ Wrong p
   wrong-says p b =
       let i = b .number in
       let bad = nT→is (termRight n (at i)) (λ t. b .wrong (term-exact n (at i) .0 (T→is (termRight n (at i)) t))) in
       let c = b .counted in
       sym (judging-wrong d (judged i (omega arith) (b .before)) c bad) ∙ ap Wrong (add-one i ∙ sym (b .place))
 
-  repeated-says : (p : ℕ) → Repeats p → fault n rs ≡ Repeated p
+  repeated-says : (p : ℕ) → Repeats n rs d p → fault n rs ≡ Repeated p
   repeated-says p b =
       let i = b .number in
       let c = b .counted in
       let seen = T→is (any (alike (at i)) (take i rs)) (repeated-in i (b .earlier) (b .sooner) (omega arith) (b .same)) in
       sym (judging-repeated d (judged i (omega arith) (b .before)) c (term-exact n (at i) .1 (b .keeps)) seen) ∙ ap Repeated (add-one i ∙ sym (b .place))
 
-  clean-says : Flawless → fault n rs ≡ Clean
+  clean-says : Flawless n rs d → fault n rs ≡ Clean
   clean-says f =
       let all = judged (length rs) (omega arith) (λ j k. record { keeps = f .keeps j k; new = λ i h. f .apart j i h k }) in
       sym (judging-ends all (omega arith))
 
   -- ---- one of the three is so
   data Verdict : Type 0 where
-    flawless : Flawless → Verdict
-    breaks : (p : ℕ) → Breaks p → Verdict
-    repeats : (p : ℕ) → Repeats p → Verdict
+    flawless : Flawless n rs d → Verdict
+    breaks : (p : ℕ) → Breaks n rs d p → Verdict
+    repeats : (p : ℕ) → Repeats n rs d p → Verdict
 
-  verdict-from : (left i : ℕ) → i + left ≡ length rs → ((j : ℕ) → j < i → Fine j) → Verdict
+  verdict-from : (left i : ℕ) → i + left ≡ length rs → ((j : ℕ) → j < i → Fine n rs d j) → Verdict
   verdict-from zero i e f = flawless (record { keeps = λ j k. f j (omega arith) .keeps; apart = λ j h k l. f j (omega arith) .new h k })
   verdict-from (suc left) i e f = go (test (termRight n (at i))) (test (any (alike (at i)) (take i rs))) (verdict-from left (suc i) (omega arith))
     where
-      go : Tested (termRight n (at i)) → Tested (any (alike (at i)) (take i rs)) → (((j : ℕ) → j < suc i → Fine j) → Verdict) → Verdict
+      go : Tested (termRight n (at i)) → Tested (any (alike (at i)) (take i rs)) → (((j : ℕ) → j < suc i → Fine n rs d j) → Verdict) → Verdict
       go (failed p) q ih =
           let wrong : Keeps n (at i) → ⊥ = λ k. is→nT (termRight n (at i)) p (is→T (termRight n (at i)) (term-exact n (at i) .1 k)) in
           breaks (suc i) (record { number = i; counted = omega arith; place = refl; wrong = wrong; before = f })
@@ -186,37 +141,37 @@ module _ (n : ℕ) (rs : List Record) (d : Record) where
           repeats (suc i) (record { number = i; counted = omega arith; place = refl; keeps = term-exact n (at i) .0 p; earlier = r .0; sooner = r .1; same = r .2; before = f })
       go (passed p) (failed q) ih = ih (λ j h. pick j h (test (eqb j i)))
         where
-          own : Fine i
+          own : Fine n rs d i
           own = record { keeps = term-exact n (at i) .0 p; new = λ j h a. is→nT (any (alike (at i)) (take i rs)) q (repeated-in i j h (omega arith) a) }
 
-          pick : (j : ℕ) → j < suc i → Tested (eqb j i) → Fine j
-          pick j h (passed w) = subst Fine (sym (eqb-true j i w)) own
+          pick : (j : ℕ) → j < suc i → Tested (eqb j i) → Fine n rs d j
+          pick j h (passed w) = subst (Fine n rs d) (sym (eqb-true j i w)) own
           pick j h (failed w) = let x : j ≡ i → ⊥ = eqb-false j i w in f j (omega arith)
 
   verdict : Verdict
   verdict = verdict-from (length rs) 0 (omega arith) (λ j h. absurd (omega arith))
 
   -- ---- each answer is given exactly where its condition holds
-  pub wrong-exact : (p : ℕ) → (fault n rs ≡ Wrong p) ↔ Breaks p
+  pub wrong-exact : (p : ℕ) → (fault n rs ≡ Wrong p) ↔ Breaks n rs d p
   wrong-exact p = (out verdict, wrong-says p)
     where
-      out : Verdict → fault n rs ≡ Wrong p → Breaks p
+      out : Verdict → fault n rs ≡ Wrong p → Breaks n rs d p
       out (flawless f) e = wrong-clean (sym e ∙ clean-says f)
-      out (breaks q b) e = subst Breaks (wrong-same (sym (wrong-says q b) ∙ e)) b
+      out (breaks q b) e = subst (Breaks n rs d) (wrong-same (sym (wrong-says q b) ∙ e)) b
       out (repeats q b) e = wrong-repeated (sym e ∙ repeated-says q b)
 
-  pub repeated-exact : (p : ℕ) → (fault n rs ≡ Repeated p) ↔ Repeats p
+  pub repeated-exact : (p : ℕ) → (fault n rs ≡ Repeated p) ↔ Repeats n rs d p
   repeated-exact p = (out verdict, repeated-says p)
     where
-      out : Verdict → fault n rs ≡ Repeated p → Repeats p
+      out : Verdict → fault n rs ≡ Repeated p → Repeats n rs d p
       out (flawless f) e = repeated-clean (sym e ∙ clean-says f)
       out (breaks q b) e = wrong-repeated (sym (wrong-says q b) ∙ e)
-      out (repeats q b) e = subst Repeats (repeated-same (sym (repeated-says q b) ∙ e)) b
+      out (repeats q b) e = subst (Repeats n rs d) (repeated-same (sym (repeated-says q b) ∙ e)) b
 
-  pub clean-exact : (fault n rs ≡ Clean) ↔ Flawless
+  pub clean-exact : (fault n rs ≡ Clean) ↔ Flawless n rs d
   clean-exact = (out verdict, clean-says)
     where
-      out : Verdict → fault n rs ≡ Clean → Flawless
+      out : Verdict → fault n rs ≡ Clean → Flawless n rs d
       out (flawless f) e = f
       out (breaks q b) e = wrong-clean (sym (wrong-says q b) ∙ e)
       out (repeats q b) e = repeated-clean (sym (repeated-says q b) ∙ e)

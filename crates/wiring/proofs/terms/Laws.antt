@@ -13,41 +13,44 @@ use lib.Signed.{ltZ}
 use lib.ListN.{length, getD, take, drop, length-map, length-take, length-drop, drop-of-length-le, List·getD-eq-default}
 use lib.Seq.{length-take-le, take-suc, drop-cons, drop-drop, getD-drop, getD-take}
 use Rattle.monomial.specs.Lists.{any, all, below}
-use Rattle.monomial.specs.Monomial.{Mono}
+use Rattle.monomial.specs.Monomial.{Mono, width}
 use Rattle.monomial.specs.Order.{same}
 use Rattle.monomial.specs.Product.{AtMost}
+use Rattle.monomial.specs.Claims.{_∈_}
 use Rattle.monomial.proofs.Tests.{Tested, passed, failed, test, T→is, is→T, nT→is, is→nT, and-l, and-r, and-i}
-use Rattle.monomial.proofs.Members.{_∈_, here, any-in, all-out}
+use Rattle.monomial.proofs.Members.{here, any-in, all-out}
 use Rattle.monomial.proofs.Loops.{Seeking, seeking-start, seeking-found, seeking-on, seeking-ends}
 use Rattle.monomial.proofs.order.Laws.{mono-order}
 use Rattle.monomial.proofs.Counting.{below-in, below-out, below-length, below-at, at-in}
+use Rattle.wiring.specs.Panel.{termBytes, mostCoefficient, termExponent}
 use mir.Syntax.{w32}
 use mir.Val.{SFits, toZ, ofZ}
 use mir.ValLaws.{toZ-ofZ}
 use Rattle.wiring.specs.Coefficient.{isZero}
 use Rattle.wiring.specs.Terms.{Record, recordAt, records, exponentsRight, coefficientRight, termRight, alike, faultFrom, fault, CleanTerms}
 use Rattle.wiring.specs.declared.terms.Fault.the-variants.{Clean, Wrong, Repeated}
+use Rattle.wiring.specs.Claims.{Unlike}
 
 -- ---- the records of the bytes
-pub records-length : (bytes : List ℕ) → length (records bytes) ≡ length bytes / 12
+pub records-length : (bytes : List ℕ) → length (records bytes) ≡ length bytes / termBytes
 unfolding records
-records-length bytes = length-map (below (length bytes / 12)) (recordAt bytes) ∙ below-length (length bytes / 12)
+records-length bytes = length-map (below (length bytes / termBytes)) (recordAt bytes) ∙ below-length (length bytes / termBytes)
 
-pub records-at : (bytes : List ℕ) (t : ℕ) (d : Record) → t < length bytes / 12 → getD (records bytes) t d ≡ recordAt bytes t
+pub records-at : (bytes : List ℕ) (t : ℕ) (d : Record) → t < length bytes / termBytes → getD (records bytes) t d ≡ recordAt bytes t
 unfolding records
-records-at bytes t d h = below-at (recordAt bytes) (length bytes / 12) t d h
+records-at bytes t d h = below-at (recordAt bytes) (length bytes / termBytes) t d h
 
 -- a record by its number
 pub record Numbered (bytes : List ℕ) (r : Record) : Type 0 where
   pub number : ℕ
-  pub counted : number < length bytes / 12
+  pub counted : number < length bytes / termBytes
   pub is : recordAt bytes number ≡ r
 
 pub records-out : (bytes : List ℕ) (r : Record) → r ∈ records bytes → Numbered bytes r
 unfolding records
 records-out bytes r h =
-    let p : (t : ℕ) × (t ∈ below (length bytes / 12)) × (recordAt bytes t ≡ r) = Memᴰ·of-map (recordAt bytes) (below (length bytes / 12)) h in
-    record { number = p .0; counted = below-out (length bytes / 12) (p .0) (p .1); is = p .2 }
+    let p : (t : ℕ) × (t ∈ below (length bytes / termBytes)) × (recordAt bytes t ≡ r) = Memᴰ·of-map (recordAt bytes) (below (length bytes / termBytes)) h in
+    record { number = p .0; counted = below-out (length bytes / termBytes) (p .0) (p .1); is = p .2 }
 
 -- ---- records with the same equation and exponents
 pub alike-in : (r q : Record) → r .equation ≡ q .equation → r .monomial ≡ q .monomial → T (alike r q)
@@ -106,11 +109,6 @@ clean-new n seen (p ∷ rs) e q r s h t =
     ⊎-elim (λ i. l .new (any-in (alike p) s (subst (λ x. T (alike x q)) i t)))
     (λ k. clean-new n (seen ++ (p ∷ [])) rs (l .rest) q r (Memᴰ·append-left (p ∷ []) s) k t)
     (List·Memᴰ·cases-cons h)
-
--- no record is like one before it
-abbrev pub Unlike : List Record → Type 0
-Unlike [] = Unit {0}
-Unlike (q ∷ rs) = ((r : Record) → r ∈ rs → T (alike r q) → ⊥) × Unlike rs
 
 pub clean-unlike : (n : ℕ) (seen rs : List Record) → faultFrom n seen rs ≡ Clean → Unlike rs
 clean-unlike n seen [] e = tt
@@ -209,19 +207,19 @@ range-zero (negsuc n) f e = absurd (omega arith)
 low : (z : ℤ) → ltZ z (negsuc 999999) ≡ true → false ≡ coefficientRight z
 unfolding coefficientRight isZero
 low (pos n) e = never e
-low (negsuc n) e = let h : 999999 < n = ltb-true 999999 n e in sym (lt-leb (suc n) 1000000 (omega arith))
+low (negsuc n) e = let h : 999999 < n = ltb-true 999999 n e in sym (lt-leb (suc n) mostCoefficient (omega arith))
 
-high : (z : ℤ) → ltZ (pos 1000000) z ≡ true → false ≡ coefficientRight z
+high : (z : ℤ) → ltZ (pos mostCoefficient) z ≡ true → false ≡ coefficientRight z
 unfolding coefficientRight isZero
 high (pos zero) e = never e
-high (pos (suc n)) e = let h : 1000000 < suc n = ltb-true 1000000 (suc n) e in sym (lt-leb (suc n) 1000000 h)
+high (pos (suc n)) e = let h : mostCoefficient < suc n = ltb-true mostCoefficient (suc n) e in sym (lt-leb (suc n) mostCoefficient h)
 high (negsuc n) e = never e
 
-within : (z : ℤ) → (ofZ w32 z ≡ 0 → ⊥) → ltZ z (negsuc 999999) ≡ false → ltZ (pos 1000000) z ≡ false → true ≡ coefficientRight z
+within : (z : ℤ) → (ofZ w32 z ≡ 0 → ⊥) → ltZ z (negsuc 999999) ≡ false → ltZ (pos mostCoefficient) z ≡ false → true ≡ coefficientRight z
 unfolding coefficientRight isZero
 within (pos zero) n e f = absurd (n refl)
-within (pos (suc n)) z e f = sym (le-leb (suc n) 1000000 (ltb-false 1000000 (suc n) f))
-within (negsuc n) z e f = let h : n ≤ 999999 = ltb-false 999999 n e in sym (le-leb (suc n) 1000000 (omega arith))
+within (pos (suc n)) z e f = sym (le-leb (suc n) mostCoefficient (ltb-false mostCoefficient (suc n) f))
+within (negsuc n) z e f = let h : n ≤ 999999 = ltb-false 999999 n e in sym (le-leb (suc n) mostCoefficient (omega arith))
 
 module _ (z : ℤ) (f : SFits w32 z) where
   own : toZ w32 (ofZ w32 z) ≡ z
@@ -230,10 +228,10 @@ module _ (z : ℤ) (f : SFits w32 z) where
   pub range-low : ltZ (toZ w32 (ofZ w32 z)) (negsuc 999999) ≡ true → false ≡ coefficientRight z
   range-low e = low z (rw own at e)
 
-  pub range-high : ltZ (pos 1000000) (toZ w32 (ofZ w32 z)) ≡ true → false ≡ coefficientRight z
+  pub range-high : ltZ (pos mostCoefficient) (toZ w32 (ofZ w32 z)) ≡ true → false ≡ coefficientRight z
   range-high e = high z (rw own at e)
 
-  pub range-holds : (ofZ w32 z ≡ 0 → ⊥) → ltZ (toZ w32 (ofZ w32 z)) (negsuc 999999) ≡ false → ltZ (pos 1000000) (toZ w32 (ofZ w32 z)) ≡ false → true ≡ coefficientRight z
+  pub range-holds : (ofZ w32 z ≡ 0 → ⊥) → ltZ (toZ w32 (ofZ w32 z)) (negsuc 999999) ≡ false → ltZ (pos mostCoefficient) (toZ w32 (ofZ w32 z)) ≡ false → true ≡ coefficientRight z
   range-holds n e g = within z n (rw own at e) (rw own at g)
 
 -- ---- the rule of a record, field by field
@@ -241,7 +239,7 @@ pub record Fields (n : ℕ) (r : Record) : Type 0 where
   pub low : 1 ≤ r .equation
   pub high : r .equation ≤ n
   pub blank : r .blank ≡ 0
-  pub exponents : T (exponentsRight 9 n (r .monomial))
+  pub exponents : T (exponentsRight termExponent n (r .monomial))
   pub coefficient : T (coefficientRight (r .coefficient))
 
 pub fields-out : (n : ℕ) (r : Record) → T (termRight n r) → Fields n r
@@ -257,13 +255,13 @@ fields-out n r t = record {
 pub fields-in : (n : ℕ) (r : Record) → Fields n r → T (termRight n r)
 unfolding termRight
 fields-in n r f =
-    rw (le-leb 1 (r .equation) (f .low), le-leb (r .equation) n (f .high), eq-eqb (r .blank) 0 (f .blank), T→is (exponentsRight 9 n (r .monomial)) (f .exponents)) (f .coefficient)
+    rw (le-leb 1 (r .equation) (f .low), le-leb (r .equation) n (f .high), eq-eqb (r .blank) 0 (f .blank), T→is (exponentsRight termExponent n (r .monomial)) (f .exponents)) (f .coefficient)
 
 -- a field that breaks its rule decides; where the others keep theirs, the coefficient does
 pub right-fails : (n : ℕ) (r : Record) → (Fields n r → ⊥) → false ≡ termRight n r
 right-fails n r x = sym (nT→is (termRight n r) (λ t. x (fields-out n r t)))
 
-pub right-last : (n : ℕ) (r : Record) (e : ℕ) → e ≡ r .equation → 1 ≤ e → e ≤ n → r .blank ≡ 0 → exponentsRight 9 n (r .monomial) ≡ true
+pub right-last : (n : ℕ) (r : Record) (e : ℕ) → e ≡ r .equation → 1 ≤ e → e ≤ n → r .blank ≡ 0 → exponentsRight termExponent n (r .monomial) ≡ true
     → coefficientRight (r .coefficient) ≡ termRight n r
 unfolding termRight
 right-last n r e is low high blank exponents =
@@ -272,40 +270,40 @@ right-last n r e is low high blank exponents =
 -- what a record that keeps it holds
 pub record Rightful (r : Record) : Type 0 where
   pub low : 1 ≤ r .equation
-  pub high : r .equation ≤ 6
-  pub long : length (r .monomial) ≡ 6
-  pub small : AtMost 9 (r .monomial)
-  pub limited : natAbs (r .coefficient) ≤ 1000000
+  pub high : r .equation ≤ width
+  pub long : length (r .monomial) ≡ width
+  pub small : AtMost termExponent (r .monomial)
+  pub limited : natAbs (r .coefficient) ≤ mostCoefficient
 
 pub all-small : (b : ℕ) (m : Mono) → T (all (λ e. leb e b) m) → AtMost b m
 unfolding all
 all-small b [] t = tt
 all-small b (e ∷ m) t = (leb→le e b (and-l (leb e b) (all (λ x. leb x b) m) t), all-small b m (and-r (leb e b) (all (λ x. leb x b) m) t))
 
-pub right-holds : (r : Record) → length (r .monomial) ≡ 6 → T (termRight 6 r) → Rightful r
+pub right-holds : (r : Record) → length (r .monomial) ≡ width → T (termRight width r) → Rightful r
 unfolding exponentsRight coefficientRight
 right-holds r l t =
-    let f = fields-out 6 r t in
+    let f = fields-out width r t in
     record {
       low = f .low;
       high = f .high;
       long = l;
-      small = all-small 9 (r .monomial) (and-l (all (λ e. leb e 9) (r .monomial)) (all (eqb 0) (drop 6 (r .monomial))) (f .exponents));
-      limited = leb→le (natAbs (r .coefficient)) 1000000 (and-r (not (isZero (r .coefficient))) (leb (natAbs (r .coefficient)) 1000000) (f .coefficient));
+      small = all-small termExponent (r .monomial) (and-l (all (λ e. leb e termExponent) (r .monomial)) (all (eqb 0) (drop width (r .monomial))) (f .exponents));
+      limited = leb→le (natAbs (r .coefficient)) mostCoefficient (and-r (not (isZero (r .coefficient))) (leb (natAbs (r .coefficient)) mostCoefficient) (f .coefficient));
     }
 
 -- a record that stands wholly in the bytes has six exponents
-pub record-long : (bytes : List ℕ) (t : ℕ) → t < length bytes / 12 → length (recordAt bytes t .monomial) ≡ 6
+pub record-long : (bytes : List ℕ) (t : ℕ) → t < length bytes / termBytes → length (recordAt bytes t .monomial) ≡ width
 record-long bytes t h = simp (length-take, length-drop) (omega arith)
 
 pub clean-in : (bytes : List ℕ) → CleanTerms bytes → (r : Record) → r ∈ records bytes → Rightful r
 clean-in bytes c r h =
     let i = records-out bytes r h in
-    right-holds r (subst (λ (x : Record). length (x .monomial) ≡ 6) (i .is) (record-long bytes (i .number) (i .counted))) (clean-right 6 [] (records bytes) c r h)
+    right-holds r (subst (λ (x : Record). length (x .monomial) ≡ width) (i .is) (record-long bytes (i .number) (i .counted))) (clean-right width [] (records bytes) c r h)
 
-pub clean-at : (bytes : List ℕ) → CleanTerms bytes → (t : ℕ) → t < length bytes / 12 → Rightful (recordAt bytes t)
+pub clean-at : (bytes : List ℕ) → CleanTerms bytes → (t : ℕ) → t < length bytes / termBytes → Rightful (recordAt bytes t)
 unfolding records
-clean-at bytes c t h = clean-in bytes c (recordAt bytes t) (Memᴰ·map (recordAt bytes) (below-in (length bytes / 12) t h))
+clean-at bytes c t h = clean-in bytes c (recordAt bytes t) (Memᴰ·map (recordAt bytes) (below-in (length bytes / termBytes) t h))
 
 -- ---- records that are clean for n variables are clean for all six
 all-drop : {A : Type 0} (f : A → Bool) (i : ℕ) (l : List A) → T (all f l) → T (all f (drop i l))
@@ -315,34 +313,34 @@ all-drop f (suc i) [] t = t
 all-drop f (suc i) (x ∷ l) t = all-drop f i l (and-r (f x) (all f l) t)
 
 -- more variables leave fewer exponents that must be 0
-exponents-widen : (most n : ℕ) (m : Mono) → n ≤ 6 → T (exponentsRight most n m) → T (exponentsRight most 6 m)
+exponents-widen : (most n : ℕ) (m : Mono) → n ≤ width → T (exponentsRight most n m) → T (exponentsRight most width m)
 unfolding exponentsRight
 exponents-widen most n m h t =
-    let e : n + (6 - n) ≡ 6 = omega arith in
-    let beyond : T (all (eqb 0) (drop (6 - n) (drop n m))) = all-drop (eqb 0) (6 - n) (drop n m) (and-r (all (λ x. leb x most) m) (all (eqb 0) (drop n m)) t) in
-    let zeros : T (all (eqb 0) (drop 6 m)) = rw (drop-drop (6 - n) n m, e) at beyond in
-    and-i (all (λ x. leb x most) m) (all (eqb 0) (drop 6 m)) (and-l (all (λ x. leb x most) m) (all (eqb 0) (drop n m)) t) zeros
+    let e : n + (width - n) ≡ width = omega arith in
+    let beyond : T (all (eqb 0) (drop (width - n) (drop n m))) = all-drop (eqb 0) (width - n) (drop n m) (and-r (all (λ x. leb x most) m) (all (eqb 0) (drop n m)) t) in
+    let zeros : T (all (eqb 0) (drop width m)) = rw (drop-drop (width - n) n m, e) at beyond in
+    and-i (all (λ x. leb x most) m) (all (eqb 0) (drop width m)) (and-l (all (λ x. leb x most) m) (all (eqb 0) (drop n m)) t) zeros
 
-pub right-widens : (n : ℕ) (r : Record) → n ≤ 6 → T (termRight n r) → T (termRight 6 r)
+pub right-widens : (n : ℕ) (r : Record) → n ≤ width → T (termRight n r) → T (termRight width r)
 right-widens n r h t =
     let f = fields-out n r t in
     let high = f .high in
-    fields-in 6 r (record {
+    fields-in width r (record {
       low = f .low;
       high = omega arith;
       blank = f .blank;
-      exponents = exponents-widen 9 n (r .monomial) h (f .exponents);
+      exponents = exponents-widen termExponent n (r .monomial) h (f .exponents);
       coefficient = f .coefficient;
     })
 
-pub clean-widens : (n : ℕ) (rs : List Record) → n ≤ 6 → fault n rs ≡ Clean → fault 6 rs ≡ Clean
+pub clean-widens : (n : ℕ) (rs : List Record) → n ≤ width → fault n rs ≡ Clean → fault width rs ≡ Clean
 clean-widens n rs h e = widen [] rs e
   where
-    widen : (seen rs : List Record) → faultFrom n seen rs ≡ Clean → faultFrom 6 seen rs ≡ Clean
-    widen seen [] e = clean-none 6 seen
+    widen : (seen rs : List Record) → faultFrom n seen rs ≡ Clean → faultFrom width seen rs ≡ Clean
+    widen seen [] e = clean-none width seen
     widen seen (r ∷ rs) e =
         let l = clean-leads n seen r rs e in
-        clean-cons 6 seen r rs (record { right = right-widens n r h (l .right); new = l .new; rest = widen (seen ++ (r ∷ [])) rs (l .rest) })
+        clean-cons width seen r rs (record { right = right-widens n r h (l .right); new = l .new; rest = widen (seen ++ (r ∷ [])) rs (l .rest) })
 
 -- ---- a loop that judges the records, and has come to number t: what is left says what the whole says
 pub record Judging (n : ℕ) (rs : List Record) (t : ℕ) : Type 0 where
@@ -373,7 +371,7 @@ unfolding faultFrom
 judging-ends {n} {rs} {t} j h = rw (drop-of-length-le rs h) at (j .rest)
 
 -- the same at the bytes
-module _ (bytes : List ℕ) {n t : ℕ} (j : Judging n (records bytes) t) (h : t < length bytes / 12) where
+module _ (bytes : List ℕ) {n t : ℕ} (j : Judging n (records bytes) t) (h : t < length bytes / termBytes) where
   is : getD (records bytes) t (recordAt bytes t) ≡ recordAt bytes t
   is = records-at bytes t (recordAt bytes t) h
 
@@ -391,16 +389,16 @@ module _ (bytes : List ℕ) {n t : ℕ} (j : Judging n (records bytes) t) (h : t
 
 -- ---- a loop that looks among the records before number t for one like it, and has come to number u
 pub record Repeating (bytes : List ℕ) (t u : ℕ) : Type 0 where
-  pub whole : t < length bytes / 12
+  pub whole : t < length bytes / termBytes
   pub within : u ≤ t
   pub seeks : Seeking (alike (recordAt bytes t)) (take t (records bytes)) u
 
-pub repeating-start : (bytes : List ℕ) (t : ℕ) → 12 * t + 12 ≤ length bytes → Repeating bytes t 0
+pub repeating-start : (bytes : List ℕ) (t : ℕ) → termBytes * t + termBytes ≤ length bytes → Repeating bytes t 0
 repeating-start bytes t h = record { whole = omega arith; within = omega arith; seeks = seeking-start (alike (recordAt bytes t)) (take t (records bytes)) }
 
 module _ {bytes : List ℕ} {t u : ℕ} (r : Repeating bytes t u) where
   front : length (take t (records bytes)) ≡ t
-  front = let l : length (records bytes) ≡ length bytes / 12 = records-length bytes in let h = r .whole in length-take-le t (records bytes) (omega arith)
+  front = let l : length (records bytes) ≡ length bytes / termBytes = records-length bytes in let h = r .whole in length-take-le t (records bytes) (omega arith)
 
   module _ (h : u < t) where
     entry : getD (take t (records bytes)) u (recordAt bytes u) ≡ recordAt bytes u

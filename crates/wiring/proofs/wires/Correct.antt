@@ -12,20 +12,16 @@ use Rattle.monomial.specs.Product.{AtMost}
 use Rattle.monomial.proofs.Members.{gather-same, fill-at}
 use Rattle.monomial.proofs.Counting.{below-out}
 use Rattle.monomial.proofs.product.Laws.{atMost-at}
-use Rattle.wiring.specs.Coefficient.{word, signed}
+use Rattle.wiring.specs.Panel.{wireBytes}
 use Rattle.wiring.specs.Poly.{Kind, Poly}
 use Rattle.wiring.specs.Wires.{Wire, signal, row, wiring, wireRecord, wireList, Met}
+use Rattle.wiring.specs.Kinds.{Lawful}
+use Rattle.wiring.specs.Claims.{rowOf, Correct, Decodes}
 use Rattle.wiring.proofs.coefficient.Laws.{decode-bytes}
-use Rattle.wiring.proofs.kinds.Laws.{Lawful}
-use Rattle.wiring.proofs.wires.Laws.{Row, rowOf, wiring-rows, wiring-row, wiring-is, row-one}
+use Rattle.wiring.proofs.wires.Laws.{wiring-rows, wiring-row, wiring-is, row-one}
 use Rattle.wiring.proofs.wires.Sheets.{record-length, list-length}
 
 -- ---- the list
--- the records of each left variable are its derivative, and the list is these rows by ascending left variable
-pub record Correct {M : Type 0} (k : Kind M) (v : List M) (d : M → Poly M) (list : List Wire) : Type 0 where
-  pub rows : (i : ℕ) → i < length v → Row k v i (d (signal k v i)) (rowOf i list)
-  pub ordered : list ≡ gather (λ i. rowOf i list) (below (length v))
-
 module _ {M : Type 0} (k : Kind M) (v : List M) (d : M → Poly M) where
   abbrev own : ℕ → List Wire
   own i = row k v i (d (signal k v i))
@@ -41,15 +37,6 @@ module _ {M : Type 0} (k : Kind M) (v : List M) (d : M → Poly M) where
   correct-one law l c = c .ordered ∙ rows-alike l (λ i h. row-one k law v i (d (signal k v i)) (rowOf i l) (c .rows i h))
 
 -- ---- the bytes of a record
-pub record Decodes (x : Wire) (bytes : List ℕ) : Type 0 where
-  pub long : length bytes ≡ 8
-  pub each : (k : ℕ) → getD bytes k 0 < 256
-  pub left-is : getD bytes 0 0 ≡ x .left
-  pub a-is : getD bytes 1 0 ≡ x .a
-  pub b-is : getD bytes 2 0 ≡ x .b
-  pub blank : getD bytes 3 0 ≡ 0
-  pub coefficient-is : signed (word bytes 4) ≡ x .coefficient
-
 pub wire-decodes : (x : Wire) → x .left < 256 → x .a < 256 → x .b < 256 → natAbs (x .coefficient) < 2147483648 → Decodes x (wireRecord x)
 unfolding wireRecord
 wire-decodes x l a b c = record {
@@ -66,16 +53,16 @@ wire-decodes x l a b c = record {
     small = (omega arith, (omega arith, (omega arith, (omega arith, (omega arith, (omega arith, (omega arith, (omega arith, tt))))))))
 
 -- ---- a buffer that begins with the list
-pub list-at : (list : List Wire) (tail : List ℕ) (j : ℕ) (none : Wire) → j < length list → take 8 (drop (8 * j) (wireList list ++ tail)) ≡ wireRecord (getD list j none)
+pub list-at : (list : List Wire) (tail : List ℕ) (j : ℕ) (none : Wire) → j < length list → take wireBytes (drop (wireBytes * j) (wireList list ++ tail)) ≡ wireRecord (getD list j none)
 unfolding gather
 list-at [] tail j none h = let z : ⊥ = omega arith in absurd z
-list-at (x ∷ l) tail zero none h = ap (take 8) (append-assoc (wireRecord x) (wireList l) tail) ∙ take-at (wireRecord x) (wireList l ++ tail) 8 (record-length x)
+list-at (x ∷ l) tail zero none h = ap (take wireBytes) (append-assoc (wireRecord x) (wireList l) tail) ∙ take-at (wireRecord x) (wireList l ++ tail) wireBytes (record-length x)
 list-at (x ∷ l) tail (suc j) none h =
-    let skip : 8 * suc j ≡ length (wireRecord x) + 8 * j = omega (arith, record-length x) in
-    rw (append-assoc (wireRecord x) (wireList l) tail, skip, drop-append-add (wireRecord x) (wireList l ++ tail) (8 * j)) (list-at l tail j none (omega arith))
+    let skip : wireBytes * suc j ≡ length (wireRecord x) + wireBytes * j = omega (arith, record-length x) in
+    rw (append-assoc (wireRecord x) (wireList l) tail, skip, drop-append-add (wireRecord x) (wireList l ++ tail) (wireBytes * j)) (list-at l tail j none (omega arith))
 
-pub list-rest : (list : List Wire) (m k : ℕ) → 8 * length list ≤ k → getD (wireList list ++ replicate m 0) k 0 ≡ 0
+pub list-rest : (list : List Wire) (m k : ℕ) → wireBytes * length list ≤ k → getD (wireList list ++ replicate m 0) k 0 ≡ 0
 list-rest list m k h =
-    let front : length (wireList list) ≡ 8 * length list = list-length list in
+    let front : length (wireList list) ≡ wireBytes * length list = list-length list in
     let e : length (wireList list) + (k - length (wireList list)) ≡ k = omega arith in
     rw (sym e) (getD-append-add (wireList list) (replicate m 0) (k - length (wireList list)) 0 ∙ fill-at 0 m (k - length (wireList list)))

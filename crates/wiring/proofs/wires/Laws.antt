@@ -8,18 +8,19 @@ use Prim.Native.Nat.{ℕ, zero, suc, _+_, _<_, _≤_}
 use native.Mathlib.Omega.{arith}
 use borrow.Author.Tests.{eq-eqb}
 use lib.Dec.{T, eqb, eqb→eq}
-use lib.IntN.{ℤ, pos}
+use lib.IntN.{ℤ}
 use lib.ListN.{length, getD}
-use Rattle.monomial.specs.Lists.{keep, gather, below}
+use Rattle.monomial.specs.Lists.{gather, below}
+use Rattle.monomial.specs.Claims.{_∈_, Ascending}
 use Rattle.monomial.proofs.Tests.{is→T}
-use Rattle.monomial.proofs.Members.{_∈_, here, there, any-in, keep-all, keep-none, keep-append}
+use Rattle.monomial.proofs.Members.{here, there, any-in, keep-all, keep-none, keep-append}
 use Rattle.monomial.proofs.Counting.{place-lt, place-passes, at-in, place-le}
-use Rattle.monomial.proofs.order.Ascending.{Ascending}
-use Rattle.wiring.specs.Poly.{Kind, Poly, Same, coeff, support}
-use Rattle.wiring.specs.Quadratic.{Product, multiplied, factor, inV2}
+use Rattle.wiring.specs.Poly.{Kind, Poly, coeff, support}
+use Rattle.wiring.specs.Quadratic.{multiplied, factor, inV2}
 use Rattle.wiring.specs.Wires.{Wire, signal, firstOf, secondOf, row, rowsFrom, wiring, Met}
+use Rattle.wiring.specs.Kinds.{Lawful}
+use Rattle.wiring.specs.Claims.{joined, asProduct, Wired, Row, rowOf}
 use Rattle.wiring.proofs.Poly.{support-asc, support-out, graph, graph-support}
-use Rattle.wiring.proofs.kinds.Laws.{Lawful}
 use Rattle.wiring.proofs.quadratic.Laws.{inV2-in}
 
 -- ---- the pair of a monomial
@@ -63,31 +64,6 @@ module _ {M : Type 0} (k : Kind M) (law : Lawful k) (v : List M) (m : M) where
       first-least (secondOf k v m) (firstOf k v m) (first-lt t) turned
 
 -- ---- what a list of records says of a left variable
--- the product of the two signals of a record, and the record as a product of members of v
-abbrev pub joined : {M : Type 0} → Kind M → List M → Wire → M
-joined k v x = k .mul (signal k v (x .a)) (signal k v (x .b))
-
-abbrev pub asProduct : {M : Type 0} → Kind M → List M → Wire → Product M
-asProduct k v x = record { a = signal k v (x .a); b = signal k v (x .b); coefficient = x .coefficient }
-
--- a record of left variable number i, whose derivative is p
-pub record Wired {M : Type 0} (k : Kind M) (v : List M) (i : ℕ) (p : Poly M) (x : Wire) : Type 0 where
-  pub left-is : x .left ≡ i
-  pub a-below : x .a < length v
-  pub b-below : x .b < length v
-  pub ordered : x .a ≤ x .b
-  pub least-a : (a b : ℕ) → b < length v → k .mul (signal k v a) (signal k v b) ≡ joined k v x → x .a ≤ a
-  pub least-b : (b : ℕ) → k .mul (signal k v (x .a)) (signal k v b) ≡ joined k v x → x .b ≤ b
-  pub total : x .coefficient ≡ coeff k p (joined k v x)
-  pub nonzero : x .coefficient ≡ pos 0 → ⊥
-
--- all of them: one for each monomial of the derivative, ascending, and together they are the derivative
-pub record Row {M : Type 0} (k : Kind M) (v : List M) (i : ℕ) (p : Poly M) (l : List Wire) : Type 0 where
-  pub each : (x : Wire) → x ∈ l → Wired k v i p x
-  pub monomials : map (joined k v) l ≡ support k p
-  pub ascending : Ascending (k .before) (map (joined k v) l)
-  pub equal : Same k (multiplied k v (map (asProduct k v) l)) p
-
 abbrev pub wire : {M : Type 0} → Kind M → List M → ℕ → Poly M → M → Wire
 wire k v i p m = record { left = i; a = firstOf k v m; b = secondOf k v m; coefficient = coeff k p m }
 
@@ -126,9 +102,6 @@ module _ {M : Type 0} (k : Kind M) (law : Lawful k) (v : List M) (i : ℕ) (p : 
   }
 
 -- ---- the rows, one after the other
-abbrev pub rowOf : ℕ → List Wire → List Wire
-rowOf i l = keep (λ x. eqb (x .left) i) l
-
 module _ {M : Type 0} (k : Kind M) (v : List M) where
   row-left : (i : ℕ) (p : Poly M) (x : Wire) → x ∈ row k v i p → x .left ≡ i
   unfolding row

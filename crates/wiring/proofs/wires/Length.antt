@@ -1,4 +1,4 @@
--- How long the wiring list can be: at most one record for each term of the derivatives, so at most 224. Assumes nothing.
+-- How long the wiring list can be: at most one record for each term of the derivatives. Assumes nothing.
 use mathlib.Core.Path.{_≡_, refl, sym, ap, _∙_}
 use mathlib.Core.Bool.{Bool, true, false, not, cond}
 use mathlib.Core.List.{List, [], _∷_, _++_, map}
@@ -10,14 +10,16 @@ use lib.Dec.{T, T-not, not-T, eqb, ltb, eqb→eq, ltb→lt}
 use lib.IntN.{pos, _*ℤ_}
 use lib.ListN.{length, getD, take, drop, length-map, length-append, take-append-drop}
 use Rattle.monomial.specs.Lists.{keep, arrangeBy, below}
-use Rattle.monomial.specs.Monomial.{Mono, one, vars, constants}
+use Rattle.monomial.specs.Monomial.{Mono, one, vars, constants, width}
 use Rattle.monomial.specs.Order.{same, before}
 use Rattle.monomial.specs.Product.{mul}
+use Rattle.monomial.specs.Claims.{_∈_, Ascending}
 use Rattle.monomial.proofs.Tests.{cond-cases, Tested, passed, failed, test}
-use Rattle.monomial.proofs.Members.{_∈_, keep-none, keep-no, keep-append, keep-map, keep-length, fill-at}
+use Rattle.monomial.proofs.Members.{keep-none, keep-no, keep-append, keep-length, fill-at}
 use Rattle.monomial.proofs.Counting.{below-asc}
-use Rattle.monomial.proofs.order.Ascending.{Ascending, head-first, tail-asc, arrange-length}
-use Rattle.wiring.specs.Panel.{width, cards, mostTerms}
+use Rattle.monomial.proofs.order.Ascending.{head-first, tail-asc, arrange-length}
+use Rattle.monomial.proofs.Variables.{vars-one}
+use Rattle.wiring.specs.Panel.{cards, mostTerms, mostWires}
 use Rattle.wiring.specs.Coefficient.{isZero}
 use Rattle.wiring.specs.Poly.{Kind, Term, Poly, plain, coeff, monos, support, times}
 use Rattle.wiring.specs.Derivative.{part, partsFrom, derivative}
@@ -140,22 +142,15 @@ module _ {M : Type 0} (k : Kind M) where
 one-missed : (w j : ℕ) → T (raised plain j (one w)) → ⊥
 one-missed w j t = T-not (isZero (pos (getD (one w) j 0))) t (is-zero (pos (getD (one w) j 0)) (ap pos (fill-at 0 w j)))
 
-hits-vars : (w j : ℕ) → length (hits plain j (vars w)) ≤ 1
-unfolding vars keep isZero
-hits-vars zero j = omega arith
-hits-vars (suc w) zero =
-    let e : hits plain 0 (map (_∷_ 0) (vars w)) ≡ [] =
-    keep-map (raised plain 0) (_∷_ 0) (vars w) ∙ ap (map (_∷_ 0)) (keep-none (λ x. raised plain 0 (0 ∷ x)) (vars w) (λ x h t. t)) in
-    let k : length (hits plain 0 (map (_∷_ 0) (vars w))) ≡ 0 = ap length e in
-    omega arith
-hits-vars (suc w) (suc j) =
-    let ih : length (hits plain j (vars w)) ≤ 1 = hits-vars w j in
-    let e : hits plain (suc j) (map (_∷_ 0) (vars w)) ≡ map (_∷_ 0) (hits plain j (vars w)) = keep-map (raised plain (suc j)) (_∷_ 0) (vars w) in
-    let k : length (hits plain (suc j) (map (_∷_ 0) (vars w))) ≡ length (hits plain j (vars w)) = ap length e ∙ length-map (hits plain j (vars w)) (_∷_ 0) in
-    rw (keep-no (raised plain (suc j)) (1 ∷ one w) (map (_∷_ 0) (vars w)) (one-missed w j)) (omega arith)
+raised-above : (j : ℕ) (x : Mono) → T (raised plain j x) → 0 < getD x j 0
+raised-above j x t = go (getD x j 0) refl
+  where
+    go : (e : ℕ) → getD x j 0 ≡ e → 0 < getD x j 0
+    go zero q = absurd (T-not (isZero (pos (getD x j 0))) t (is-zero (pos (getD x j 0)) (ap pos q)))
+    go (suc e) q = omega arith
 
 pub hits-constants : (w j : ℕ) → length (hits plain j (constants w)) ≤ 1
-hits-constants w j = rw (keep-no (raised plain j) (one w) (vars w) (one-missed w j)) (hits-vars w j)
+hits-constants w j = rw (keep-no (raised plain j) (one w) (vars w) (one-missed w j)) (vars-one w j (raised plain j) (raised-above j))
 
 pub wiring-length : (w n : ℕ) (fs : List (Poly Mono)) (s : List Mono) → length (wiring plain (signals w n s) (derivative plain fs)) ≤ suc (length s) * termCount fs
 unfolding signals
@@ -222,8 +217,8 @@ wiring-records n rs s =
 
 -- with 32 records and six monomials
 pub wiring-most : (n : ℕ) (rs : List Record) (s : List Mono) → length rs ≤ mostTerms → length s ≤ cards
-    → length (wiring plain (signals width n s) (derivative plain (system rs))) ≤ 224
+    → length (wiring plain (signals width n s) (derivative plain (system rs))) ≤ mostWires
 wiring-most n rs s h k =
     let a : length (wiring plain (signals width n s) (derivative plain (system rs))) ≤ suc (length s) * length rs = wiring-records n rs s in
-    let b : suc (length s) * length rs ≤ 7 * length rs = mul-le-mul-right (length rs) (omega arith) in
+    let b : suc (length s) * length rs ≤ suc cards * length rs = mul-le-mul-right (length rs) (omega arith) in
     omega arith

@@ -1,7 +1,7 @@
 -- A buffer with a wiring list in it: one record more, one row more, the whole list. Assumes nothing.
 use mathlib.Core.Path.{_≡_, refl, sym, ap, ap₂, _∙_, subst}
 use mathlib.Core.Bool.{Bool, true, false, not, _||_}
-use mathlib.Core.List.{List, [], _∷_, _++_, map, append-nil, append-assoc}
+use mathlib.Core.List.{List, [], _∷_, _++_, map, append-nil, append-assoc, map-append}
 use Prim.Native.Nat.{ℕ, zero, suc, _+_, _*_, _-_, _<_, _≤_}
 use native.Mathlib.Omega.{arith}
 use native.Mathlib.Numerals.{add-one}
@@ -12,11 +12,13 @@ use lib.Seq.{paste, take-suc, take-all, drop-cons, take-at, drop-at, length-past
 use Rattle.monomial.specs.Lists.{keep, gather}
 use Rattle.monomial.specs.Monomial.{Mono}
 use Rattle.monomial.specs.Order.{before}
+use Rattle.monomial.specs.Claims.{_∈_, Ascending}
 use Rattle.monomial.proofs.Tests.{is→T, is→nT}
-use Rattle.monomial.proofs.Members.{_∈_, keep-no, keep-all, gather-append}
+use Rattle.monomial.proofs.Members.{keep-no, keep-all, gather-append}
 use Rattle.monomial.proofs.order.Laws.{mono-order, not-both}
-use Rattle.monomial.proofs.order.Ascending.{Ascending, head-first, tail-asc}
+use Rattle.monomial.proofs.order.Ascending.{head-first, tail-asc}
 use Rattle.monomial.proofs.Counting.{at-in}
+use Rattle.wiring.specs.Panel.{wireBytes}
 use Rattle.wiring.specs.Poly.{Poly, plain, coeff, support}
 use Rattle.wiring.specs.Quadratic.{inV2}
 use Rattle.wiring.specs.Choice.{Heads, beyond}
@@ -25,15 +27,15 @@ use Rattle.wiring.specs.declared.wires.Written.{Written}
 use Rattle.wiring.specs.Wires.{Wire, firstOf, secondOf, row, rowsFrom, wiring, wireRecord, wireList, Sheet, Standing, Wrote}
 
 -- ---- one record more
-pub record-length : (w : Wire) → length (wireRecord w) ≡ 8
+pub record-length : (w : Wire) → length (wireRecord w) ≡ wireBytes
 unfolding wireRecord
 record-length w = refl
 
-pub list-length : (l : List Wire) → length (wireList l) ≡ 8 * length l
+pub list-length : (l : List Wire) → length (wireList l) ≡ wireBytes * length l
 unfolding gather
 list-length [] = omega arith
 list-length (w ∷ l) =
-    let ih : length (wireList l) ≡ 8 * length l = list-length l in
+    let ih : length (wireList l) ≡ wireBytes * length l = list-length l in
     length-append (wireRecord w) (wireList l) ∙ omega (arith, record-length w)
 
 abbrev zeros : ℕ → List ℕ
@@ -46,57 +48,53 @@ drop-zeros (suc n) (suc k) = let e : n - k ≡ suc n - suc k = omega arith in dr
 
 pub sheet-start : (out : List ℕ) → out ≡ replicate (length out) 0 → Sheet [] 0 out
 unfolding gather
-sheet-start out e = record { counted = refl; room = omega arith; bytes = let k : length out ≡ length out - 8 * 0 = omega arith in e ∙ ap zeros k }
+sheet-start out e = record { counted = refl; room = omega arith; bytes = let k : length out ≡ length out - wireBytes * 0 = omega arith in e ∙ ap zeros k }
 
-pub sheet-more : (list : List Wire) (at : ℕ) (out : List ℕ) (w : Wire) → Sheet list at out → 8 * at + 8 ≤ length out
-    → Sheet (list ++ (w ∷ [])) (at + 1) (paste out (8 * at) (wireRecord w) 8)
+pub sheet-more : (list : List Wire) (at : ℕ) (out : List ℕ) (w : Wire) → Sheet list at out → wireBytes * at + wireBytes ≤ length out
+    → Sheet (list ++ (w ∷ [])) (at + 1) (paste out (wireBytes * at) (wireRecord w) wireBytes)
 unfolding gather wireRecord
 sheet-more list at out w s h = record { counted = counted; room = room; bytes = bytes }
   where
     written : List ℕ
-    written = paste out (8 * at) (wireRecord w) 8
+    written = paste out (wireBytes * at) (wireRecord w) wireBytes
 
     long : length written ≡ length out
-    long = length-paste out (8 * at) (wireRecord w) 8 h (omega (arith, record-length w))
+    long = length-paste out (wireBytes * at) (wireRecord w) wireBytes h (omega (arith, record-length w))
 
     counted : at + 1 ≡ length (list ++ (w ∷ []))
     counted = let k = s .counted in sym (length-append list (w ∷ []) ∙ omega arith)
 
-    room : 8 * (at + 1) ≤ length written
+    room : wireBytes * (at + 1) ≤ length written
     room = omega (arith, long)
 
-    front : take (8 * at) out ≡ wireList list
+    front : take (wireBytes * at) out ≡ wireList list
     front =
         let k = s .counted in
-        ap (take (8 * at)) (s .bytes) ∙ take-at (wireList list) (replicate (length out - 8 * at) 0) (8 * at) (list-length list ∙ omega arith)
+        ap (take (wireBytes * at)) (s .bytes) ∙ take-at (wireList list) (replicate (length out - wireBytes * at) 0) (wireBytes * at) (list-length list ∙ omega arith)
 
-    tail : drop (8 * at + 8) out ≡ replicate (length written - 8 * (at + 1)) 0
+    tail : drop (wireBytes * at + wireBytes) out ≡ replicate (length written - wireBytes * (at + 1)) 0
     tail =
         let k = s .counted in
-        sym (drop-drop 8 (8 * at) out)
-        ∙ ap (drop 8) (ap (drop (8 * at)) (s .bytes) ∙ drop-at (wireList list) (replicate (length out - 8 * at) 0) (8 * at) (list-length list ∙ omega arith))
-        ∙ drop-zeros (length out - 8 * at) 8
+        sym (drop-drop wireBytes (wireBytes * at) out)
+        ∙ ap (drop wireBytes) (ap (drop (wireBytes * at)) (s .bytes) ∙ drop-at (wireList list) (replicate (length out - wireBytes * at) 0) (wireBytes * at) (list-length list ∙ omega arith))
+        ∙ drop-zeros (length out - wireBytes * at) wireBytes
         ∙ ap zeros left
       where
-        left : length out - 8 * at - 8 ≡ length written - 8 * (at + 1)
+        left : length out - wireBytes * at - wireBytes ≡ length written - wireBytes * (at + 1)
         left = omega (arith, long)
 
-    bytes : written ≡ wireList (list ++ (w ∷ [])) ++ replicate (length written - 8 * (at + 1)) 0
+    bytes : written ≡ wireList (list ++ (w ∷ [])) ++ replicate (length written - wireBytes * (at + 1)) 0
     bytes =
         ap₂ (λ (a b : List ℕ). (a ++ wireRecord w) ++ b) front tail
-        ∙ ap (λ (l : List ℕ). l ++ replicate (length written - 8 * (at + 1)) 0)
+        ∙ ap (λ (l : List ℕ). l ++ replicate (length written - wireBytes * (at + 1)) 0)
         (sym (gather-append wireRecord list (w ∷ []) ∙ ap (λ (l : List ℕ). wireList list ++ l) (append-nil (wireRecord w))))
 
 -- no room for one more of a list that goes on
-pub sheet-full : (list : List Wire) (at : ℕ) (out : List ℕ) (more : List Wire) → Sheet list at out → length out < 8 * at + 8 → 0 < length more
-    → length out < 8 * length (list ++ more)
+pub sheet-full : (list : List Wire) (at : ℕ) (out : List ℕ) (more : List Wire) → Sheet list at out → length out < wireBytes * at + wireBytes → 0 < length more
+    → length out < wireBytes * length (list ++ more)
 sheet-full list at out more s h k = let e = s .counted in let l = length-append list more in omega arith
 
 -- ---- the records of one row, one after the other
-map-append : {A B : Type 0} (f : A → B) (a b : List A) → map f (a ++ b) ≡ map f a ++ map f b
-map-append f [] b = refl
-map-append f (x ∷ a) b = ap (_∷_ (f x)) (map-append f a b)
-
 -- the entries of an ascending list behind one of them
 behind-rest : (l : List Mono) (k : ℕ) → Ascending before l → k < length l → keep (before (getD l k [])) l ≡ drop (k + 1) l
 behind-rest [] k a h = let z : ⊥ = omega arith in absurd z
@@ -156,15 +154,15 @@ module _ (v : List Mono) (left : ℕ) (p : Poly Mono) where
         subst (λ (m : Mono). T (inV2 plain v m)) (rowing-next e) (f (getD (support plain p) k []) (at-in (support plain p) k [] (rowing-left e)))
 
     -- it is written, and the one behind it is at hand
-    pub rowing-more : (asc : Ascending before (support plain p)) (w : Wire) (next' : Pick) → next .some ≡ true → w ≡ wireOf (next .m .e) → 8 * at + 8 ≤ length out
-        → Heads (keep (beyond next) (support plain p)) next' → Rowing from out₀ (at + 1) (paste out (8 * at) (wireRecord w) 8) next' (k + 1)
+    pub rowing-more : (asc : Ascending before (support plain p)) (w : Wire) (next' : Pick) → next .some ≡ true → w ≡ wireOf (next .m .e) → wireBytes * at + wireBytes ≤ length out
+        → Heads (keep (beyond next) (support plain p)) next' → Rowing from out₀ (at + 1) (paste out (wireBytes * at) (wireRecord w) wireBytes) next' (k + 1)
     unfolding wireRecord
     rowing-more asc w next' e we h hd = record {
       come = let c = r .come in omega arith;
       within = let l = rowing-left e in omega arith;
-      long = length-paste out (8 * at) (wireRecord w) 8 h (omega arith) ∙ r .long;
+      long = length-paste out (wireBytes * at) (wireRecord w) wireBytes h (omega arith) ∙ r .long;
       heads = subst (λ (l : List Mono). Heads l next') rest hd;
-      sheet = λ done s. subst (λ (l : List Wire). Sheet l (at + 1) (paste out (8 * at) (wireRecord w) 8)) (more done)
+      sheet = λ done s. subst (λ (l : List Wire). Sheet l (at + 1) (paste out (wireBytes * at) (wireRecord w) wireBytes)) (more done)
           (sheet-more (done ++ map wireOf (take k (support plain p))) at out w (r .sheet done s) h);
     }
       where
@@ -195,7 +193,7 @@ module _ (v : List Mono) (left : ℕ) (p : Poly Mono) where
         subst (λ (l : List Mono). Sheet (done ++ map wireOf l) at out) (take-all k (support plain p) all-done) (r .sheet done s)
 
     -- or there is no room for the next one
-    pub rowing-full : next .some ≡ true → length out < 8 * at + 8 → (done : List Wire) → Sheet done from out₀ → length out < 8 * length (done ++ row plain v left p)
+    pub rowing-full : next .some ≡ true → length out < wireBytes * at + wireBytes → (done : List Wire) → Sheet done from out₀ → length out < wireBytes * length (done ++ row plain v left p)
     unfolding row
     rowing-full e h done s =
         let c = r .come in
@@ -229,7 +227,7 @@ module _ (v : List Mono) (d : Mono → Poly Mono) where
     pub listing-more : (at' : ℕ) (out' : List ℕ) → left < length v → Sheet (l .done ++ row plain v left (d (getD v left []))) at' out' → Listing (left + 1) at' out'
     listing-more at' out' h s = record { within = omega arith; done = l .done ++ row plain v left (d (getD v left [])); sheet = s; whole = onward h }
 
-    pub listing-full : (out' : List ℕ) → left < length v → length out' < 8 * length (l .done ++ row plain v left (d (getD v left []))) → length out' < 8 * length (wiring plain v d)
+    pub listing-full : (out' : List ℕ) → left < length v → length out' < wireBytes * length (l .done ++ row plain v left (d (getD v left []))) → length out' < wireBytes * length (wiring plain v d)
     listing-full out' h k =
         let e = ap length (onward h) in
         omega (arith, e, length-append (l .done ++ row plain v left (d (getD v left []))) (rowsFrom plain v d (left + 1) (drop (left + 1) v)))

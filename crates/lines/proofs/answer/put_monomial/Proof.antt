@@ -4,11 +4,11 @@ use mathlib.Core.List.{map}
 use native.Mathlib.Omega.{arith}
 use lib.ListN.{length}
 use lib.Seq.{take-all}
-use Rattle.wiring.specs.Panel.{width}
 use Rattle.lines.specs.Text.{decimal}
 use Rattle.lines.specs.Answer.{exponents}
 use Rattle.lines.proofs.answer.Laws.{entries-are}
 use borrow.Author.Needs.{needs}
+use Rattle.monomial.specs.Monomial.{width}
 use Rattle.lines.proofs.answer.put_monomial.Statement.{statement}
 use Rattle.lines.proofs.answer.put_monomial.Tie as tie
 

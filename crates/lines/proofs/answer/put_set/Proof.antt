@@ -33,8 +33,10 @@ put-lead-requires c κs =
 
 put-monomial-requires : tie.Need-put-monomial-requires Inv-loop μ-loop
 put-monomial-requires c κs =
-    let k = c .before .before .before .before .before .before .loop in
-    let lead = c .before .before .before .put-lead .ensures in
+    let at-put-lead = c .before .before .before in
+    let at-loop = at-put-lead .before .before .before in
+    let k = at-loop .loop in
+    let lead = at-put-lead .put-lead .ensures in
     (omega (arith, k .inv .0), omega (arith, k .inv .0, k .inv .2 .text .long, lead .0 .long, lead .1))
 
 add-i : tie.Need-add-i Inv-loop μ-loop
@@ -45,9 +47,11 @@ loop-less c = search needs
 
 loop-again : tie.Need-loop-again Inv-loop μ-loop
 loop-again c =
-    let start = c .before .before .before .before .before .before .before .before .before .before .before .before .before in
-    let k = c .before .before .before .before .before .before .before .before .before .loop in
-    let lead = c .before .before .before .before .before .before .put-lead .ensures in
+    let at-put-lead = c .before .before .before .before .before .before in
+    let at-loop = at-put-lead .before .before .before in
+    let start = at-loop .before .before .before .before in
+    let k = at-loop .loop in
+    let lead = at-put-lead .put-lead .ensures in
     let put = c .before .before .put-monomial .ensures in
     let more : k .i < min (start .args .size) cards = omega (arith, k .inv .0) in
     let one = piece-at (start .args .bytes .now) (start .args .size) (k .i) more in

@@ -29,8 +29,9 @@ put-text-requires-2 c κs = search needs
 returns : tie.Need-returns
 unfolding caseLine
 returns c =
-    let spaced = c .before .before .before .before .before in
-    let buffer = adds (spaced .put-text .ensures) (c .before .before .before .put-buffer .ensures .0) in
+    let at-put-buffer = c .before .before .before in
+    let spaced = at-put-buffer .before .before in
+    let buffer = adds (spaced .put-text .ensures) (at-put-buffer .put-buffer .ensures .0) in
     let whole = adds (adds (spaced .before .before .before .put-joined .ensures .0) buffer) (c .put-text2 .ensures) in
     (shown whole, whole)
 

@@ -36,9 +36,11 @@ loop-less c = search needs
 
 loop-again : tie.Need-loop-again Inv-loop μ-loop
 loop-again c =
+    let at-wide = c .before .before .before .before in
+    let at-loop = at-wide .before .before .before in
     let put = c .before .before .put-hex .ensures in
-    let byte = c .before .before .before .before .wide .ensures .0 in
-    spelling-next (c .before .before .before .before .before .before .before .loop .inv) (omega arith) (rw byte at (put .0)) (put .1)
+    let byte = at-wide .wide .ensures .0 in
+    spelling-next (at-loop .loop .inv) (omega arith) (rw byte at (put .0)) (put .1)
 
 same-length : tie.Need-same-length Inv-loop μ-loop
 same-length c = c .before .loop .inv .text .long

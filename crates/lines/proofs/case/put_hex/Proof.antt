@@ -16,7 +16,8 @@ slice-aggregate-put-text c = search needs
 
 put-text-requires : tie.Need-put-text-requires
 put-text-requires c κs =
-    let p = c .before .before .before .before .before .pre in
+    let start = c .before .before .before .before .before in
+    let p = start .pre in
     let made = c .before .before .hex .ensures in
     let all = hex-places _ _ _ (p .0) (p .1 .0) (p .1 .1 .0) (made .1 .0) in
     omega (arith, made .0 .1)
@@ -26,8 +27,10 @@ same-length c = c .before .before .put-text .ensures .long
 
 returns : tie.Need-returns
 returns c =
-    let p = c .before .before .before .before .before .before .before .before .pre in
-    let made = c .before .before .before .before .before .hex .ensures in
+    let at-hex = c .before .before .before .before .before in
+    let start = at-hex .before .before .before in
+    let p = start .pre in
+    let made = at-hex .hex .ensures in
     let put = c .before .before .put-text .ensures in
     let all = hex-places _ _ _ (p .0) (p .1 .0) (p .1 .1 .0) (made .1 .0) in
     (rw (made .1 .1, all) at put, omega (arith, made .0 .1, put .ends))

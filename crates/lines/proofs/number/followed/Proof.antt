@@ -29,7 +29,8 @@ sub-if4 c = search needs
 
 returns-4 : tie.Need-returns-4
 returns-4 c =
-    let s = c .before .before .before .before .before .args in
+    let start = c .before .before .before .before .before in
+    let s = start .args in
     sym (from-digit (s .v) (s .x) [] (digit-is (s .x) (omega arith) (omega arith)) ∙ from-large (longer (s .v) (s .x)) [] (omega arith))
 
 add-t7 : tie.Need-add-t7
@@ -37,7 +38,8 @@ add-t7 c = search needs
 
 returns-5 : tie.Need-returns-5
 returns-5 c =
-    let s = c .before .before .before .before .before .args in
+    let start = c .before .before .before .before .before in
+    let s = start .args in
     rw (c .before .before .wide .ensures .0)
     (sym (from-digit (s .v) (s .x) [] (digit-is (s .x) (omega arith) (omega arith)) ∙ from-none (longer (s .v) (s .x)) (omega arith)))
 

@@ -34,7 +34,8 @@ enum-told c = search needs
 
 returns-2 : tie.Need-returns-2 Inv-loop μ-loop
 returns-2 c =
-    let k = c .before .before .before .before .before .loop in
+    let at-loop = c .before .before .before .before .before in
+    let k = at-loop .loop in
     sym (reading-stop (k .inv) (omega arith) (sym (c .before .before .followed .ensures) ∙ c .enum-told .given .1))
 
 add-i : tie.Need-add-i Inv-loop μ-loop
@@ -45,8 +46,10 @@ loop-less c = search needs
 
 loop-again : tie.Need-loop-again Inv-loop μ-loop
 loop-again c =
-    let k = c .before .before .before .before .before .before .loop in
-    let read = c .before .before .before .followed in
+    let at-followed = c .before .before .before in
+    let at-loop = at-followed .before .before .before in
+    let k = at-loop .loop in
+    let read = at-followed .followed in
     let next = c .before .next .given in
     reading-next (k .inv) (omega arith) (next .0 .0) (search needs) (sym (read .ensures) ∙ next .1)
 

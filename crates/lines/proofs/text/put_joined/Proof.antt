@@ -31,8 +31,10 @@ shared-slice-read-put-number c = search needs
 
 put-number-requires : tie.Need-put-number-requires Inv-loop μ-loop
 put-number-requires c κs =
-    let lead = c .before .before .before .before .put-lead .ensures in
-    let k = c .before .before .before .before .before .before .before .loop in
+    let at-put-lead = c .before .before .before .before in
+    let at-loop = at-put-lead .before .before .before in
+    let lead = at-put-lead .put-lead .ensures in
+    let k = at-loop .loop in
     omega (arith, k .inv .1 .text .long, lead .0 .long, lead .1)
 
 add-i : tie.Need-add-i Inv-loop μ-loop
@@ -43,9 +45,11 @@ loop-less c = search needs
 
 loop-again : tie.Need-loop-again Inv-loop μ-loop
 loop-again c =
-    let start = c .before .before .before .before .before .before .before .before .before .before .before .before .before in
-    let k = c .before .before .before .before .before .before .before .before .before .before .loop in
-    let lead = c .before .before .before .before .before .before .before .put-lead .ensures in
+    let at-put-lead = c .before .before .before .before .before .before .before in
+    let at-loop = at-put-lead .before .before .before in
+    let start = at-loop .before .before .before in
+    let k = at-loop .loop in
+    let lead = at-put-lead .put-lead .ensures in
     let number = c .before .before .put-number .ensures in
     let numbers = start .args .numbers .now in
     let more : k .i < length (map decimal numbers) = rw (length-map numbers decimal) (omega arith) in

@@ -19,8 +19,9 @@ same-length c = c .before .before .put-text .ensures .long
 
 returns-2 : tie.Need-returns-2
 returns-2 c =
+    let at-if1 = c .before .before .before .before .before in
     let put = c .before .before .put-text .ensures in
-    rw (lead-later _ _ (c .before .before .before .before .before .if1 .left)) (put, omega (arith, put .ends))
+    rw (lead-later _ _ (at-if1 .if1 .left)) (put, omega (arith, put .ends))
 
 pub put-lead-spec : {M : Type 1} → statement M
 put-lead-spec = tie.close (tie.spec returns slice-aggregate-put-text put-text-requires same-length returns-2)

@@ -26,8 +26,9 @@ same-length c = c .before .before .put-text .ensures .long
 
 returns : tie.Need-returns
 returns c =
-    let start = c .before .before .before .before .before .before .before .before in
-    let made = c .before .before .before .before .before .decimal in
+    let at-decimal = c .before .before .before .before .before in
+    let start = at-decimal .before .before .before in
+    let made = at-decimal .decimal in
     let put = c .before .before .put-text .ensures in
     let few = number-most (start .args .n) (made .result) (start .fits .n .fits) (made .ensures .1 .0) in
     (rw (made .ensures .1 .1, digits-are (made .result) (start .args .n) (made .ensures .1 .0)) at put, omega (arith, made .ensures .0 .1, put .ends))

@@ -17,9 +17,10 @@ same-length c = search needs
 
 returns : tie.Need-returns
 returns c =
+    let at-if1 = c .before .before .before .before in
+    let z = at-if1 .before .before in
     let put = c .before .before .put-number .ensures in
-    let z = c .before .before .before .before .before .before in
-    (rw (signed-low (z .args .c) (z .fits .c) (c .before .before .before .before .if1 .taken)) at (put .0), omega (arith, put .1))
+    (rw (signed-low (z .args .c) (z .fits .c) (at-if1 .if1 .taken)) at (put .0), omega (arith, put .1))
 
 sub-k : tie.Need-sub-k
 sub-k c = bits-high-fits _ (c .before .before .fits .c) (c .if1 .left)

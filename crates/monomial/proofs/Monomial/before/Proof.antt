@@ -6,14 +6,15 @@ use Rattle.monomial.specs.Order.{before}
 use Rattle.monomial.proofs.Loops.{Comparing, comparing-start}
 use Rattle.monomial.proofs.order.Laws.{ℕ-order, not-ltb, dictionary-before, dictionary-behind, dictionary-on, dictionary-ends}
 use borrow.Author.Needs.{needs}
+use Rattle.monomial.specs.Monomial.{width}
 use Rattle.monomial.proofs.Monomial.before.Statement.{statement}
 use Rattle.monomial.proofs.Monomial.before.Tie as tie
 
 abbrev Inv-loop : tie.InvT-loop
-Inv-loop a b i₀ i = Comparing 6 before a b i
+Inv-loop a b i₀ i = Comparing width before a b i
 
 abbrev μ-loop : tie.MeasureT-loop
-μ-loop a b i₀ i = 6 - i
+μ-loop a b i₀ i = width - i
 
 loop-holds : tie.Need-loop-holds Inv-loop μ-loop
 loop-holds c = comparing-start (search needs) (search needs)

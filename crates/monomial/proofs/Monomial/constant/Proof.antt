@@ -1,23 +1,23 @@
 -- `Monomial::constant` meets its contract: each named constant stands at its number. Assumes nothing.
 use mathlib.Core.Path.{_≡_, sym}
-use Prim.Native.Nat.{ℕ, _<_}
+use Prim.Native.Nat.{ℕ, suc, _<_}
 use native.Mathlib.Omega.{arith}
 use borrow.Author.Tests.{ltb-true, ltb-false}
 use lib.Dec.{ltb}
 use lib.ListN.{getD, List·getD-eq-default}
-use Rattle.monomial.specs.Monomial.{vars, one, constants}
+use Rattle.monomial.specs.Monomial.{vars, one, constants, width}
 use Rattle.monomial.proofs.Tests.{Tested, passed, failed, test}
 use Rattle.monomial.proofs.Monomial.constant.Statement.{statement}
 use Rattle.monomial.proofs.Monomial.constant.Tie as tie
 
 -- a number that no variable has
-else-one : (i : ℕ) → (i < 7 → i ≡ 0) → one 6 ≡ getD (constants 6) i (one 6)
+else-one : (i : ℕ) → (i < suc width → i ≡ 0) → one width ≡ getD (constants width) i (one width)
 unfolding vars
-else-one i h = go (test (ltb i 7))
+else-one i h = go (test (ltb i (suc width)))
   where
-    go : Tested (ltb i 7) → one 6 ≡ getD (constants 6) i (one 6)
-    go (passed e) = rw (h (ltb-true i 7 e))
-    go (failed e) = sym (List·getD-eq-default (constants 6) (one 6) {n = i} (ltb-false i 7 e))
+    go : Tested (ltb i (suc width)) → one width ≡ getD (constants width) i (one width)
+    go (passed e) = rw (h (ltb-true i (suc width) e))
+    go (failed e) = sym (List·getD-eq-default (constants width) (one width) {n = i} (ltb-false i (suc width) e))
 
 returns : tie.Need-returns
 unfolding vars

@@ -6,14 +6,15 @@ use lib.Dec.{leb}
 use Rattle.monomial.specs.Quotient.{divides}
 use Rattle.monomial.proofs.Loops.{Comparing, comparing-start, pairwise-fails, pairwise-on, pairwise-ends}
 use borrow.Author.Needs.{needs}
+use Rattle.monomial.specs.Monomial.{width}
 use Rattle.monomial.proofs.Monomial.divides.Statement.{statement}
 use Rattle.monomial.proofs.Monomial.divides.Tie as tie
 
 abbrev Inv-loop : tie.InvT-loop
-Inv-loop a b i₀ i = Comparing 6 divides a b i
+Inv-loop a b i₀ i = Comparing width divides a b i
 
 abbrev μ-loop : tie.MeasureT-loop
-μ-loop a b i₀ i = 6 - i
+μ-loop a b i₀ i = width - i
 
 loop-holds : tie.Need-loop-holds Inv-loop μ-loop
 loop-holds c = comparing-start (search needs) (search needs)

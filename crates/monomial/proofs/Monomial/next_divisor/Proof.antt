@@ -5,24 +5,24 @@ use native.Mathlib.Omega.{arith}
 use lib.ListN.{getD}
 use mir.Syntax.{w8}
 use mir.Val.{Fits}
-use Rattle.monomial.specs.Monomial.{Mono}
+use Rattle.monomial.specs.Monomial.{Mono, width}
 use Rattle.monomial.proofs.divisors.Following.{Carrying, carrying-start, carrying-rises, carrying-on, carrying-ends}
 use borrow.Author.Needs.{needs}
 use Rattle.monomial.proofs.Monomial.next_divisor.Statement.{statement}
 use Rattle.monomial.proofs.Monomial.next_divisor.Tie as tie
 
 -- the place above i - 1 is i
-at-above : {m d r : Mono} (i : ℕ) → 0 < i → Carrying 6 m d r i → Carrying 6 m d r (i - 1 + 1)
-at-above {m} {d} {r} i h v = let e : i ≡ i - 1 + 1 = omega arith in subst (Carrying 6 m d r) e v
+at-above : {m d r : Mono} (i : ℕ) → 0 < i → Carrying width m d r i → Carrying width m d r (i - 1 + 1)
+at-above {m} {d} {r} i h v = let e : i ≡ i - 1 + 1 = omega arith in subst (Carrying width m d r) e v
 
 abbrev Inv-loop : tie.InvT-loop
-Inv-loop top r₀ i₀ r i = Carrying 6 top r₀ r i
+Inv-loop top r₀ i₀ r i = Carrying width top r₀ r i
 
 abbrev μ-loop : tie.MeasureT-loop
 μ-loop top r₀ i₀ r i = i
 
 loop-holds : tie.Need-loop-holds Inv-loop μ-loop
-loop-holds c = carrying-start 6 _ _ (search needs) (search needs)
+loop-holds c = carrying-start width _ _ (search needs) (search needs)
 
 sub-i : tie.Need-sub-i Inv-loop μ-loop
 sub-i c = search needs
@@ -38,7 +38,8 @@ array-read-r c = search needs
 
 add-r : tie.Need-add-r Inv-loop μ-loop
 add-r c =
-    let top = c .before .before .before .before .before .args .m .e in
+    let start = c .before .before .before .before .before in
+    let top = start .args .m .e in
     let byte : Fits w8 (getD top (c .before .before .loop .i - 1) 0) = search needs in
     record { fits = omega arith }
 

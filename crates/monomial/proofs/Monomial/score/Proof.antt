@@ -10,14 +10,15 @@ use Rattle.monomial.specs.Divisors.{score}
 use Rattle.monomial.proofs.product.Laws.{atMost-all}
 use Rattle.monomial.proofs.divisors.Laws.{score-on, score-end, score-part, score-bound}
 use borrow.Author.Needs.{needs}
+use Rattle.monomial.specs.Monomial.{width}
 use Rattle.monomial.proofs.Monomial.score.Statement.{statement}
 use Rattle.monomial.proofs.Monomial.score.Tie as tie
 
 abbrev Inv-loop : tie.InvT-loop
-Inv-loop e r₀ i₀ r i = (i ≤ 6) × (r * score (drop i e) ≡ score e)
+Inv-loop e r₀ i₀ r i = (i ≤ width) × (r * score (drop i e) ≡ score e)
 
 abbrev μ-loop : tie.MeasureT-loop
-μ-loop e r₀ i₀ r i = 6 - i
+μ-loop e r₀ i₀ r i = width - i
 
 loop-holds : tie.Need-loop-holds Inv-loop μ-loop
 loop-holds c = (omega arith, omega arith)
@@ -35,13 +36,13 @@ mul-r : tie.Need-mul-r Inv-loop μ-loop
 mul-r c =
     let s = c .before .before .before .before in
     let es = s .args .self .e in
-    let l : length es ≡ 6 = search needs in
+    let l : length es ≡ width = search needs in
     let bytes : (k : ℕ) → Fits w8 (getD es k 0) = λ k. search needs in
     let small : AtMost 255 es = atMost-all 255 es (λ k. omega (arith, bytes k)) in
     let k = c .before .before .loop in
     let more = score-on es (k .i) (k .r) (omega arith) (k .inv .1) in
     let part : (c .wide .result + 1) * k .r ≤ score es = rw (c .wide .ensures .0) (score-part es (k .i + 1) ((getD es (k .i) 0 + 1) * k .r) more) in
-    let most : score es ≤ 256 ^ 6 = rw l at (score-bound 255 es small) in
+    let most : score es ≤ 256 ^ width = rw l at (score-bound 255 es small) in
     record { fits = omega arith }
 
 add-i : tie.Need-add-i Inv-loop μ-loop
@@ -53,14 +54,14 @@ loop-less c = search needs
 loop-again : tie.Need-loop-again Inv-loop μ-loop
 loop-again c =
     let es = c .before .before .before .before .args .self .e in
-    let l : length es ≡ 6 = search needs in
+    let l : length es ≡ width = search needs in
     let k = c .before .before .loop in
     (omega arith, rw (c .wide .ensures .0) (score-on es (k .i) (k .r) (omega arith) (k .inv .1)))
 
 returns : tie.Need-returns Inv-loop μ-loop
 returns c =
     let es = c .before .before .before .args .self .e in
-    let l : length es ≡ 6 = search needs in
+    let l : length es ≡ width = search needs in
     let k = c .before .loop in
     let e : score (drop (k .i) es) ≡ 1 = score-end es (k .i) (omega arith) in
     let h : k .r * 1 ≡ score es = rw e at (k .inv .1) in

@@ -3,17 +3,18 @@ use Prim.Native.Nat.{_-_}
 use native.Mathlib.Omega.{arith}
 use Rattle.monomial.proofs.Loops.{Pasting, pasting-start, pasting-length, pasting-room, pasting-next, pasting-end}
 use borrow.Author.Needs.{needs}
+use Rattle.monomial.specs.Monomial.{width}
 use Rattle.monomial.proofs.Monomial.write.Statement.{statement}
 use Rattle.monomial.proofs.Monomial.write.Tie as tie
 
 abbrev Inv-loop : tie.InvT-loop
-Inv-loop s₀ at e i₀ s i = Pasting 0 6 at e s₀ s i
+Inv-loop s₀ at e i₀ s i = Pasting 0 width at e s₀ s i
 
 abbrev μ-loop : tie.MeasureT-loop
-μ-loop s₀ at e i₀ s i = 6 - i
+μ-loop s₀ at e i₀ s i = width - i
 
 loop-holds : tie.Need-loop-holds Inv-loop μ-loop
-loop-holds c = pasting-start 0 6 _ _ _ (search needs) (omega arith)
+loop-holds c = pasting-start 0 width _ _ _ (search needs) (omega arith)
 
 array-read-s : tie.Need-array-read-s Inv-loop μ-loop
 array-read-s c = search needs

@@ -20,8 +20,9 @@ line-in-requires c κs = search needs
 
 returns : tie.Need-returns
 returns c =
-    let start = c .before .before .before .before .before .before in
-    rw (c .before .before .before .least .ensures, front-within (start .args .sets .now) (start .args .p .lent)) at (c .line-in .ensures)
+    let at-least = c .before .before .before in
+    let start = at-least .before .before .before in
+    rw (at-least .least .ensures, front-within (start .args .sets .now) (start .args .p .lent)) at (c .line-in .ensures)
 
 pub line-of-spec : {M : Type 1} → statement M
 line-of-spec = tie.close (tie.spec least-requires slice-aggregate-line-in line-in-requires returns)

@@ -34,9 +34,9 @@ set-line-requires c κs = search needs
 
 returns : tie.Need-returns
 returns c =
-    let start = c .before .before .before .before .before .before .before .before in
-    let at = setBytes * start .args .i in
-    let set = copied setBytes at (start .args .sets .now) _ _ (omega arith) refl (c .before .before .before .before .copy .ensures .1) in
+    let at-copy = c .before .before .before .before in
+    let start = at-copy .before .before .before .before in
+    let set = copied setBytes (setBytes * start .args .i) (start .args .sets .now) _ _ (omega arith) refl (at-copy .copy .ensures .1) in
     rw set at (c .set-line .ensures)
 
 pub set-at-spec : {M : Type 1} → statement M

@@ -34,9 +34,9 @@ wire-line-requires c κs = search needs
 
 returns : tie.Need-returns
 returns c =
-    let start = c .before .before .before .before .before .before .before .before in
-    let at = wireBytes * start .args .i in
-    let wire = copied wireBytes at (start .args .wires .now) _ _ (omega arith) refl (c .before .before .before .before .copy .ensures .1) in
+    let at-copy = c .before .before .before .before in
+    let start = at-copy .before .before .before .before in
+    let wire = copied wireBytes (wireBytes * start .args .i) (start .args .wires .now) _ _ (omega arith) refl (at-copy .copy .ensures .1) in
     rw wire at (c .wire-line .ensures)
 
 pub wire-at-spec : {M : Type 1} → statement M

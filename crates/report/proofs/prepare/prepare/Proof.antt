@@ -34,18 +34,22 @@ slice-reshare-prefix-wire-set c = search needs
 
 slice-aggregate-wire-set : tie.Need-slice-aggregate-wire-set
 slice-aggregate-wire-set c =
-    let start = c .before .before .before .before .before .before .before .before .before in
+    let at-plan = c .before .before .before .before in
+    let at-least = at-plan .before .before in
+    let start = at-least .before .before .before in
     let s = start .args .s in
-    let planned = c .before .before .before .before .plan in
-    let room = c .before .before .before .before .before .before .least .ensures in
+    let planned = at-plan .plan in
+    let room = at-least .least .ensures in
     sym (front-long s (start .args .terms .now) (start .args .sets .now) _ room (planned .result) _ (planned .ensures))
 
 wire-set-requires : tie.Need-wire-set-requires
 wire-set-requires c κs =
-    let start = c .before .before .before .before .before .before .before .before .before .before in
+    let at-plan = c .before .before .before .before .before in
+    let at-least = at-plan .before .before in
+    let start = at-least .before .before .before in
     let s = start .args .s in
-    let planned = c .before .before .before .before .before .plan in
-    let room = c .before .before .before .before .before .before .before .least .ensures in
+    let planned = at-plan .plan in
+    let room = at-least .least .ensures in
     front-holds s (start .args .terms .now) (start .args .sets .now) _ room (planned .result) _ (planned .ensures) _ (c .before .before .numbers .ensures)
 
 same-length : tie.Need-same-length
@@ -53,11 +57,14 @@ same-length c = search needs
 
 returns : tie.Need-returns
 returns c =
-    let start = c .before .before .before .before .before .before .before .before .before .before .before in
+    let at-numbers = c .before .before .before in
+    let at-plan = at-numbers .before .before .before in
+    let at-least = at-plan .before .before in
+    let start = at-least .before .before .before in
     let s = start .args .s in
-    let planned = c .before .before .before .before .before .before .plan in
-    let room = c .before .before .before .before .before .before .before .before .least .ensures in
-    let five = c .before .before .before .numbers .ensures in
+    let planned = at-plan .plan in
+    let room = at-least .least .ensures in
+    let five = at-numbers .numbers .ensures in
     prepares s (start .args .terms .now) (start .args .sets .now) _ room (planned .result) _ (planned .ensures) _ five _ _ (c .wire-set .ensures)
 
 pub prepare-spec : {M : Type 1} → statement M

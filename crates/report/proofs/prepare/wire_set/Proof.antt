@@ -13,12 +13,14 @@ clear-requires c κs = search needs
 
 returns : tie.Need-returns
 returns c =
-    let long : length (c .before .before .before .before .before .args .out .now) ≡ wiresBytes = search needs in
+    let start = c .before .before .before .before .before in
+    let long : length (start .args .out .now) ≡ wiresBytes = search needs in
     wires-zero _ _ _ _ _ _ long _ (c .before .clear .ensures) (c .if1 .taken)
 
 returns-2 : tie.Need-returns-2
 returns-2 c =
-    let long : length (c .before .before .before .before .before .before .args .out .now) ≡ wiresBytes = search needs in
+    let start = c .before .before .before .before .before .before in
+    let long : length (start .args .out .now) ≡ wiresBytes = search needs in
     wires-beyond _ _ _ _ _ _ long _ (c .before .before .clear .ensures) (omega arith) (c .if2 .taken)
 
 sub-at : tie.Need-sub-at
@@ -50,7 +52,8 @@ array-read-result c = search needs
 
 returns-3 : tie.Need-returns-3
 returns-3 c =
-    let long : length (c .before .before .before .before .before .before .clear .last .0) ≡ wiresBytes = search needs in
+    let at-clear = c .before .before .before .before .before .before in
+    let long : length (at-clear .clear .last .0) ≡ wiresBytes = search needs in
     wires-there _ _ _ _ _ _ long (omega arith) (omega arith) _ refl (c .before .wire .result) _ _ (c .before .wire .ensures) (c .numbers .ensures)
 
 pub wire-set-spec : {M : Type 1} → statement M

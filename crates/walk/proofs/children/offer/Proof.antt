@@ -5,6 +5,7 @@ use lib.ListN.{length}
 use Rattle.wiring.proofs.signals.Laws.{array-length}
 use Rattle.walk.proofs.children.Offers.{same-child, made-own, child-none, child-second, child-first, child-both, set-lacks, first-lacks, both-lack}
 use borrow.Author.Needs.{needs}
+use Rattle.wiring.specs.Panel.{cards}
 use Rattle.walk.proofs.children.offer.Statement.{statement}
 use Rattle.walk.proofs.children.offer.Tie as tie
 
@@ -17,7 +18,7 @@ is-met-requires c κs = search needs
 returns : tie.Need-returns
 returns c =
     let s = c .before .before .before .before in
-    let room : length (s .args .set .m) ≡ 6 = search (needs, array-length) in
+    let room : length (s .args .set .m) ≡ cards = search (needs, array-length) in
     let has = sym (c .before .before .before .is-signal .ensures) ∙ c .if2 .taken in
     let met = sym (c .before .before .is-met .ensures) ∙ c .before .if1 .taken in
     λ n e. same-child (child-none n _ _ e _ _ (s .pre .1 .1 .1) has met) (made-own _ _ refl (omega arith) (omega arith))
@@ -27,10 +28,12 @@ with-one-requires c κs = search needs
 
 returns-2 : tie.Need-returns-2
 returns-2 c =
-    let s = c .before .before .before .before .before in
+    let at-is-met = c .before .before .before in
+    let at-is-signal = at-is-met .before in
+    let s = at-is-signal .before in
     let up = s .pre .1 .1 .1 in
-    let lacks = sym (c .before .before .before .before .is-signal .ensures) ∙ c .before .if2 .left in
-    let met = sym (c .before .before .before .is-met .ensures) ∙ c .before .before .if1 .taken in
+    let lacks = sym (at-is-signal .is-signal .ensures) ∙ c .before .if2 .left in
+    let met = sym (at-is-met .is-met .ensures) ∙ c .before .before .if1 .taken in
     λ n e. same-child (child-second n _ _ e _ _ up lacks met) (c .with-one .ensures up (set-lacks n _ _ e (s .args .a .e) (s .args .b .e) (s .args .b .e) lacks))
 
 with-one-requires-2 : tie.Need-with-one-requires-2
@@ -38,9 +41,11 @@ with-one-requires-2 c κs = search needs
 
 returns-3 : tie.Need-returns-3
 returns-3 c =
-    let s = c .before .before .before .before .before in
-    let has = sym (c .before .before .before .before .is-signal .ensures) ∙ c .before .if3 .taken in
-    let unmet = sym (c .before .before .before .is-met .ensures) ∙ c .before .before .if1 .left in
+    let at-is-met = c .before .before .before in
+    let at-is-signal = at-is-met .before in
+    let s = at-is-signal .before in
+    let has = sym (at-is-signal .is-signal .ensures) ∙ c .before .if3 .taken in
+    let unmet = sym (at-is-met .is-met .ensures) ∙ c .before .before .if1 .left in
     λ n e. same-child (child-first n _ _ e _ _ has unmet) (c .with-one2 .ensures (s .pre .1 .1 .1) (first-lacks n _ _ e _ _ unmet))
 
 with-two-requires : tie.Need-with-two-requires
@@ -48,9 +53,11 @@ with-two-requires c κs = search needs
 
 returns-4 : tie.Need-returns-4
 returns-4 c =
-    let s = c .before .before .before .before .before in
-    let lacks = sym (c .before .before .before .before .is-signal .ensures) ∙ c .before .if3 .left in
-    let unmet = sym (c .before .before .before .is-met .ensures) ∙ c .before .before .if1 .left in
+    let at-is-met = c .before .before .before in
+    let at-is-signal = at-is-met .before in
+    let s = at-is-signal .before in
+    let lacks = sym (at-is-signal .is-signal .ensures) ∙ c .before .if3 .left in
+    let unmet = sym (at-is-met .is-met .ensures) ∙ c .before .before .if1 .left in
     λ n e.
     same-child (child-both n _ _ e _ _ lacks unmet)
     (c .with-two .ensures (s .pre .1 .1 .1) (set-lacks n _ _ e (s .args .a .e) (s .args .b .e) (s .args .b .e) lacks) (both-lack n _ _ e _ _ unmet))

@@ -1,24 +1,25 @@
--- `with` meets its contract: the loop moves up by one place what does not stand before m (`Moving`). Assumes nothing.
+-- `with` meets its contract: the loop moves up by one place what does not stand before m (`Inserting`). Assumes nothing.
 use mathlib.Core.Path.{_≡_, refl, sym, _∙_}
 use mathlib.Core.Logic.{⊎-elim}
 use native.Mathlib.Omega.{arith}
 use lib.ListN.{length}
 use Rattle.wiring.proofs.signals.Laws.{array-length}
-use Rattle.walk.proofs.children.Offers.{Moving, moving-start, moving-on, moving-first, moving-behind}
+use Rattle.walk.proofs.children.Offers.{Inserting, inserting-start, inserting-on, inserting-first, inserting-behind}
 use borrow.Author.Needs.{needs}
+use Rattle.wiring.specs.Panel.{cards}
 use Rattle.walk.proofs.children.with.Statement.{statement}
 use Rattle.walk.proofs.children.with.Tie as tie
 
 abbrev Inv-loop : tie.InvT-loop
-Inv-loop set m next₀ i₀ next i = Moving (m .e) (set .len) (set .m) (next .m) i
+Inv-loop set m next₀ i₀ next i = Inserting (m .e) (set .len) (set .m) (next .m) i
 
 abbrev μ-loop : tie.MeasureT-loop
 μ-loop set m next₀ i₀ next i = i
 
 loop-holds : tie.Need-loop-holds Inv-loop μ-loop
 loop-holds c =
-    let l : length (c .args .set .m) ≡ 6 = search (needs, array-length) in
-    moving-start _ _ _ (c .pre) l
+    let l : length (c .args .set .m) ≡ cards = search (needs, array-length) in
+    inserting-start _ _ _ (c .pre) l
 
 sub-x : tie.Need-sub-x Inv-loop μ-loop
 sub-x c = search needs
@@ -46,7 +47,7 @@ loop-less c = search needs
 
 loop-again : tie.Need-loop-again Inv-loop μ-loop
 loop-again c =
-    moving-on (c .before .before .before .before .loop .inv) _ (c .before .before .before .loop-test .taken) refl (sym (c .before .before2 .ensures) ∙ c .if1 .left)
+    inserting-on (c .before .before .before .before .loop .inv) _ (c .before .before .before .loop-test .taken) refl (sym (c .before .before2 .ensures) ∙ c .if1 .left)
 
 mul-m : tie.Need-mul-m Inv-loop μ-loop
 mul-m c = search needs
@@ -61,8 +62,8 @@ returns : tie.Need-returns Inv-loop μ-loop
 returns c =
     let w = c .before .before .loop .inv in (
       λ a f. ⊎-elim
-          (λ z. moving-first w _ refl a f (omega arith))
-          (λ z. moving-behind w _ refl a f (z .0 .taken) (sym (z .2 .ensures) ∙ z .3 .taken))
+          (λ z. inserting-first w _ refl a f (omega arith))
+          (λ z. inserting-behind w _ refl a f (z .0 .taken) (sym (z .2 .ensures) ∙ z .3 .taken))
           (c .before .loop-test .came),
       refl,
     )

@@ -6,14 +6,15 @@ use lib.Dec.{eqb}
 use Rattle.monomial.specs.Order.{same}
 use Rattle.monomial.proofs.Loops.{Comparing, comparing-start, pairwise-fails, pairwise-on, pairwise-ends}
 use borrow.Author.Needs.{needs}
+use Rattle.wiring.specs.Panel.{setBytes}
 use Rattle.walk.proofs.listing.is_same.Statement.{statement}
 use Rattle.walk.proofs.listing.is_same.Tie as tie
 
 abbrev Inv-loop : tie.InvT-loop
-Inv-loop s b i₀ i = Comparing 36 same s b i
+Inv-loop s b i₀ i = Comparing setBytes same s b i
 
 abbrev μ-loop : tie.MeasureT-loop
-μ-loop s b i₀ i = 36 - i
+μ-loop s b i₀ i = setBytes - i
 
 loop-holds : tie.Need-loop-holds Inv-loop μ-loop
 loop-holds c = comparing-start (c .before .pre) (search needs)

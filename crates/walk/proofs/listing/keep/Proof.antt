@@ -6,6 +6,7 @@ use lib.ListN.{length}
 use Rattle.wiring.specs.Sets.{monomialsOf}
 use Rattle.walk.proofs.listing.Finds.{shown-more, keeps-old, keeps-none, keeps-new}
 use borrow.Author.Needs.{needs}
+use Rattle.wiring.specs.Panel.{setBytes}
 use Rattle.walk.proofs.listing.keep.Statement.{statement}
 use Rattle.walk.proofs.listing.keep.Tie as tie
 
@@ -21,10 +22,11 @@ same-length c = search needs
 returns : tie.Need-returns
 returns c =
     λ finds taken s.
-    let start = c .before .before .before .before .before in
+    let at-record-of = c .before .before .before in
+    let start = at-record-of .before .before in
     let x = monomialsOf (start .args .set) in
-    let listed = sym (c .before .is-listed .ensures finds x s (start .pre .0) (c .before .before .before .record-of .ensures)) ∙ c .if1 .taken in
-    keeps-old s x taken (length (start .args .out .now) / 36) listed
+    let listed = sym (c .before .is-listed .ensures finds x s (start .pre .0) (at-record-of .record-of .ensures)) ∙ c .if1 .taken in
+    keeps-old s x taken (length (start .args .out .now) / setBytes) listed
 
 same-length-2 : tie.Need-same-length-2
 same-length-2 c = search needs
@@ -32,10 +34,11 @@ same-length-2 c = search needs
 returns-2 : tie.Need-returns-2
 returns-2 c =
     λ finds taken s.
-    let start = c .before .before .before .before .before .before in
+    let at-record-of = c .before .before .before .before in
+    let start = at-record-of .before .before in
     let x = monomialsOf (start .args .set) in
-    let new = sym (c .before .before .is-listed .ensures finds x s (start .pre .0) (c .before .before .before .before .record-of .ensures)) ∙ c .before .if1 .left in
-    keeps-none s x taken (length (start .args .out .now) / 36) new (c .if2 .taken)
+    let new = sym (c .before .before .is-listed .ensures finds x s (start .pre .0) (at-record-of .record-of .ensures)) ∙ c .before .if1 .left in
+    keeps-none s x taken (length (start .args .out .now) / setBytes) new (c .if2 .taken)
 
 place-of-requires : tie.Need-place-of-requires
 place-of-requires c κs = search needs
@@ -61,19 +64,23 @@ same-length-3 c = search needs
 returns-3 : tie.Need-returns-3
 returns-3 c =
     λ finds taken s.
-    let start = c .before .before .before .before .before .before .before .before .before .before .before .before .before .before .before .before in
+    let at-move-up = c .before .before .before .before .before .before in
+    let at-place-of = at-move-up .before .before in
+    let at-is-listed = at-place-of .before .before .before .before in
+    let at-record-of = at-is-listed .before .before in
+    let start = at-record-of .before .before in
     let x = monomialsOf (start .args .set) in
     let ok = start .pre .0 in
-    let own = c .before .before .before .before .before .before .before .before .before .before .before .before .before .before .record-of .ensures in
+    let own = at-record-of .record-of .ensures in
     let new = sym
-    (c .before .before .before .before .before .before .before .before .before .before .before .before .is-listed .ensures finds x s ok own) ∙ c
+    (at-is-listed .is-listed .ensures finds x s ok own) ∙ c
     .before .before .before .before .before .before .before .before .before .before .before .if1 .left in
-    let place = c .before .before .before .before .before .before .before .before .place-of .ensures in
-    let p = c .before .before .before .before .before .before .before .before .place-of .result in
-    let move = c .before .before .before .before .before .before .move-up in
+    let place = at-place-of .place-of .ensures in
+    let p = at-place-of .place-of .result in
+    let move = at-move-up .move-up in
     let write = c .before .before .put in
     let more = shown-more s x ok new (omega arith) p _ _ _ (place .0) (place .1 finds x s ok own) own (move .ensures) (write .ensures) (write .kept .0 ∙ move .kept .0) in
-    keeps-new s x taken (length (start .args .out .now) / 36) new (omega arith) _ more
+    keeps-new s x taken (length (start .args .out .now) / setBytes) new (omega arith) _ more
 
 pub keep-spec : {M : Type 1} → statement M
 keep-spec =

@@ -2,17 +2,18 @@
 use native.Mathlib.Omega.{arith}
 use Rattle.walk.proofs.listing.Laws.{Moving, moving-start, moving-length, moving-next, moving-end}
 use borrow.Author.Needs.{needs}
+use Rattle.wiring.specs.Panel.{setBytes}
 use Rattle.walk.proofs.listing.move_up.Statement.{statement}
 use Rattle.walk.proofs.listing.move_up.Tie as tie
 
 abbrev Inv-loop : tie.InvT-loop
-Inv-loop out₀ from to i₀ out i = Moving 36 from to out₀ out i
+Inv-loop out₀ from to i₀ out i = Moving setBytes from to out₀ out i
 
 abbrev μ-loop : tie.MeasureT-loop
 μ-loop out₀ from to i₀ out i = i
 
 loop-holds : tie.Need-loop-holds Inv-loop μ-loop
-loop-holds c = moving-start 36 _ _ _ (c .pre .0) (c .pre .1)
+loop-holds c = moving-start setBytes _ _ _ (c .pre .0) (c .pre .1)
 
 sub-i : tie.Need-sub-i Inv-loop μ-loop
 sub-i c = search needs

@@ -3,17 +3,18 @@ use Prim.Native.Nat.{_-_}
 use native.Mathlib.Omega.{arith}
 use Rattle.monomial.proofs.Loops.{Pasting, pasting-start, pasting-length, pasting-room, pasting-next, pasting-end}
 use borrow.Author.Needs.{needs}
+use Rattle.wiring.specs.Panel.{setBytes}
 use Rattle.walk.proofs.listing.put.Statement.{statement}
 use Rattle.walk.proofs.listing.put.Tie as tie
 
 abbrev Inv-loop : tie.InvT-loop
-Inv-loop out₀ at b i₀ out i = Pasting 0 36 at b out₀ out i
+Inv-loop out₀ at b i₀ out i = Pasting 0 setBytes at b out₀ out i
 
 abbrev μ-loop : tie.MeasureT-loop
-μ-loop out₀ at b i₀ out i = 36 - i
+μ-loop out₀ at b i₀ out i = setBytes - i
 
 loop-holds : tie.Need-loop-holds Inv-loop μ-loop
-loop-holds c = pasting-start 0 36 _ _ _ (search needs) (c .before .pre)
+loop-holds c = pasting-start 0 setBytes _ _ _ (search needs) (c .before .pre)
 
 array-read-out : tie.Need-array-read-out Inv-loop μ-loop
 array-read-out c = search needs

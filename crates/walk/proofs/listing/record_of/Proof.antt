@@ -8,6 +8,7 @@ use Rattle.wiring.specs.Sets.{monomialsOf}
 use Rattle.wiring.proofs.signals.Laws.{array-length}
 use Rattle.walk.proofs.listing.Records.{Making, making-start, making-next, making-end, used-at, used-below, used-all}
 use borrow.Author.Needs.{needs}
+use Rattle.wiring.specs.Panel.{cards}
 use Rattle.walk.proofs.listing.record_of.Statement.{statement}
 use Rattle.walk.proofs.listing.record_of.Tie as tie
 
@@ -15,7 +16,7 @@ abbrev Inv-loop : tie.InvT-loop
 Inv-loop set len b₀ i₀ b i = (len ≡ set .len) × Making (monomialsOf set) b i
 
 abbrev μ-loop : tie.MeasureT-loop
-μ-loop set len b₀ i₀ b i = 6 - i
+μ-loop set len b₀ i₀ b i = cards - i
 
 loop-holds : tie.Need-loop-holds Inv-loop μ-loop
 loop-holds c = (refl, making-start _)
@@ -23,7 +24,7 @@ loop-holds c = (refl, making-start _)
 returns : tie.Need-returns Inv-loop μ-loop
 returns c =
     let set = c .before .before .before .args .t1 in
-    let six : length (set .m) ≡ 6 = search (needs, array-length) in
+    let six : length (set .m) ≡ cards = search (needs, array-length) in
     making-end (c .before .before .loop .inv .1) (used-all (set .len) (set .m) (c .before .before .loop .i) six (inl (c .if1 .taken)))
 
 mul-m : tie.Need-mul-m Inv-loop μ-loop
@@ -49,10 +50,11 @@ loop-less c = search needs
 
 loop-again : tie.Need-loop-again Inv-loop μ-loop
 loop-again c =
-    let start = c .before .before .before .before .before .before .before in
+    let at-loop = c .before .before .before .before .before .before in
+    let start = at-loop .before in
     let set = start .args .t1 in
-    let k = c .before .before .before .before .before .before .loop in
-    let six : length (set .m) ≡ 6 = search (needs, array-length) in
+    let k = at-loop .loop in
+    let six : length (set .m) ≡ cards = search (needs, array-length) in
     let below = used-below (set .len) (set .m) (k .i) six (omega arith) (omega arith) in
     let next = making-next (k .inv .1) _ (start .pre) below (used-at (set .len) (set .m) (k .i) six (omega arith) (omega arith)) in
     (refl, subst (λ b. Making (monomialsOf set) b (k .i + 1)) (sym (c .before .write .ensures)) next)
@@ -60,7 +62,7 @@ loop-again c =
 returns-2 : tie.Need-returns-2 Inv-loop μ-loop
 returns-2 c =
     let set = c .before .before .args .t1 in
-    let six : length (set .m) ≡ 6 = search (needs, array-length) in
+    let six : length (set .m) ≡ cards = search (needs, array-length) in
     making-end (c .before .loop .inv .1) (used-all (set .len) (set .m) (c .before .loop .i) six (inr (c .loop-test .left)))
 
 pub record-of-spec : {M : Type 1} → statement M

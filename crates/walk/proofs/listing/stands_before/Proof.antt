@@ -6,14 +6,15 @@ use Rattle.monomial.specs.Order.{before}
 use Rattle.monomial.proofs.Loops.{Comparing, comparing-start}
 use Rattle.monomial.proofs.order.Laws.{ℕ-order, not-ltb, dictionary-before, dictionary-behind, dictionary-on, dictionary-ends}
 use borrow.Author.Needs.{needs}
+use Rattle.wiring.specs.Panel.{setBytes}
 use Rattle.walk.proofs.listing.stands_before.Statement.{statement}
 use Rattle.walk.proofs.listing.stands_before.Tie as tie
 
 abbrev Inv-loop : tie.InvT-loop
-Inv-loop s b i₀ i = Comparing 36 before s b i
+Inv-loop s b i₀ i = Comparing setBytes before s b i
 
 abbrev μ-loop : tie.MeasureT-loop
-μ-loop s b i₀ i = 36 - i
+μ-loop s b i₀ i = setBytes - i
 
 loop-holds : tie.Need-loop-holds Inv-loop μ-loop
 loop-holds c = comparing-start (c .before .pre) (search needs)
@@ -34,7 +35,9 @@ shared-slice-read-if2 : tie.Need-shared-slice-read-if2 Inv-loop μ-loop
 shared-slice-read-if2 c = search needs
 
 returns-2 : tie.Need-returns-2 Inv-loop μ-loop
-returns-2 c = dictionary-behind ℕ-order 0 (c .before .before .before .before .before .loop .inv) (omega arith) (lt→ltb _ _ (c .if2 .taken))
+returns-2 c =
+    let at-loop = c .before .before .before .before .before in
+    dictionary-behind ℕ-order 0 (at-loop .loop .inv) (omega arith) (lt→ltb _ _ (c .if2 .taken))
 
 add-i : tie.Need-add-i Inv-loop μ-loop
 add-i c = search needs
@@ -44,9 +47,10 @@ loop-less c = search needs
 
 loop-again : tie.Need-loop-again Inv-loop μ-loop
 loop-again c =
+    let at-loop = c .before .before .before .before .before in
     let not-less = not-ltb _ _ (c .before .before .if1 .left) in
     let not-more = not-ltb _ _ (c .if2 .left) in
-    dictionary-on ℕ-order 0 (c .before .before .before .before .before .loop .inv) (omega arith) not-less not-more
+    dictionary-on ℕ-order 0 (at-loop .loop .inv) (omega arith) not-less not-more
 
 returns-3 : tie.Need-returns-3 Inv-loop μ-loop
 returns-3 c = dictionary-ends ℕ-order 0 (c .before .loop .inv) (omega arith)

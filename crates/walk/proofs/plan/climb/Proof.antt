@@ -26,7 +26,8 @@ loop-holds c =
 
 open-requires : tie.Need-open-requires Inv-loop μ-loop
 open-requires c κs =
-    let p = c .before .before .before .before .before .pre in
+    let start = c .before .before .before .before .before in
+    let p = start .pre in
     let k = c .before .before .loop in
     record {
       size = refl;
@@ -35,7 +36,7 @@ open-requires c κs =
       few = p .0;
       clean = p .1 .1 .0;
       walked = empty-walked;
-      sheet = record { finds = []; shown = shown-none (k .out) (k .inv .blank) };
+      showing = record { finds = []; shown = shown-none (k .out) (k .inv .blank) };
     }
 
 enum-known-s : tie.Need-enum-known-s Inv-loop μ-loop
@@ -43,13 +44,18 @@ enum-known-s c = search needs
 
 same-length : tie.Need-same-length Inv-loop μ-loop
 same-length c =
-    c .before .before .before .before .before .before .«open» .kept .1 .0 ∙ c .before .before .before .before .before .before .before .before .before .loop .inv .long
+    let at-open = c .before .before .before .before .before .before in
+    let at-loop = at-open .before .before .before in
+    at-open .«open» .kept .1 .0 ∙ at-loop .loop .inv .long
 
 returns : tie.Need-returns Inv-loop μ-loop
 returns c =
-    let k = c .before .before .before .before .before .before .before .before .before .loop in
-    let r = c .before .before .before .before .before .before .«open» in
-    let low = c .before .before .before .before .before .before .before .before .loop-test .taken in
+    let at-open = c .before .before .before .before .before .before in
+    let at-loop-test = at-open .before .before in
+    let at-loop = at-loop-test .before in
+    let k = at-loop .loop in
+    let r = at-open .«open» in
+    let low = at-loop-test .loop-test .taken in
     let s = c .before .before .s .given in
     climb-done (k .inv) low (r .result) (r .last .1 .0) (r .ensures) (r .kept .1 .0) (s .0 .0) (s .1) (c .if1 .taken)
 
@@ -61,16 +67,22 @@ clear-requires c κs = search needs
 
 same-length-2 : tie.Need-same-length-2 Inv-loop μ-loop
 same-length-2 c =
-    c .before .before .clear .kept .0 ∙ c .before .before .before .before .before .before .before .before .«open» .kept .1 .0
-    ∙ c .before .before .before .before .before .before .before .before .before .before .before .loop .inv .long
+    let at-open = c .before .before .before .before .before .before .before .before in
+    let at-loop = at-open .before .before .before in
+    c .before .before .clear .kept .0 ∙ at-open .«open» .kept .1 .0
+    ∙ at-loop .loop .inv .long
 
 returns-2 : tie.Need-returns-2 Inv-loop μ-loop
 returns-2 c =
-    let k = c .before .before .before .before .before .before .before .before .before .before .before .loop in
-    let r = c .before .before .before .before .before .before .before .before .«open» in
-    let low = c .before .before .before .before .before .before .before .before .before .before .loop-test .taken in
+    let at-enum-told = c .before .before .before .before in
+    let at-open = at-enum-told .before .before .before .before in
+    let at-loop-test = at-open .before .before in
+    let at-loop = at-loop-test .before in
+    let k = at-loop .loop in
+    let r = at-open .«open» in
+    let low = at-loop-test .loop-test .taken in
     climb-spent (k .inv) low (r .result) (r .last .1 .0) (r .ensures) (r .kept .1 .0) _ (c .before .before .clear .ensures)
-    (c .before .before .before .before .enum-told .given .1)
+    (at-enum-told .enum-told .given .1)
 
 enum-known-taken : tie.Need-enum-known-taken Inv-loop μ-loop
 enum-known-taken c = search needs
@@ -80,15 +92,21 @@ clear-requires-2 c κs = search needs
 
 same-length-3 : tie.Need-same-length-3 Inv-loop μ-loop
 same-length-3 c =
-    c .before .before .clear2 .kept .0 ∙ c .before .before .before .before .before .before .before .before .before .«open» .kept .1 .0
-    ∙ c .before .before .before .before .before .before .before .before .before .before .before .before .loop .inv .long
+    let at-open = c .before .before .before .before .before .before .before .before .before in
+    let at-loop = at-open .before .before .before in
+    c .before .before .clear2 .kept .0 ∙ at-open .«open» .kept .1 .0
+    ∙ at-loop .loop .inv .long
 
 returns-3 : tie.Need-returns-3 Inv-loop μ-loop
 returns-3 c =
-    let k = c .before .before .before .before .before .before .before .before .before .before .before .before .loop in
-    let r = c .before .before .before .before .before .before .before .before .before .«open» in
-    let low = c .before .before .before .before .before .before .before .before .before .before .before .loop-test .taken in
-    let t = c .before .before .before .before .before .taken .given in
+    let at-taken = c .before .before .before .before .before in
+    let at-open = at-taken .before .before .before .before in
+    let at-loop-test = at-open .before .before in
+    let at-loop = at-loop-test .before in
+    let k = at-loop .loop in
+    let r = at-open .«open» in
+    let low = at-loop-test .loop-test .taken in
+    let t = at-taken .taken .given in
     climb-full (k .inv) low (r .result) (r .last .1 .0) (r .ensures) (r .kept .1 .0) _ (c .before .before .clear2 .ensures) (t .0 .0) (t .1)
 
 add-k : tie.Need-add-k Inv-loop μ-loop
@@ -99,9 +117,12 @@ loop-less c = search needs
 
 loop-again : tie.Need-loop-again Inv-loop μ-loop
 loop-again c =
-    let k = c .before .before .before .before .before .before .before .before .before .loop in
-    let r = c .before .before .before .before .before .before .«open» in
-    let low = c .before .before .before .before .before .before .before .before .loop-test .taken in
+    let at-open = c .before .before .before .before .before .before in
+    let at-loop-test = at-open .before .before in
+    let at-loop = at-loop-test .before in
+    let k = at-loop .loop in
+    let r = at-open .«open» in
+    let low = at-loop-test .loop-test .taken in
     let s = c .before .before .s .given in
     climb-on (k .inv) low (r .result) (r .last .1 .0) (r .ensures) (r .kept .1 .0) (s .0 .0) (s .1) (c .if1 .left)
 

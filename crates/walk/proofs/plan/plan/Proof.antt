@@ -18,9 +18,11 @@ same-length c = search needs
 
 returns : tie.Need-returns
 returns c =
-    let a = c .before .before .before .before .before .before .before .before .args in
+    let at-clear = c .before .before .before .before in
+    let start = at-clear .before .before .before .before in
+    let a = start .args in
     let wrong = sym (c .before .settings-right .ensures) ∙ not-true _ (c .if1 .taken) in
-    said-setting (a .n) (a .cap) (a .limit) (a .terms .now) (length (a .out .now)) _ (c .before .before .before .before .clear .ensures) wrong
+    said-setting (a .n) (a .cap) (a .limit) (a .terms .now) (length (a .out .now)) _ (at-clear .clear .ensures) wrong
 
 length-right-requires : tie.Need-length-right-requires
 length-right-requires c κs = search needs
@@ -30,10 +32,13 @@ same-length-2 c = search needs
 
 returns-2 : tie.Need-returns-2
 returns-2 c =
-    let a = c .before .before .before .before .before .before .before .before .before .before .args in
-    let right = sym (c .before .before .before .settings-right .ensures) ∙ not-false _ (c .before .before .if1 .left) in
+    let at-settings-right = c .before .before .before in
+    let at-clear = at-settings-right .before .before .before in
+    let start = at-clear .before .before .before .before in
+    let a = start .args in
+    let right = sym (at-settings-right .settings-right .ensures) ∙ not-false _ (c .before .before .if1 .left) in
     let wrong = sym (c .before .length-right .ensures) ∙ not-true _ (c .if2 .taken) in
-    said-length (a .n) (a .cap) (a .limit) (a .terms .now) (length (a .out .now)) _ (c .before .before .before .before .before .before .clear .ensures) right wrong
+    said-length (a .n) (a .cap) (a .limit) (a .terms .now) (length (a .out .now)) _ (at-clear .clear .ensures) right wrong
 
 fault-of-requires : tie.Need-fault-of-requires
 fault-of-requires c κs = search needs
@@ -43,11 +48,16 @@ enum-told c = search needs
 
 climb-requires : tie.Need-climb-requires
 climb-requires c κs =
-    let a = c .before .before .before .before .before .before .before .before .before .before .before .before .before .before .args in
-    let blank = c .before .before .before .before .before .before .before .before .before .before .clear in
-    let right = sym (c .before .before .before .before .before .before .before .settings-right .ensures)
-    ∙ not-false _ (c .before .before .before .before .before .before .if1 .left) in
-    let clean = settings-clean (a .n) (a .cap) (a .limit) right (a .terms .now) (sym (c .before .before .before .fault-of .ensures) ∙ c .before .enum-told .given .1) in
+    let at-fault-of = c .before .before .before in
+    let at-if1 = at-fault-of .before .before .before in
+    let at-settings-right = at-if1 .before in
+    let at-clear = at-settings-right .before .before .before in
+    let start = at-clear .before .before .before .before in
+    let a = start .args in
+    let blank = at-clear .clear in
+    let right = sym (at-settings-right .settings-right .ensures)
+    ∙ not-false _ (at-if1 .if1 .left) in
+    let clean = settings-clean (a .n) (a .cap) (a .limit) right (a .terms .now) (sym (at-fault-of .fault-of .ensures) ∙ c .before .enum-told .given .1) in
     let zeros = zeros-long (length (a .out .now)) (blank .last .0) (blank .kept .0) (blank .ensures) in
     (settings-few (a .n) (a .cap) (a .limit) right, (settings-low (a .n) (a .cap) (a .limit) right, (clean, zeros)))
 
@@ -62,40 +72,62 @@ same-length-3 c = search needs
 
 returns-3 : tie.Need-returns-3
 returns-3 c =
-    let a = c .before .before .before .before .before .before .before .before .before .before .before .before .before .before .before .before .before .args in
-    let right = sym (c .before .before .before .before .before .before .before .before .before .before .settings-right .ensures)
-    ∙ not-false _ (c .before .before .before .before .before .before .before .before .before .if1 .left) in
-    let measured = sym (c .before .before .before .before .before .before .before .before .length-right .ensures)
-    ∙ not-false _ (c .before .before .before .before .before .before .before .if2 .left) in
-    let clean = sym (c .before .before .before .before .before .before .fault-of .ensures) ∙ c .before .before .before .before .enum-told .given .1 in
+    let at-enum-told = c .before .before .before .before in
+    let at-fault-of = at-enum-told .before .before in
+    let at-if2 = at-fault-of .before in
+    let at-length-right = at-if2 .before in
+    let at-if1 = at-length-right .before in
+    let at-settings-right = at-if1 .before in
+    let at-clear = at-settings-right .before .before .before in
+    let start = at-clear .before .before .before .before in
+    let a = start .args in
+    let right = sym (at-settings-right .settings-right .ensures)
+    ∙ not-false _ (at-if1 .if1 .left) in
+    let measured = sym (at-length-right .length-right .ensures)
+    ∙ not-false _ (at-if2 .if2 .left) in
+    let clean = sym (at-fault-of .fault-of .ensures) ∙ at-enum-told .enum-told .given .1 in
     said-walked (a .n) (a .cap) (a .limit) (a .terms .now) (length (a .out .now)) _ _
-    (c .before .before .climb .ensures) (c .before .before .before .before .before .before .before .before .before .before .before .before .before .clear .kept .0) right measured clean
+    (c .before .before .climb .ensures) (at-clear .clear .kept .0) right measured clean
 
 same-length-4 : tie.Need-same-length-4
 same-length-4 c = search needs
 
 returns-4 : tie.Need-returns-4
 returns-4 c =
-    let a = c .before .before .before .before .before .before .before .before .before .before .before .before .before .before .args in
-    let right = sym (c .before .before .before .before .before .before .before .settings-right .ensures)
-    ∙ not-false _ (c .before .before .before .before .before .before .if1 .left) in
-    let measured = sym (c .before .before .before .before .before .length-right .ensures) ∙ not-false _ (c .before .before .before .before .if2 .left) in
-    let wrong = sym (c .before .before .before .fault-of .ensures) ∙ c .before .place .given .1 in
+    let at-fault-of = c .before .before .before in
+    let at-if2 = at-fault-of .before in
+    let at-length-right = at-if2 .before in
+    let at-if1 = at-length-right .before in
+    let at-settings-right = at-if1 .before in
+    let at-clear = at-settings-right .before .before .before in
+    let start = at-clear .before .before .before .before in
+    let a = start .args in
+    let right = sym (at-settings-right .settings-right .ensures)
+    ∙ not-false _ (at-if1 .if1 .left) in
+    let measured = sym (at-length-right .length-right .ensures) ∙ not-false _ (at-if2 .if2 .left) in
+    let wrong = sym (at-fault-of .fault-of .ensures) ∙ c .before .place .given .1 in
     said-wrong (a .n) (a .cap) (a .limit) (a .terms .now) (length (a .out .now)) _
-    (c .before .before .before .before .before .before .before .before .before .before .clear .ensures) right measured _ wrong
+    (at-clear .clear .ensures) right measured _ wrong
 
 same-length-5 : tie.Need-same-length-5
 same-length-5 c = search needs
 
 returns-5 : tie.Need-returns-5
 returns-5 c =
-    let a = c .before .before .before .before .before .before .before .before .before .before .before .before .before .before .args in
-    let right = sym (c .before .before .before .before .before .before .before .settings-right .ensures)
-    ∙ not-false _ (c .before .before .before .before .before .before .if1 .left) in
-    let measured = sym (c .before .before .before .before .before .length-right .ensures) ∙ not-false _ (c .before .before .before .before .if2 .left) in
-    let again = sym (c .before .before .before .fault-of .ensures) ∙ c .before .place2 .given .1 in
+    let at-fault-of = c .before .before .before in
+    let at-if2 = at-fault-of .before in
+    let at-length-right = at-if2 .before in
+    let at-if1 = at-length-right .before in
+    let at-settings-right = at-if1 .before in
+    let at-clear = at-settings-right .before .before .before in
+    let start = at-clear .before .before .before .before in
+    let a = start .args in
+    let right = sym (at-settings-right .settings-right .ensures)
+    ∙ not-false _ (at-if1 .if1 .left) in
+    let measured = sym (at-length-right .length-right .ensures) ∙ not-false _ (at-if2 .if2 .left) in
+    let again = sym (at-fault-of .fault-of .ensures) ∙ c .before .place2 .given .1 in
     said-repeated (a .n) (a .cap) (a .limit) (a .terms .now) (length (a .out .now)) _
-    (c .before .before .before .before .before .before .before .before .before .before .clear .ensures) right measured _ again
+    (at-clear .clear .ensures) right measured _ again
 
 pub plan-spec : {M : Type 1} → statement M
 plan-spec =

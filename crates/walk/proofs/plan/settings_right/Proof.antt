@@ -2,6 +2,7 @@
 use mathlib.Core.Path.{sym, _∙_}
 use borrow.Author.Needs.{needs}
 use borrow.Author.Tests.{le-leb, lt-leb, not-true, not-false}
+use Rattle.wiring.specs.Panel.{cards}
 use Rattle.walk.specs.Plan.{settingsRight}
 use Rattle.walk.proofs.plan.settings_right.Statement.{statement}
 use Rattle.walk.proofs.plan.settings_right.Tie as tie
@@ -17,20 +18,20 @@ returns-2 : tie.Need-returns-2
 unfolding settingsRight
 returns-2 c =
     let a = c .before .before .before .args in
-    rw (sym (c .before .before .count-right .ensures) ∙ not-false _ (c .before .if1 .left), lt-leb (a .cap) 6 (c .if2 .taken))
+    rw (sym (c .before .before .count-right .ensures) ∙ not-false _ (c .before .if1 .left), lt-leb (a .cap) cards (c .if2 .taken))
 
 returns-3 : tie.Need-returns-3
 unfolding settingsRight
 returns-3 c =
     let a = c .before .before .before .before .args in
     rw
-    (sym (c .before .before .before .count-right .ensures) ∙ not-false _ (c .before .before .if1 .left), le-leb (a .cap) 6 (c .before .if2 .left), lt-leb 1 (a .limit) (c .if3 .taken))
+    (sym (c .before .before .before .count-right .ensures) ∙ not-false _ (c .before .before .if1 .left), le-leb (a .cap) cards (c .before .if2 .left), lt-leb 1 (a .limit) (c .if3 .taken))
 
 returns-4 : tie.Need-returns-4
 unfolding settingsRight
 returns-4 c =
     let a = c .before .before .before .before .args in
-    rw (sym (c .before .before .before .count-right .ensures) ∙ not-false _ (c .before .before .if1 .left), le-leb (a .cap) 6 (c .before .if2 .left), le-leb 1 (a .limit) (c .if3 .left))
+    rw (sym (c .before .before .before .count-right .ensures) ∙ not-false _ (c .before .before .if1 .left), le-leb (a .cap) cards (c .before .if2 .left), le-leb 1 (a .limit) (c .if3 .left))
 
 pub settings-right-spec : {M : Type 1} → statement M
 settings-right-spec =

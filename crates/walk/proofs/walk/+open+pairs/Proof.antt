@@ -15,9 +15,9 @@ use lib.ListN.{length}
 use Rattle.monomial.specs.Monomial.{Mono, one}
 use Rattle.monomial.specs.Quotient.{quo}
 use Rattle.monomial.specs.Divisors.{leads, divisors}
+use Rattle.monomial.specs.Claims.{from}
+use Rattle.monomial.specs.Order.{before}
 use Rattle.monomial.proofs.Tests.{is→T, is→nT}
-use Rattle.monomial.proofs.order.Laws.{mono-order}
-use Rattle.monomial.proofs.order.Ascending.{from}
 use Rattle.wiring.specs.Sets.{monomialsOf}
 use Rattle.wiring.specs.Terms.{records, system}
 use Rattle.walk.specs.Walk.{Finds, bare, child, opens, opened, run}
@@ -27,7 +27,7 @@ use Rattle.walk.specs.declared.walk.State.{State}
 use Rattle.walk.specs.declared.walk.Turn.{Turn}
 use Rattle.walk.specs.declared.walk.Turn.the-variants.{Going, Spent, Full}
 use Rattle.walk.proofs.Rules.{bare-opens}
-use Rattle.walk.proofs.walk.Laws.{judged-closed, judged-split, Running, running-start, running-sheet, running-end, running-spent, running-shut, running-going, running-child-spent, running-child-full}
+use Rattle.walk.proofs.walk.Laws.{nothing-follows, pairs-follow, Running, running-start, running-showing, running-end, running-spent, running-shut, running-going, running-child-spent, running-child-full}
 use Rattle.walk.proofs.walk.Runner.{fewer-left, gap-wide, gap-proper, child-more, child-within, child-ready, told-as, split-member, split-ready, split-tells}
 use Rattle.walk.proofs.walk.open.Reads as opener
 use Rattle.walk.proofs.walk.open.Kinds as opener-kinds
@@ -38,8 +38,9 @@ use Rattle.walk.proofs.walk.+open+pairs.Lts-pairs as runner-lts
 use Rattle.monomial.proofs.Monomial.leads.Reads as leads-reads
 use Rattle.monomial.proofs.Monomial.next_divisor.Reads as next-divisor-reads
 use Rattle.monomial.proofs.Monomial.over.Reads as over-reads
+use Rattle.wiring.specs.Panel.{setBytes}
 use Rattle.walk.proofs.children.offer.Reads as offer-reads
-use Rattle.walk.proofs.walk.judge.Reads as judge-reads
+use Rattle.walk.proofs.walk.take_step.Reads as take-step-reads
 use Rattle.wiring.proofs.signals.signals_of.Reads as signals-of-reads
 use Rattle.walk.proofs.walk.+open+pairs.{statement}
 use Rattle.walk.proofs.walk.+open+pairs.Tie.{close}
@@ -64,37 +65,41 @@ runner-below t = and 2 runner-kinds.ps (falls 2 runner-kinds.ps _<_ μ-runner t)
 
 -- ---- the opener
 abbrev opener-claims : ℕ → opener-lts.Claims
-opener-claims t = (judge-reads.Asked, judge-reads.Learnt, runner-below t, runner.Post)
+opener-claims t = (take-step-reads.Asked, take-step-reads.Learnt, runner-below t, runner.Post)
 
-opener-judge-requires : (t : ℕ) → opener-lts.Need-judge-requires (opener-claims t) (opener-at t) opener.Post
-opener-judge-requires t c κs = c .before .before .before .pre .1
+opener-take-step-requires : (t : ℕ) → opener-lts.Need-take-step-requires (opener-claims t) (opener-at t) opener.Post
+opener-take-step-requires t c κs = c .before .before .before .pre .1
 
 opener-same-length : (t : ℕ) → opener-lts.Need-same-length (opener-claims t) (opener-at t) opener.Post
-opener-same-length t c = c .before .before .before .before .judge .kept .1 .0
+opener-same-length t c = c .before .before .before .before .take-step .kept .1 .0
 
 opener-returns : (t : ℕ) → opener-lts.Need-returns (opener-claims t) (opener-at t) opener.Post
 opener-returns t c =
     λ d finds h sh.
-    let a = c .before .before .before .before .before .before .before .before .args in
-    let j = c .before .before .before .before .judge in
-    judged-closed bare (a .f .n) (a .terms .now) (a .f .level) (a .f .limit) (a .set) (a .st) (a .out .now) (j .result) (j .last .1 .0)
+    let at-take-step = c .before .before .before .before in
+    let start = at-take-step .before .before .before .before in
+    let a = start .args in
+    let j = at-take-step .take-step in
+    nothing-follows bare (a .f .n) (a .terms .now) (a .f .level) (a .f .limit) (a .set) (a .st) (a .out .now) (j .result) (j .last .1 .0)
     (not-true _ (c .if1 .taken)) (j .ensures) d finds (omega arith) sh
 
 opener-add-t12 : (t : ℕ) → opener-lts.Need-add-t12 (opener-claims t) (opener-at t) opener.Post
 opener-add-t12 t c =
     let a = c .before .before .before .before .before .before .before .before .before .before .args in
-    let j = c .before .before .before .before .before .before .judge in
-    let sp = judged-split bare (a .f .n) (a .terms .now) (a .f .level) (a .f .limit) (a .set) (a .st) (a .out .now) (j .result) (j .last .1 .0)
+    let j = c .before .before .before .before .before .before .take-step in
+    let sp = pairs-follow bare (a .f .n) (a .terms .now) (a .f .level) (a .f .limit) (a .set) (a .st) (a .out .now) (j .result) (j .last .1 .0)
     (not-false _ (c .before .before .if1 .left)) (j .ensures) in
     search (needs, sp .taken, c .before .before .before .before .before .before .before .before .before .before .good)
 
 opener-pairs-requires : (t : ℕ) → opener-lts.Need-pairs-requires (opener-claims t) (opener-at t) opener.Post
 opener-pairs-requires t c κs =
-    let s = c .before .before .before .before .before .before .before .before .before .before .before in
+    let at-if1 = c .before .before .before in
+    let at-take-step = at-if1 .before .before .before .before in
+    let s = at-take-step .before .before .before .before in
     let a = s .args in
-    let j = c .before .before .before .before .before .before .before .judge in
-    let sp = judged-split bare (a .f .n) (a .terms .now) (a .f .level) (a .f .limit) (a .set) (a .st) (a .out .now) (j .result) (j .last .1 .0)
-    (not-false _ (c .before .before .before .if1 .left)) (j .ensures) in
+    let j = at-take-step .take-step in
+    let sp = pairs-follow bare (a .f .n) (a .terms .now) (a .f .level) (a .f .limit) (a .set) (a .st) (a .out .now) (j .result) (j .last .1 .0)
+    (not-false _ (at-if1 .if1 .left)) (j .ensures) in
     let step : 2 * (a .f .level - a .set .len) < t = omega (arith, s .pre .0) in
     let ready = split-ready bare (a .f .n) (a .terms .now) (a .f .level) (a .f .limit) (a .set) (a .st) (a .out .now) (s .pre .1) _ _ sp in
     let member = split-member bare (a .f .n) (a .terms .now) (a .f .level) (a .f .limit) (a .set) (a .st) (a .out .now) (s .pre .1) _ _ sp in
@@ -102,17 +107,20 @@ opener-pairs-requires t c κs =
 
 opener-same-length-2 : (t : ℕ) → opener-lts.Need-same-length-2 (opener-claims t) (opener-at t) opener.Post
 opener-same-length-2 t c =
-    c .before .before .pairs .kept .1 .0 ∙ c .before .before .before .before .before .before .before .before .before .before .judge .kept .1 .0
+    let at-take-step = c .before .before .before .before .before .before .before .before .before .before in
+    c .before .before .pairs .kept .1 .0 ∙ at-take-step .take-step .kept .1 .0
 
 opener-returns-2 : (t : ℕ) → opener-lts.Need-returns-2 (opener-claims t) (opener-at t) opener.Post
 opener-returns-2 t c =
     λ d finds h sh.
-    let s = c .before .before .before .before .before .before .before .before .before .before .before .before .before .before in
+    let at-if1 = c .before .before .before .before .before .before in
+    let at-take-step = at-if1 .before .before .before .before in
+    let s = at-take-step .before .before .before .before in
     let a = s .args in
-    let j = c .before .before .before .before .before .before .before .before .before .before .judge in
+    let j = at-take-step .take-step in
     let r = c .before .before .pairs in
-    let sp = judged-split bare (a .f .n) (a .terms .now) (a .f .level) (a .f .limit) (a .set) (a .st) (a .out .now) (j .result) (j .last .1 .0)
-    (not-false _ (c .before .before .before .before .before .before .if1 .left)) (j .ensures) in
+    let sp = pairs-follow bare (a .f .n) (a .terms .now) (a .f .level) (a .f .limit) (a .set) (a .st) (a .out .now) (j .result) (j .last .1 .0)
+    (not-false _ (at-if1 .if1 .left)) (j .ensures) in
     split-tells bare (a .f .n) (a .terms .now) (a .f .level) (a .f .limit) (a .set) (a .st) (a .out .now) (s .pre .1) _ _ sp (r .result) (r .last .1 .0) (r .ensures) d finds h sh
 
 -- ---- the pair runner
@@ -136,7 +144,7 @@ abbrev Inv-loop : runner-lts.InvT-loop
 Inv-loop terms out₀ f set m v cur₀ a₀ out cur a = Running bare (f .n) terms (f .level) (f .limit) set (m .e) cur₀ out₀ (a .e) cur out
 
 abbrev μ-loop : runner-lts.MeasureT-loop
-μ-loop terms out₀ f set m v cur₀ a₀ out cur a = length (from mono-order (a .e) (divisors (m .e)))
+μ-loop terms out₀ f set m v cur₀ a₀ out cur a = length (from before (a .e) (divisors (m .e)))
 
 -- ---- the place where a child was offered
 abbrev Offered : ℕ → Type 0
@@ -197,7 +205,7 @@ module _ (t : ℕ) (c : Offered t) where
     told-of turn size s out' =
         (d : ℕ) (finds : Finds) → begun .args .f .level - c .offer .result .set .len < d → Shown finds (reached .count) sheet
         → Tells turn out'
-        (run (begun .args .f .limit) (size / 36) (opened bare (begun .args .f .n) (system (records (begun .args .terms .now))) (begun .args .f .level) d s) (reached .steps + 1) finds)
+        (run (begun .args .f .limit) (size / setBytes) (opened bare (begun .args .f .n) (system (records (begun .args .terms .now))) (begun .args .f .level) d s) (reached .steps + 1) finds)
 
     offered-told : (turn turn' : Turn) (out' : List ℕ) → turn ≡ turn' → told-of turn (length sheet) (monomialsOf (c .offer .result .set)) out'
         → told-of turn' (length (begun .args .out .now)) offspring out'
@@ -228,12 +236,14 @@ runner-same-length t c = c .before .before .before .before .loop .inv .long
 runner-returns : (t : ℕ) → runner-lts.Need-returns (runner-claims t) (runner-at t) runner.Post Inv-loop μ-loop
 runner-returns t c =
     λ d finds h sh.
-    let s = c .before .before .before .before .before .before .before .before in
+    let at-leads = c .before .before .before in
+    let at-loop = at-leads .before in
+    let s = at-loop .before .before .before .before in
     let a = s .args in
     let proper = gap-proper (a .f .n) (a .terms .now) (a .f .level) (a .set) (a .m .e) (a .st .count) (a .out .now) (s .pre .1 .0) (s .pre .1 .1) in
-    let lead = is→T _ (sym (c .before .before .before .leads .ensures) ∙ c .before .before .if1 .taken) in
+    let lead = is→T _ (sym (at-leads .leads .ensures) ∙ c .before .before .if1 .taken) in
     running-spent bare (a .f .n) (a .terms .now) (a .f .level) (a .f .limit) (a .set) (a .m .e) (a .st) (a .out .now)
-    (c .before .before .before .before .loop .inv) proper lead (omega arith) d finds h sh
+    (at-loop .loop .inv) proper lead (omega arith) d finds h sh
 
 runner-add-t19 : (t : ℕ) → runner-lts.Need-add-t19 (runner-claims t) (runner-at t) runner.Post Inv-loop μ-loop
 runner-add-t19 t c = search needs
@@ -243,21 +253,24 @@ runner-over-requires t c κs = c .before .before .before .before .loop .inv .div
 
 runner-offer-requires : (t : ℕ) → runner-lts.Need-offer-requires (runner-claims t) (runner-at t) runner.Post Inv-loop μ-loop
 runner-offer-requires t c κs =
-    let p = c .before .before .before .before .before .before .before .before .before .pre .1 .0 in
-    let v = c .before .before .before .before .before .before .signals-of .ensures in
+    let at-signals-of = c .before .before .before .before .before .before in
+    let start = at-signals-of .before .before .before in
+    let p = start .pre .1 .0 in
+    let v = at-signals-of .signals-of .ensures in
     (p .low, (p .within, (omega (arith, p .within, p .low, p .few), p .walked .recorded .ascending)))
 
 runner-open-requires : (t : ℕ) → runner-lts.Need-open-requires (runner-claims t) (runner-at t) runner.Post Inv-loop μ-loop
 runner-open-requires t c κs =
-    let s = c .before .before .before .before .before .before .before .before .before .before .before .before .before in
-    let a = s .args in
-    let k = c .before .before .before .before .before .before .before .before .before .loop in
     let o = c .before .before .before in
+    let at-loop = o .before .before .before .before .before .before in
+    let s = at-loop .before .before .before .before in
+    let a = s .args in
+    let k = at-loop .loop in
     let go = c .before .before .if3 .taken in
-    let sheet = running-sheet bare (a .f .n) (a .terms .now) (a .f .level) (a .f .limit) (a .set) (a .m .e) (a .st) (a .out .now) (k .a .e) (k .cur)
-    (k .out) (k .inv) (s .pre .1 .0 .sheet) in
+    let showing = running-showing bare (a .f .n) (a .terms .now) (a .f .level) (a .f .limit) (a .set) (a .m .e) (a .st) (a .out .now) (k .a .e) (k .cur)
+    (k .out) (k .inv) (s .pre .1 .0 .showing) in
     let ready = child-ready (a .f .n) (a .terms .now) (a .f .level) (a .set) (a .m .e) (a .st .count) (a .out .now) (s .pre .1 .0) (s .pre .1 .1)
-    (k .a .e) (k .inv .divisor) (offered-lead t o) (o .offer .result) (offered-child t o) go (k .cur .count) (k .out) sheet in
+    (k .a .e) (k .inv .divisor) (offered-lead t o) (o .offer .result) (offered-child t o) go (k .cur .count) (k .out) showing in
     let more = offered-more t o go in
     let within = offered-within t o go in
     let step : 2 * (a .f .level - o .offer .result .set .len) + 1 < t = omega (arith, s .pre .0) in
@@ -271,70 +284,87 @@ runner-enum-told t c = search needs
 
 runner-same-length-2 : (t : ℕ) → runner-lts.Need-same-length-2 (runner-claims t) (runner-at t) runner.Post Inv-loop μ-loop
 runner-same-length-2 t c =
-    c .before .before .before .before .«open» .kept .1 .0 ∙ c .before .before .before .before .before .before .before .before .before .before .before
+    let at-open = c .before .before .before .before in
+    let at-11 = at-open .before .before .before .before .before .before .before in
+    at-open .«open» .kept .1 .0 ∙ at-11
     .before .before .before .loop .inv .long
 
 runner-returns-2 : (t : ℕ) → runner-lts.Need-returns-2 (runner-claims t) (runner-at t) runner.Post Inv-loop μ-loop
 runner-returns-2 t c =
     λ d finds h sh.
-    let s = c .before .before .before .before .before .before .before .before .before .before .before .before .before .before .before .before .before .before in
+    let at-open = c .before .before .before .before in
+    let at-if3 = at-open .before .before .before in
+    let o = at-if3 .before in
+    let at-if2 = o .before .before in
+    let at-loop = at-if2 .before .before .before .before in
+    let s = at-loop .before .before .before .before in
     let a = s .args in
-    let k = c .before .before .before .before .before .before .before .before .before .before .before .before .before .before .loop in
-    let o = c .before .before .before .before .before .before .before .before in
+    let k = at-loop .loop in
     let r = o .offer .result in
-    let go = c .before .before .before .before .before .before .before .if3 .taken in
-    let told = offered-told t o go (c .before .before .before .before .«open» .result) Spent (c .before .before .before .before .«open» .last .1 .0)
-    (c .enum-told .given .1) (c .before .before .before .before .«open» .ensures) in
+    let go = at-if3 .if3 .taken in
+    let told = offered-told t o go (at-open .«open» .result) Spent (at-open .«open» .last .1 .0)
+    (c .enum-told .given .1) (at-open .«open» .ensures) in
     running-child-spent bare (a .f .n) (a .terms .now) (a .f .level) (a .f .limit) (a .set) (a .m .e) (a .st) (a .out .now) (k .inv) (offered-proper t o) (offered-lead t o)
     (r .set .len) (offered-more t o go) (s .pre .1 .1 .below)
-    (omega (arith, c .before .before .before .before .before .before .before .before .before .before .if2 .left)) (offered-opens t o ∙ go)
-    (c .before .before .before .before .«open» .last .1 .0) told d finds h sh
+    (omega (arith, at-if2 .if2 .left)) (offered-opens t o ∙ go)
+    (at-open .«open» .last .1 .0) told d finds h sh
 
 runner-enum-known-s-2 : (t : ℕ) → runner-lts.Need-enum-known-s-2 (runner-claims t) (runner-at t) runner.Post Inv-loop μ-loop
 runner-enum-known-s-2 t c = search needs
 
 runner-same-length-3 : (t : ℕ) → runner-lts.Need-same-length-3 (runner-claims t) (runner-at t) runner.Post Inv-loop μ-loop
 runner-same-length-3 t c =
-    c .before .before .before .before .before .«open» .kept .1 .0 ∙ c .before .before .before .before .before .before .before .before .before .before
+    let at-open = c .before .before .before .before .before in
+    let at-10 = at-open .before .before .before .before .before in
+    at-open .«open» .kept .1 .0 ∙ at-10
     .before .before .before .before .before .loop .inv .long
 
 runner-returns-3 : (t : ℕ) → runner-lts.Need-returns-3 (runner-claims t) (runner-at t) runner.Post Inv-loop μ-loop
 runner-returns-3 t c =
     λ d finds h sh.
-    let s = c .before .before .before .before .before .before .before .before .before .before .before .before .before .before .before .before .before .before .before in
+    let at-open = c .before .before .before .before .before in
+    let at-if3 = at-open .before .before .before in
+    let o = at-if3 .before in
+    let at-if2 = o .before .before in
+    let at-loop = at-if2 .before .before .before .before in
+    let s = at-loop .before .before .before .before in
     let a = s .args in
-    let k = c .before .before .before .before .before .before .before .before .before .before .before .before .before .before .before .loop in
-    let o = c .before .before .before .before .before .before .before .before .before in
+    let k = at-loop .loop in
     let r = o .offer .result in
-    let go = c .before .before .before .before .before .before .before .before .if3 .taken in
-    let told = offered-told t o go (c .before .before .before .before .before .«open» .result) (Full (c .before .s2 .given .0 .0))
-    (c .before .before .before .before .before .«open» .last .1 .0) (c .before .s2 .given .1)
-    (c .before .before .before .before .before .«open» .ensures) in
+    let go = at-if3 .if3 .taken in
+    let told = offered-told t o go (at-open .«open» .result) (Full (c .before .s2 .given .0 .0))
+    (at-open .«open» .last .1 .0) (c .before .s2 .given .1)
+    (at-open .«open» .ensures) in
     running-child-full bare (a .f .n) (a .terms .now) (a .f .level) (a .f .limit) (a .set) (a .m .e) (a .st) (a .out .now) (k .inv) (offered-proper t o) (offered-lead t o)
     (r .set .len) (offered-more t o go) (s .pre .1 .1 .below)
-    (omega (arith, c .before .before .before .before .before .before .before .before .before .before .before .if2 .left)) (offered-opens t o ∙ go)
-    (c .before .s2 .given .0 .0) (c .before .before .before .before .before .«open» .last .1 .0) told d finds h sh
+    (omega (arith, at-if2 .if2 .left)) (offered-opens t o ∙ go)
+    (c .before .s2 .given .0 .0) (at-open .«open» .last .1 .0) told d finds h sh
 
 runner-next-divisor-requires : (t : ℕ) → runner-lts.Need-next-divisor-requires (runner-claims t) (runner-at t) runner.Post Inv-loop μ-loop
 runner-next-divisor-requires t c κs = search needs
 
 runner-loop-less : (t : ℕ) → runner-lts.Need-loop-less (runner-claims t) (runner-at t) runner.Post Inv-loop μ-loop
 runner-loop-less t c =
-    let s = c .before .before .before .before .before .before .before .before .before .before .before .before in
+    let at-if1 = c .before .before .before .before .before .before in
+    let at-leads = at-if1 .before in
+    let at-loop = at-leads .before in
+    let s = at-loop .before .before .before .before in
     let a = s .args in
-    let k = c .before .before .before .before .before .before .before .before .loop in
+    let k = at-loop .loop in
     let proper = gap-proper (a .f .n) (a .terms .now) (a .f .level) (a .set) (a .m .e) (a .st .count) (a .out .now) (s .pre .1 .0) (s .pre .1 .1) in
-    let lead = is→T _ (sym (c .before .before .before .before .before .before .before .leads .ensures) ∙ c .before .before .before .before .before .before .if1 .taken) in
+    let lead = is→T _ (sym (at-leads .leads .ensures) ∙ at-if1 .if1 .taken) in
     fewer-left (k .a .e) (a .m .e) (c .next-divisor .result .e) (k .inv .divisor) proper lead (c .next-divisor .ensures)
 
 runner-loop-again : (t : ℕ) → runner-lts.Need-loop-again (runner-claims t) (runner-at t) runner.Post Inv-loop μ-loop
 runner-loop-again t c =
-    let s = c .before .before .before .before .before .before .before .before .before .before .before .before in
+    let at-if2 = c .before .before .before .before in
+    let at-loop = at-if2 .before .before .before .before in
+    let s = at-loop .before .before .before .before in
     let a = s .args in
-    let k = c .before .before .before .before .before .before .before .before .loop in
+    let k = at-loop .loop in
     let o = c .before .before in
     let r = o .offer .result in
-    let room = c .before .before .before .before .if2 .left in
+    let room = at-if2 .if2 .left in
     ⊎-elim
     (λ w.
     let go = w .0 .taken in
@@ -354,7 +384,8 @@ runner-same-length-4 t c = c .before .before .loop .inv .long
 runner-returns-4 : (t : ℕ) → runner-lts.Need-returns-4 (runner-claims t) (runner-at t) runner.Post Inv-loop μ-loop
 runner-returns-4 t c =
     λ d finds h sh.
-    let a = c .before .before .before .before .before .before .args in
+    let start = c .before .before .before .before .before .before in
+    let a = start .args in
     running-end bare (a .f .n) (a .terms .now) (a .f .level) (a .f .limit) (a .set) (a .m .e) (a .st) (a .out .now) (c .before .before .loop .inv)
     (is→nT _ (sym (c .before .leads .ensures) ∙ c .if1 .left)) d finds h sh
 
@@ -362,7 +393,7 @@ pub +open+pairs-spec : {M : Type 1} → statement M
 +open+pairs-spec =
     close μ-opener μ-runner
     (λ t. opener-lts.spec (opener-claims t) (opener-at t) opener.Post
-    (opener-judge-requires t)
+    (opener-take-step-requires t)
     (opener-same-length t)
     (opener-returns t)
     (opener-add-t12 t)

@@ -27,15 +27,20 @@ length-right-requires c κs = search needs
 returns-2 : tie.Need-returns-2
 unfolding checked
 returns-2 c =
-    let a = c .before .before .before .before .before .before .args in
-    let count = sym (c .before .before .before .count-right .ensures) ∙ not-false _ (c .before .before .if1 .left) in
+    let at-count-right = c .before .before .before in
+    let start = at-count-right .before .before .before in
+    let a = start .args in
+    let count = sym (at-count-right .count-right .ensures) ∙ not-false _ (c .before .before .if1 .left) in
     ap numbers (sym (said-terms-length (a .n) (a .terms .now) (a .set .now) count (sym (c .before .length-right .ensures) ∙ not-true _ (c .if2 .taken))))
 
 returns-3 : tie.Need-returns-3
 unfolding checked
 returns-3 c =
-    let a = c .before .before .before .before .before .before .before .args in
-    let count = sym (c .before .before .before .before .count-right .ensures) ∙ not-false _ (c .before .before .before .if1 .left) in
+    let at-if1 = c .before .before .before in
+    let at-count-right = at-if1 .before in
+    let start = at-count-right .before .before .before in
+    let a = start .args in
+    let count = sym (at-count-right .count-right .ensures) ∙ not-false _ (at-if1 .if1 .left) in
     let measured = sym (c .before .before .length-right .ensures) ∙ not-false _ (c .before .if2 .left) in
     ap numbers (sym (said-set-length (a .n) (a .terms .now) (a .set .now) count measured (c .if3 .taken)))
 
@@ -47,11 +52,15 @@ enum-told c = search needs
 
 judge-record-requires : tie.Need-judge-record-requires
 judge-record-requires c κs =
-    let a = c .before .before .before .before .before .before .before .before .before .before .args in
+    let at-if3 = c .before .before .before in
+    let at-if1 = at-if3 .before .before .before in
+    let at-count-right = at-if1 .before in
+    let start = at-count-right .before .before .before in
+    let a = start .args in
     let few = count-few (a .n)
-    (sym (c .before .before .before .before .before .before .before .count-right .ensures) ∙ not-false _ (c .before .before .before .before .before .before .if1 .left)) in
+    (sym (at-count-right .count-right .ensures) ∙ not-false _ (at-if1 .if1 .left)) in
     let clean = sym (c .before .before .fault-of .ensures) ∙ c .enum-told .given .1 in
-    (clean-widens (a .n) (records (a .terms .now)) few clean, (few, c .before .before .before .if3 .left))
+    (clean-widens (a .n) (records (a .terms .now)) few clean, (few, at-if3 .if3 .left))
 
 enum-known-place : tie.Need-enum-known-place
 enum-known-place c = search needs
@@ -62,32 +71,53 @@ enum-known-place-2 c = search needs
 returns-4 : tie.Need-returns-4
 unfolding checked
 returns-4 c =
-    let a = c .before .before .before .before .before .before .before .before .before .before .before .args in
-    let count = sym (c .before .before .before .before .before .before .before .before .count-right .ensures) ∙ not-false _
-    (c .before .before .before .before .before .before .before .if1 .left) in
-    let measured = sym (c .before .before .before .before .before .before .length-right .ensures) ∙ not-false _ (c .before .before .before .before .before .if2 .left) in
-    let clean = sym (c .before .enum-told .given .1) ∙ c .before .before .before .fault-of .ensures in
-    ap numbers (c .judge-record .ensures ∙ said-rest (a .n) (a .terms .now) (a .set .now) count measured (c .before .before .before .before .if3 .left) Clean clean)
+    let at-fault-of = c .before .before .before in
+    let at-if3 = at-fault-of .before in
+    let at-if2 = at-if3 .before in
+    let at-length-right = at-if2 .before in
+    let at-if1 = at-length-right .before in
+    let at-count-right = at-if1 .before in
+    let start = at-count-right .before .before .before in
+    let a = start .args in
+    let count = sym (at-count-right .count-right .ensures) ∙ not-false _
+    (at-if1 .if1 .left) in
+    let measured = sym (at-length-right .length-right .ensures) ∙ not-false _ (at-if2 .if2 .left) in
+    let clean = sym (c .before .enum-told .given .1) ∙ at-fault-of .fault-of .ensures in
+    ap numbers (c .judge-record .ensures ∙ said-rest (a .n) (a .terms .now) (a .set .now) count measured (at-if3 .if3 .left) Clean clean)
 
 returns-5 : tie.Need-returns-5
 unfolding checked
 returns-5 c =
-    let a = c .before .before .before .before .before .before .before .before .before .before .before .args in
-    let count = sym (c .before .before .before .before .before .before .before .before .count-right .ensures) ∙ not-false _
-    (c .before .before .before .before .before .before .before .if1 .left) in
-    let measured = sym (c .before .before .before .before .before .before .length-right .ensures) ∙ not-false _ (c .before .before .before .before .before .if2 .left) in
-    let wrong = sym (c .before .place .given .1) ∙ c .before .before .before .fault-of .ensures in
-    ap numbers (said-rest (a .n) (a .terms .now) (a .set .now) count measured (c .before .before .before .before .if3 .left) (Wrong (c .before .place .given .0 .0)) wrong)
+    let at-fault-of = c .before .before .before in
+    let at-if3 = at-fault-of .before in
+    let at-if2 = at-if3 .before in
+    let at-length-right = at-if2 .before in
+    let at-if1 = at-length-right .before in
+    let at-count-right = at-if1 .before in
+    let start = at-count-right .before .before .before in
+    let a = start .args in
+    let count = sym (at-count-right .count-right .ensures) ∙ not-false _
+    (at-if1 .if1 .left) in
+    let measured = sym (at-length-right .length-right .ensures) ∙ not-false _ (at-if2 .if2 .left) in
+    let wrong = sym (c .before .place .given .1) ∙ at-fault-of .fault-of .ensures in
+    ap numbers (said-rest (a .n) (a .terms .now) (a .set .now) count measured (at-if3 .if3 .left) (Wrong (c .before .place .given .0 .0)) wrong)
 
 returns-6 : tie.Need-returns-6
 unfolding checked
 returns-6 c =
-    let a = c .before .before .before .before .before .before .before .before .before .before .before .args in
-    let count = sym (c .before .before .before .before .before .before .before .before .count-right .ensures) ∙ not-false _
-    (c .before .before .before .before .before .before .before .if1 .left) in
-    let measured = sym (c .before .before .before .before .before .before .length-right .ensures) ∙ not-false _ (c .before .before .before .before .before .if2 .left) in
-    let again = sym (c .before .place2 .given .1) ∙ c .before .before .before .fault-of .ensures in
-    ap numbers (said-rest (a .n) (a .terms .now) (a .set .now) count measured (c .before .before .before .before .if3 .left) (Repeated (c .before .place2 .given .0 .0)) again)
+    let at-fault-of = c .before .before .before in
+    let at-if3 = at-fault-of .before in
+    let at-if2 = at-if3 .before in
+    let at-length-right = at-if2 .before in
+    let at-if1 = at-length-right .before in
+    let at-count-right = at-if1 .before in
+    let start = at-count-right .before .before .before in
+    let a = start .args in
+    let count = sym (at-count-right .count-right .ensures) ∙ not-false _
+    (at-if1 .if1 .left) in
+    let measured = sym (at-length-right .length-right .ensures) ∙ not-false _ (at-if2 .if2 .left) in
+    let again = sym (c .before .place2 .given .1) ∙ at-fault-of .fault-of .ensures in
+    ap numbers (said-rest (a .n) (a .terms .now) (a .set .now) count measured (at-if3 .if3 .left) (Repeated (c .before .place2 .given .0 .0)) again)
 
 pub check-spec : {M : Type 1} → statement M
 check-spec =

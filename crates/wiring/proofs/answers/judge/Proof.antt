@@ -6,7 +6,7 @@ use native.Mathlib.Omega.{arith}
 use borrow.Author.Needs.{needs}
 use lib.ListN.{length}
 use lib.Seq.{length-take-le}
-use Rattle.monomial.specs.Monomial.{Mono}
+use Rattle.monomial.specs.Monomial.{Mono, width}
 use Rattle.wiring.specs.Signals.{signals, Fitting}
 use Rattle.wiring.specs.Sets.{monomialsOf}
 use Rattle.wiring.specs.Terms.{records, system}
@@ -14,12 +14,13 @@ use Rattle.wiring.specs.declared.reply.Reply.the-variants.{Done, NotQuad
 use Rattle.wiring.proofs.signals.Laws.{array-length, front-length, signals-length, signals-fitting, fitting-weaken}
 use Rattle.wiring.proofs.answers.Laws.{first-as, judged-not, judged-done}
 use borrow.Author.Needs.{needs}
+use Rattle.wiring.specs.Panel.{cards, setExponent}
 use Rattle.wiring.proofs.answers.judge.Statement.{statement}
 use Rattle.wiring.proofs.answers.judge.Tie as tie
 
 -- what V is, told by its maker
-fits-as : (b n : ℕ) (v s : List Mono) → 54 ≤ b → v ≡ signals 6 n s → Fitting 54 s → Fitting b v
-fits-as b n v s h e f = subst (Fitting b) (sym e) (fitting-weaken 54 b (signals 6 n s) h (signals-fitting 54 n s (omega arith) f))
+fits-as : (b n : ℕ) (v s : List Mono) → setExponent ≤ b → v ≡ signals width n s → Fitting setExponent s → Fitting b v
+fits-as b n v s h e f = subst (Fitting b) (sym e) (fitting-weaken setExponent b (signals width n s) h (signals-fitting setExponent n s (omega arith) f))
 
 signals-of-requires : tie.Need-signals-of-requires
 signals-of-requires c κs =
@@ -45,19 +46,21 @@ slice-aggregate-first-unmet c =
 
 first-unmet-requires : tie.Need-first-unmet-requires
 first-unmet-requires c κs =
-    let s = c .before .before .before .before .before .before in
-    let v = c .before .before .before .before .signals-of .ensures in
+    let at-signals-of = c .before .before .before .before in
+    let s = at-signals-of .before .before in
+    let v = at-signals-of .signals-of .ensures in
     let sq = c .before .before .products-of .ensures in
-    (s .pre .0, (omega arith, (omega arith, (fits-as 72 (s .args .n) _ _ (omega arith) (v .0) (s .pre .1 .1 .1), sq .0))))
+    (s .pre .0, (omega arith, (omega arith, (fits-as setExponent (s .args .n) _ _ (omega arith) (v .0) (s .pre .1 .1 .1), sq .0))))
 
 returns : tie.Need-returns
 returns c =
-    let s = c .before .before .before .before .before .before .before .before .before in
+    let at-signals-of = c .before .before .before .before .before .before .before in
+    let s = at-signals-of .before .before in
     let m = monomialsOf (s .args .set) in
     let fs = system (records (s .args .terms .now)) in
-    let room : length (s .args .set .m) ≡ 6 = search (needs, array-length) in
+    let room : length (s .args .set .m) ≡ cards = search (needs, array-length) in
     let size : s .args .set .len ≡ length m = sym (front-length (s .args .set .len) (s .args .set .m) (omega arith)) in
-    let v = c .before .before .before .before .before .before .before .signals-of .ensures in
+    let v = at-signals-of .signals-of .ensures in
     let long = signals-length (s .args .n) m (omega arith) in
     let at = c .before .before .first-unmet .result in
     let first = first-as (s .args .n) fs m _ at (v .0) (c .before .before .first-unmet .ensures) in
@@ -65,12 +68,13 @@ returns c =
 
 returns-2 : tie.Need-returns-2
 returns-2 c =
-    let s = c .before .before .before .before .before .before .before .before .before in
+    let at-signals-of = c .before .before .before .before .before .before .before in
+    let s = at-signals-of .before .before in
     let m = monomialsOf (s .args .set) in
     let fs = system (records (s .args .terms .now)) in
-    let room : length (s .args .set .m) ≡ 6 = search (needs, array-length) in
+    let room : length (s .args .set .m) ≡ cards = search (needs, array-length) in
     let size : s .args .set .len ≡ length m = sym (front-length (s .args .set .len) (s .args .set .m) (omega arith)) in
-    let v = c .before .before .before .before .before .before .before .signals-of .ensures in
+    let v = at-signals-of .signals-of .ensures in
     let long = signals-length (s .args .n) m (omega arith) in
     let at = c .before .before .first-unmet .result in
     let first = first-as (s .args .n) fs m _ at (v .0) (c .before .before .first-unmet .ensures) in

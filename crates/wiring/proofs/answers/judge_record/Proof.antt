@@ -2,6 +2,7 @@
 use mathlib.Core.Path.{sym, ap, _∙_, subst}
 use borrow.Author.Tests.{not-true, not-false}
 use Rattle.monomial.proofs.Tests.{is→T}
+use Rattle.wiring.specs.Panel.{setExponent}
 use Rattle.wiring.specs.Signals.{Fitting}
 use Rattle.wiring.specs.Sets.{setRight}
 use Rattle.wiring.specs.Terms.{records, system}
@@ -16,7 +17,8 @@ read-set-requires c κs = c .before .before .pre .1 .1
 
 returns : tie.Need-returns
 returns c =
-    let a = c .before .before .before .before .before .args in
+    let start = c .before .before .before .before .before in
+    let a = start .args in
     let r = c .before .before .read-set .ensures in
     sym (record-bad (a .n) (a .terms .now) (a .set .now) (sym (r .right) ∙ not-true _ (c .if1 .taken)))
 
@@ -27,13 +29,15 @@ judge-requires c κs =
     let r = c .before .before .read-set .ensures in
     let good = not-false _ (c .if1 .left) in
     let right = is→T (setRight (a .n) (a .set .now)) (sym (r .right) ∙ good) in
-    let fits = subst (Fitting 54) (sym (r .holds good)) (right-fits (a .n) (a .set .now) (s .pre .1 .1) right) in
+    let fits = subst (Fitting setExponent) (sym (r .holds good)) (right-fits (a .n) (a .set .now) (s .pre .1 .1) right) in
     (s .pre .0, (s .pre .1 .0, (r .fits, fits)))
 
 returns-2 : tie.Need-returns-2
 returns-2 c =
-    let a = c .before .before .before .before .before .before .args in
-    let r = c .before .before .before .read-set .ensures in
+    let at-read-set = c .before .before .before in
+    let start = at-read-set .before .before .before in
+    let a = start .args in
+    let r = at-read-set .read-set .ensures in
     let good = not-false _ (c .before .if1 .left) in
     let fs = system (records (a .terms .now)) in
     c .judge .ensures ∙ ap (judged (a .n) fs) (r .holds good) ∙ sym (record-right (a .n) (a .terms .now) (a .set .now) (sym (r .right) ∙ good))

@@ -22,48 +22,65 @@ array-read-if1 : tie.Need-array-read-if1
 array-read-if1 c = search needs
 
 same-length : tie.Need-same-length
-same-length c = c .before .before .before .before .before .clear .kept .0
+same-length c =
+    let at-clear = c .before .before .before .before .before in
+    at-clear .clear .kept .0
 
 returns : tie.Need-returns
 returns c =
-    let a = c .before .before .before .before .before .before .before .before .before .before .args in
+    let at-clear = c .before .before .before .before .before in
+    let start = at-clear .before .before .before .before .before in
+    let a = start .args in
     let said = c .before .before .check .result in
     let v = is-verdict (a .n) (a .terms .now) (a .set .now) said (c .before .before .check .ensures) in
-    ap (outcome said) (c .before .before .before .before .before .clear .ensures) ∙ sym (wired-refused (a .n) (a .terms .now) (a .set .now) (length (a .out .now)) said v
+    ap (outcome said) (at-clear .clear .ensures) ∙ sym (wired-refused (a .n) (a .terms .now) (a .set .now) (length (a .out .now)) said v
     (λ e. c .if1 .taken (code-is _ said (c .before .numbers .ensures) ∙ e)))
 
 read-set-requires : tie.Need-read-set-requires
 read-set-requires c κs =
-    let a = c .before .before .before .before .before .before .before .before .before .before .args in
+    let start = c .before .before .before .before .before .before .before .before .before .before in
+    let a = start .args in
     let said = c .before .before .check .result in
     let zero = sym (code-is _ said (c .before .numbers .ensures)) ∙ c .if1 .left in
     done-accepted (a .n) (a .terms .now) (a .set .now) said (c .before .before .check .ensures) zero .long
 
 list-wires-requires : tie.Need-list-wires-requires
 list-wires-requires c κs =
-    let a = c .before .before .before .before .before .before .before .before .before .before .before .before .args in
-    let said = c .before .before .before .before .check .result in
-    let zero = sym (code-is _ said (c .before .before .before .numbers .ensures)) ∙ c .before .before .if1 .left in
-    let ok = done-accepted (a .n) (a .terms .now) (a .set .now) said (c .before .before .before .before .check .ensures) zero in
+    let at-numbers = c .before .before .before in
+    let at-check = at-numbers .before in
+    let at-clear = at-check .before .before .before in
+    let start = at-clear .before .before .before .before .before in
+    let a = start .args in
+    let said = at-check .check .result in
+    let zero = sym (code-is _ said (at-numbers .numbers .ensures)) ∙ c .before .before .if1 .left in
+    let ok = done-accepted (a .n) (a .terms .now) (a .set .now) said (at-check .check .ensures) zero in
     wirable (a .n) (a .terms .now) (a .set .now) _ (length (a .out .now)) (c .before .read-set .result) ok (c .before .read-set .ensures)
-    (c .before .before .before .before .before .before .before .clear .ensures)
-    (c .before .before .before .before .before .before .before .clear .kept .0)
+    (at-clear .clear .ensures)
+    (at-clear .clear .kept .0)
 
 same-length-2 : tie.Need-same-length-2
-same-length-2 c = c .before .before .list-wires .kept .1 .1 .1 .0 ∙ c .before .before .before .before .before .before .before .before .before .before .clear .kept .0
+same-length-2 c =
+    let at-clear = c .before .before .before .before .before .before .before .before .before .before in
+    c .before .before .list-wires .kept .1 .1 .1 .0 ∙ at-clear .clear .kept .0
 
 returns-2 : tie.Need-returns-2
 returns-2 c =
-    let a = c .before .before .before .before .before .before .before .before .before .before .before .before .before .before .before .args in
-    let said = c .before .before .before .before .before .before .before .check .result in
-    let zero = sym (code-is _ said (c .before .before .before .before .before .before .numbers .ensures)) ∙ c .before .before .before .before .before .if1 .left in
-    let ok = done-accepted (a .n) (a .terms .now) (a .set .now) said (c .before .before .before .before .before .before .before .check .ensures) zero in
+    let at-read-set = c .before .before .before .before in
+    let at-if1 = at-read-set .before in
+    let at-numbers = at-if1 .before in
+    let at-check = at-numbers .before in
+    let at-clear = at-check .before .before .before in
+    let start = at-clear .before .before .before .before .before in
+    let a = start .args in
+    let said = at-check .check .result in
+    let zero = sym (code-is _ said (at-numbers .numbers .ensures)) ∙ at-if1 .if1 .left in
+    let ok = done-accepted (a .n) (a .terms .now) (a .set .now) said (at-check .check .ensures) zero in
     let d = code-done said zero in
-    let v = is-verdict (a .n) (a .terms .now) (a .set .now) said (c .before .before .before .before .before .before .before .check .ensures) ∙ d .is in
+    let v = is-verdict (a .n) (a .terms .now) (a .set .now) said (at-check .check .ensures) ∙ d .is in
     c .before .before .list-wires .ensures
-    ∙ listed-as (a .n) (a .terms .now) (a .set .now) (length (a .out .now)) _ (c .before .before .before .before .read-set .result) ok
-    (c .before .before .before .before .read-set .ensures)
-    (c .before .before .before .before .before .before .before .before .before .before .clear .kept .0)
+    ∙ listed-as (a .n) (a .terms .now) (a .set .now) (length (a .out .now)) _ (at-read-set .read-set .result) ok
+    (at-read-set .read-set .ensures)
+    (at-clear .clear .kept .0)
     ∙ sym (wired-listed (a .n) (a .terms .now) (a .set .now) (length (a .out .now)) (d .order) (d .count) (d .steps) v)
 
 pub wire-spec : {M : Type 1} → statement M

@@ -62,10 +62,14 @@ cast-result c = search needs
 
 returns : tie.Need-returns
 returns c =
-    let a = c .before .before .before .before .before .before .before .before .before .before .args in
-    let low = c .before .before .before .before .before .before .before .wide in
-    let second = c .before .before .before .before .before .wide2 in
-    let third = c .before .before .before .wide3 in
+    let at-wide3 = c .before .before .before in
+    let at-wide2 = at-wide3 .before .before in
+    let at-wide = at-wide2 .before .before in
+    let start = at-wide .before .before .before in
+    let a = start .args in
+    let low = at-wide .wide in
+    let second = at-wide2 .wide2 in
+    let third = at-wide3 .wide3 in
     let high = c .before .wide4 in
     signed-low _ (c .if1 .taken) ∙ ap signed (word-of (a .b .now) (a .at) _ _ _ _ (low .ensures .0) (second .ensures .0) (third .ensures .0) (high .ensures .0))
 
@@ -80,10 +84,14 @@ sub-result c = complement-fits _ (c .if1 .left)
 
 returns-2 : tie.Need-returns-2
 returns-2 c =
-    let a = c .before .before .before .before .before .before .before .before .before .before .args in
-    let low = c .before .before .before .before .before .before .before .wide in
-    let second = c .before .before .before .before .before .wide2 in
-    let third = c .before .before .before .wide3 in
+    let at-wide3 = c .before .before .before in
+    let at-wide2 = at-wide3 .before .before in
+    let at-wide = at-wide2 .before .before in
+    let start = at-wide .before .before .before in
+    let a = start .args in
+    let low = at-wide .wide in
+    let second = at-wide2 .wide2 in
+    let third = at-wide3 .wide3 in
     let high = c .before .wide4 in
     complement-is _ (c .if1 .left) ∙ ap signed (word-of (a .b .now) (a .at) _ _ _ _ (low .ensures .0) (second .ensures .0) (third .ensures .0) (high .ensures .0))
 

@@ -10,6 +10,8 @@ use Rattle.wiring.proofs.terms.Laws.{clean-at}
 use Rattle.wiring.proofs.derivative.Records.{image-made}
 use Rattle.wiring.proofs.derivative.Bounds.{image-fits}
 use borrow.Author.Needs.{needs}
+use Rattle.monomial.specs.Monomial.{width}
+use Rattle.wiring.specs.Panel.{termExponent}
 use Rattle.wiring.proofs.derivative.image.Statement.{statement}
 use Rattle.wiring.proofs.derivative.image.Tie as tie
 
@@ -56,20 +58,22 @@ read-requires c κs = search needs
 
 times-requires : tie.Need-times-requires
 times-requires c κs =
-    let s = c .before .before .before .before .before .before in
+    let at-wide = c .before .before .before in
+    let s = at-wide .before .before .before in
     let r = recordAt (s .args .terms .now) (s .args .t) in
     let z = s .args .z .e in
     let h = clean-at (s .args .terms .now) (s .pre .0) (s .args .t) (omega arith) in
-    let made = image-made r z _ _ _ (c .before .before .before .wide .ensures .0) (c .before .of .ensures) (c .read .ensures) in
-    let six : length z ≡ 6 = search needs in
-    let fits = image-fits r 9 200 z (h .long) (h .small) six (s .pre .1 .1 .1) .1 in
+    let made = image-made r z _ _ _ (at-wide .wide .ensures .0) (c .before .of .ensures) (c .read .ensures) in
+    let six : length z ≡ width = search needs in
+    let fits = image-fits r termExponent 200 z (h .long) (h .small) six (s .pre .1 .1 .1) .1 in
     subst FitsBytes (sym made) (atMost-weaken (image r z) (omega arith) fits)
 
 returns : tie.Need-returns
 returns c =
-    let s = c .before .before .before .before .before .before .before in
+    let at-wide = c .before .before .before .before in
+    let s = at-wide .before .before .before in
     let r = recordAt (s .args .terms .now) (s .args .t) in
-    let made = image-made r (s .args .z .e) _ _ _ (c .before .before .before .before .wide .ensures .0) (c .before .before .of .ensures) (c .before .read .ensures) in
+    let made = image-made r (s .args .z .e) _ _ _ (at-wide .wide .ensures .0) (c .before .before .of .ensures) (c .before .read .ensures) in
     c .times .ensures ∙ made
 
 pub image-spec : {M : Type 1} → statement M

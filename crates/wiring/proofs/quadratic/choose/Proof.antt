@@ -5,6 +5,7 @@ use Prim.Native.Nat.{_-_}
 use native.Mathlib.Omega.{arith}
 use borrow.Author.Needs.{needs}
 use lib.ListN.{length}
+use Rattle.wiring.specs.Panel.{setExponent, mostSignals}
 use Rattle.wiring.specs.Poly.{plain}
 use Rattle.wiring.specs.Derivative.{derivative}
 use Rattle.wiring.specs.Signals.{signalsOf}
@@ -32,8 +33,8 @@ element-copy-out-z c = search needs
 choose-in-requires : tie.Need-choose-in-requires Inv-loop μ-loop
 choose-in-requires c κs =
     let s = c .before .before .before .before .before in
-    let room : length (s .args .t2 .m) ≡ 13 = search (needs, array-length) in
-    let fits = entry-fits 72 (s .args .t2 .len) (s .args .t2 .m) (c .before .before .loop .j) (omega arith) (omega arith) (s .pre .1 .1 .0) in
+    let room : length (s .args .t2 .m) ≡ mostSignals = search (needs, array-length) in
+    let fits = entry-fits setExponent (s .args .t2 .len) (s .args .t2 .m) (c .before .before .loop .j) (omega arith) (omega arith) (s .pre .1 .1 .0) in
     (s .pre .0, fits)
 
 add-j : tie.Need-add-j Inv-loop μ-loop
@@ -44,10 +45,11 @@ loop-less c = search needs
 
 loop-again : tie.Need-loop-again Inv-loop μ-loop
 loop-again c =
-    let s = c .before .before .before .before .before .before in
+    let at-loop = c .before .before .before in
+    let s = at-loop .before .before .before in
     let v = s .args .t2 in
-    let k = c .before .before .before .loop in
-    let room : length (v .m) ≡ 13 = search (needs, array-length) in
+    let k = at-loop .loop in
+    let room : length (v .m) ≡ mostSignals = search (needs, array-length) in
     let long = front-length (v .len) (v .m) (omega arith) in
     let here = front-at (v .len) (v .m) (k .j) [] (omega arith) (omega arith) in
     let more = c .choose-in .ensures (signalsOf v) in (
@@ -61,7 +63,7 @@ returns c =
     let s = c .before .before .before .before in
     let v = s .args .t2 in
     let k = c .before .loop in
-    let room : length (v .m) ≡ 13 = search (needs, array-length) in
+    let room : length (v .m) ≡ mostSignals = search (needs, array-length) in
     let long = front-length (v .len) (v .m) (omega arith) in
     choosing-ends (signalsOf v) (derivative plain (system (records (s .args .terms .now)))) (k .j) (k .best) (k .inv .1) (omega arith)
 

@@ -15,11 +15,12 @@ use Rattle.wiring.specs.Choice.{cheaper}
 use Rattle.wiring.proofs.choice.Laws.{cheap-order}
 use Rattle.wiring.proofs.quadratic.Records.{outside, passing-unmet, at-record, Meeting, meeting-start, meeting-same, meeting-more, meeting-ends}
 use borrow.Author.Needs.{needs}
+use Rattle.wiring.specs.Panel.{termBytes}
 use Rattle.wiring.proofs.quadratic.choose_in.Statement.{statement}
 use Rattle.wiring.proofs.quadratic.choose_in.Tie as tie
 
 abbrev Inv-loop : tie.InvT-loop
-Inv-loop terms z sq count best₀ t₀ best t = (count ≡ length terms / 12) × Meeting (outside (tabled sq)) (records terms) (z .e) cheap-order best₀ t best
+Inv-loop terms z sq count best₀ t₀ best t = (count ≡ length terms / termBytes) × Meeting (outside (tabled sq)) (records terms) (z .e) cheap-order best₀ t best
 
 abbrev μ-loop : tie.MeasureT-loop
 μ-loop terms z sq count best₀ t₀ best t = count - t
@@ -27,8 +28,8 @@ abbrev μ-loop : tie.MeasureT-loop
 loop-holds : tie.Need-loop-holds Inv-loop μ-loop
 loop-holds c = (refl, meeting-start _ _ _ cheap-order _)
 
-missing-requires : tie.Need-missing-requires Inv-loop μ-loop
-missing-requires c κs =
+nonsquare-of-requires : tie.Need-nonsquare-of-requires Inv-loop μ-loop
+nonsquare-of-requires c κs =
     let s = c .before .before .before .before in
     (s .pre .0, (omega arith, s .pre .1))
 
@@ -43,16 +44,18 @@ loop-less c = search needs
 
 loop-again : tie.Need-loop-again Inv-loop μ-loop
 loop-again c =
-    let a = c .before .before .before .before .before .before .args in
+    let at-loop = c .before .before .before in
+    let start = at-loop .before .before .before in
+    let a = start .args in
     let l = a .terms .now in
-    let k = c .before .before .before .loop in
+    let k = at-loop .loop in
     let f = offers (outside (tabled (a .sq .now))) (system (records l)) (a .z .e) in
-    let told = at-record f l (k .t) (omega arith) ∙ sym (c .before .missing .ensures .told) in
+    let told = at-record f l (k .t) (omega arith) ∙ sym (c .before .nonsquare-of .ensures .told) in
     let few : k .t < length (records l) = omega (arith, records-length l) in (
       k .inv .0,
       ⊎-elim
           (λ w.
-          let same-image = at-record (λ r. image r (a .z .e)) l (k .t) (omega arith) ∙ sym (c .before .missing .ensures .is (w .0 .taken)) in
+          let same-image = at-record (λ r. image r (a .z .e)) l (k .t) (omega arith) ∙ sym (c .before .nonsquare-of .ensures .is (w .0 .taken)) in
           rw (w .2)
           (meeting-more (outside (tabled (a .sq .now))) (records l) (a .z .e) cheap-order _ (k .t) (k .best) _ (recordAt l (k .t)) (k .inv .1) few (told ∙ w .0 .taken)
           (λ m b. rw same-image (w .1 .ensures m b))))
@@ -77,7 +80,7 @@ choose-in-spec =
     Inv-loop
     μ-loop
     loop-holds
-    missing-requires
+    nonsquare-of-requires
     cheapest-requires
     add-t
     loop-less

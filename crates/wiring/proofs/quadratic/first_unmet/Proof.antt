@@ -9,6 +9,7 @@ use lib.ListN.{length}
 use Rattle.monomial.specs.Lists.{some}
 use Rattle.monomial.specs.Monomial.{Mono}
 use Rattle.monomial.proofs.Loops.{Placing, placing-start, placing-found, placing-on, placing-ends}
+use Rattle.wiring.specs.Panel.{setExponent, mostSignals}
 use Rattle.wiring.specs.Poly.{plain}
 use Rattle.wiring.specs.Derivative.{derivative}
 use Rattle.wiring.specs.Quadratic.{unmet}
@@ -40,16 +41,17 @@ element-copy-out-z c = search needs
 has-nonsquare-requires : tie.Need-has-nonsquare-requires Inv-loop μ-loop
 has-nonsquare-requires c κs =
     let s = c .before .before .before .before .before in
-    let room : length (s .args .t2 .m) ≡ 13 = search (needs, array-length) in
-    let fits = entry-fits 72 (s .args .t2 .len) (s .args .t2 .m) (c .before .before .loop .j) (omega arith) (omega arith) (s .pre .1 .1 .1 .0) in
+    let room : length (s .args .t2 .m) ≡ mostSignals = search (needs, array-length) in
+    let fits = entry-fits setExponent (s .args .t2 .len) (s .args .t2 .m) (c .before .before .loop .j) (omega arith) (omega arith) (s .pre .1 .1 .1 .0) in
     (s .pre .0, fits)
 
 returns : tie.Need-returns Inv-loop μ-loop
 returns c =
-    let s = c .before .before .before .before .before .before .before in
+    let at-loop = c .before .before .before .before in
+    let s = at-loop .before .before .before in
     let v = s .args .t2 in
-    let k = c .before .before .before .before .loop in
-    let room : length (v .m) ≡ 13 = search (needs, array-length) in
+    let k = at-loop .loop in
+    let room : length (v .m) ≡ mostSignals = search (needs, array-length) in
     let f = bad (s .args .terms .now) (signalsOf v) in
     let long = front-length (v .len) (v .m) (omega arith) in
     let here = ap f (front-at (v .len) (v .m) (k .j) [] (omega arith) (omega arith)) ∙ sym (c .before .has-nonsquare .ensures (signalsOf v) (s .pre .1 .1 .1 .1)) ∙ c .if1 .taken in
@@ -63,10 +65,11 @@ loop-less c = search needs
 
 loop-again : tie.Need-loop-again Inv-loop μ-loop
 loop-again c =
-    let s = c .before .before .before .before .before .before .before in
+    let at-loop = c .before .before .before .before in
+    let s = at-loop .before .before .before in
     let v = s .args .t2 in
-    let k = c .before .before .before .before .loop in
-    let room : length (v .m) ≡ 13 = search (needs, array-length) in
+    let k = at-loop .loop in
+    let room : length (v .m) ≡ mostSignals = search (needs, array-length) in
     let f = bad (s .args .terms .now) (signalsOf v) in
     let long = front-length (v .len) (v .m) (omega arith) in
     let not-here = ap f (front-at (v .len) (v .m) (k .j) [] (omega arith) (omega arith)) ∙ sym
@@ -78,7 +81,7 @@ returns-2 c =
     let s = c .before .before .before .before in
     let v = s .args .t2 in
     let k = c .before .loop in
-    let room : length (v .m) ≡ 13 = search (needs, array-length) in
+    let room : length (v .m) ≡ mostSignals = search (needs, array-length) in
     let f = bad (s .args .terms .now) (signalsOf v) in
     let long = front-length (v .len) (v .m) (omega arith) in
     k .inv .0 ∙ sym long ∙ sym (placing-ends f (k .inv .1) (omega arith))

@@ -10,11 +10,12 @@ use Rattle.wiring.specs.Terms.{recordAt, records, system}
 use Rattle.wiring.proofs.terms.Laws.{records-length}
 use Rattle.wiring.proofs.quadratic.Records.{outside, found-unmet, at-record}
 use borrow.Author.Needs.{needs}
+use Rattle.wiring.specs.Panel.{termBytes}
 use Rattle.wiring.proofs.quadratic.has_nonsquare.Statement.{statement}
 use Rattle.wiring.proofs.quadratic.has_nonsquare.Tie as tie
 
 abbrev Inv-loop : tie.InvT-loop
-Inv-loop terms z sq count t₀ t = (count ≡ length terms / 12) × Seeking (offers (outside (tabled sq)) (system (records terms)) (z .e)) (records terms) t
+Inv-loop terms z sq count t₀ t = (count ≡ length terms / termBytes) × Seeking (offers (outside (tabled sq)) (system (records terms)) (z .e)) (records terms) t
 
 abbrev μ-loop : tie.MeasureT-loop
 μ-loop terms z sq count t₀ t = count - t
@@ -24,18 +25,20 @@ loop-holds c =
     let l = c .before .before .args .terms .now in
     (refl, seeking-start _ (records l))
 
-missing-requires : tie.Need-missing-requires Inv-loop μ-loop
-missing-requires c κs =
+nonsquare-of-requires : tie.Need-nonsquare-of-requires Inv-loop μ-loop
+nonsquare-of-requires c κs =
     let s = c .before .before .before .before in
     (s .pre .0, (omega arith, s .pre .1))
 
 returns : tie.Need-returns Inv-loop μ-loop
 returns c =
-    let a = c .before .before .before .before .before .before .args in
+    let at-loop = c .before .before .before in
+    let start = at-loop .before .before .before in
+    let a = start .args in
     let l = a .terms .now in
-    let k = c .before .before .before .loop in
+    let k = at-loop .loop in
     let f = offers (outside (tabled (a .sq .now))) (system (records l)) (a .z .e) in
-    let here = at-record f l (k .t) (omega arith) ∙ sym (c .before .missing .ensures .told) ∙ c .if1 .taken in
+    let here = at-record f l (k .t) (omega arith) ∙ sym (c .before .nonsquare-of .ensures .told) ∙ c .if1 .taken in
     λ v e. seeking-found f (recordAt l (k .t)) (k .inv .1) (omega (arith, records-length l)) here ∙ found-unmet (tabled (a .sq .now)) v (records l) (a .z .e) e
 
 add-t : tie.Need-add-t Inv-loop μ-loop
@@ -46,11 +49,13 @@ loop-less c = search needs
 
 loop-again : tie.Need-loop-again Inv-loop μ-loop
 loop-again c =
-    let a = c .before .before .before .before .before .before .args in
+    let at-loop = c .before .before .before in
+    let start = at-loop .before .before .before in
+    let a = start .args in
     let l = a .terms .now in
-    let k = c .before .before .before .loop in
+    let k = at-loop .loop in
     let f = offers (outside (tabled (a .sq .now))) (system (records l)) (a .z .e) in
-    let not-here = at-record f l (k .t) (omega arith) ∙ sym (c .before .missing .ensures .told) ∙ c .if1 .left in
+    let not-here = at-record f l (k .t) (omega arith) ∙ sym (c .before .nonsquare-of .ensures .told) ∙ c .if1 .left in
     (k .inv .0, seeking-on f (recordAt l (k .t)) (k .inv .1) (omega (arith, records-length l)) not-here)
 
 returns-2 : tie.Need-returns-2 Inv-loop μ-loop
@@ -68,7 +73,7 @@ has-nonsquare-spec =
     Inv-loop
     μ-loop
     loop-holds
-    missing-requires
+    nonsquare-of-requires
     returns
     add-t
     loop-less

@@ -37,8 +37,10 @@ before-requires c κs = search needs
 
 returns : tie.Need-returns Inv-loop μ-loop
 returns c =
+    let at-read = c .before .before .before in
+    let at-loop = at-read .before .before in
     let test = sym (c .before .before2 .ensures) ∙ not-true _ (c .if1 .taken) in
-    neighbouring-fails (c .before .before .before .before .before .loop .inv) (omega arith) _ _ (c .before .before .before .read .ensures) (c .before .before .read2 .ensures) test
+    neighbouring-fails (at-loop .loop .inv) (omega arith) _ _ (at-read .read .ensures) (c .before .before .read2 .ensures) test
 
 add-i : tie.Need-add-i Inv-loop μ-loop
 add-i c = search needs
@@ -48,8 +50,10 @@ loop-less c = search needs
 
 loop-again : tie.Need-loop-again Inv-loop μ-loop
 loop-again c =
+    let at-read = c .before .before .before in
+    let at-loop = at-read .before .before in
     let test = sym (c .before .before2 .ensures) ∙ not-false _ (c .if1 .left) in
-    neighbouring-on (c .before .before .before .before .before .loop .inv) (omega arith) _ _ (c .before .before .before .read .ensures) (c .before .before .read2 .ensures) test
+    neighbouring-on (at-loop .loop .inv) (omega arith) _ _ (at-read .read .ensures) (c .before .before .read2 .ensures) test
 
 returns-2 : tie.Need-returns-2 Inv-loop μ-loop
 returns-2 c = neighbouring-ends (c .before .loop .inv) (omega arith)

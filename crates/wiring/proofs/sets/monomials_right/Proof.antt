@@ -32,11 +32,13 @@ monomial-right-requires c κs = search needs
 
 returns : tie.Need-returns Inv-loop μ-loop
 returns c =
-    let a = c .before .before .before .before .before .before .args in
-    let i = c .before .before .before .before .loop .i in
+    let at-loop = c .before .before .before .before in
+    let start = at-loop .before .before in
+    let a = start .args in
+    let i = at-loop .loop .i in
     let place = used-at (a .s .now) (a .len) (omega arith) i [] (omega arith) ∙ sym (c .before .before .read .ensures) in
     let test = ap (monomialRight (a .n)) place ∙ sym (c .before .monomial-right .ensures) in
-    checking-fails _ [] (c .before .before .before .before .loop .inv) (omega (arith, used-length (a .s .now) (a .len) (omega arith))) (test ∙ not-true _ (c .if1 .taken))
+    checking-fails _ [] (at-loop .loop .inv) (omega (arith, used-length (a .s .now) (a .len) (omega arith))) (test ∙ not-true _ (c .if1 .taken))
 
 add-i : tie.Need-add-i Inv-loop μ-loop
 add-i c = search needs
@@ -46,11 +48,13 @@ loop-less c = search needs
 
 loop-again : tie.Need-loop-again Inv-loop μ-loop
 loop-again c =
-    let a = c .before .before .before .before .before .before .args in
-    let i = c .before .before .before .before .loop .i in
+    let at-loop = c .before .before .before .before in
+    let start = at-loop .before .before in
+    let a = start .args in
+    let i = at-loop .loop .i in
     let place = used-at (a .s .now) (a .len) (omega arith) i [] (omega arith) ∙ sym (c .before .before .read .ensures) in
     let test = ap (monomialRight (a .n)) place ∙ sym (c .before .monomial-right .ensures) in
-    checking-on _ [] (c .before .before .before .before .loop .inv) (omega (arith, used-length (a .s .now) (a .len) (omega arith))) (test ∙ not-false _ (c .if1 .left))
+    checking-on _ [] (at-loop .loop .inv) (omega (arith, used-length (a .s .now) (a .len) (omega arith))) (test ∙ not-false _ (c .if1 .left))
 
 returns-2 : tie.Need-returns-2 Inv-loop μ-loop
 returns-2 c =

@@ -25,16 +25,20 @@ ascends-requires c κs = search needs
 
 returns-2 : tie.Need-returns-2
 returns-2 c =
-    let a = c .before .before .before .before .before .before .args in
-    refused-order (a .n) (a .s .now) _ (c .before .before .before .before .size-of .ensures .0) _ refl refl (sym (c .before .ascends .ensures) ∙ not-true _ (c .if2 .taken))
+    let at-size-of = c .before .before .before .before in
+    let start = at-size-of .before .before in
+    let a = start .args in
+    refused-order (a .n) (a .s .now) _ (at-size-of .size-of .ensures .0) _ refl refl (sym (c .before .ascends .ensures) ∙ not-true _ (c .if2 .taken))
 
 monomials-right-requires : tie.Need-monomials-right-requires
 monomials-right-requires c κs = search needs
 
 returns-3 : tie.Need-returns-3
 returns-3 c =
-    let a = c .before .before .before .before .before .before .before .before .args in
-    let size = c .before .before .before .before .before .before .size-of .ensures .0 in
+    let at-size-of = c .before .before .before .before .before .before in
+    let start = at-size-of .before .before in
+    let a = start .args in
+    let size = at-size-of .size-of .ensures .0 in
     refused-monomial (a .n) (a .s .now) _ size _ refl refl (sym (c .before .monomials-right .ensures) ∙ not-true _ (c .if3 .taken))
 
 set-of-requires : tie.Need-set-of-requires
@@ -42,10 +46,16 @@ set-of-requires c κs = search needs
 
 returns-4 : tie.Need-returns-4
 returns-4 c =
-    let a = c .before .before .before .before .before .before .before .before .before .args in
-    let size = c .before .before .before .before .before .before .before .size-of .ensures in
-    let zeros = sym (c .before .before .before .before .before .before .zero-from .ensures) ∙ not-false _ (c .before .before .before .before .before .if1 .left) in
-    let order = sym (c .before .before .before .before .ascends .ensures) ∙ not-false _ (c .before .before .before .if2 .left) in
+    let at-if2 = c .before .before .before in
+    let at-ascends = at-if2 .before in
+    let at-if1 = at-ascends .before in
+    let at-zero-from = at-if1 .before in
+    let at-size-of = at-zero-from .before in
+    let start = at-size-of .before .before in
+    let a = start .args in
+    let size = at-size-of .size-of .ensures in
+    let zeros = sym (at-zero-from .zero-from .ensures) ∙ not-false _ (at-if1 .if1 .left) in
+    let order = sym (at-ascends .ascends .ensures) ∙ not-false _ (at-if2 .if2 .left) in
     let each = sym (c .before .before .monomials-right .ensures) ∙ not-false _ (c .before .if3 .left) in
     accepted (a .n) (a .s .now) _ (size .0) zeros order each _ refl (size .1) (c .set-of .ensures .0) (c .set-of .ensures .1)
 

@@ -9,11 +9,12 @@ use Rattle.wiring.specs.Sets.{places}
 use Rattle.wiring.proofs.signals.Laws.{Copying, writing-start, copying-next, copying-end}
 use Rattle.wiring.proofs.sets.Laws.{used-length, used-at}
 use borrow.Author.Needs.{needs}
+use Rattle.wiring.specs.Panel.{cards}
 use Rattle.wiring.proofs.sets.set_of.Statement.{statement}
 use Rattle.wiring.proofs.sets.set_of.Tie as tie
 
 abbrev Inv-loop : tie.InvT-loop
-Inv-loop s len m₀ i₀ m i = (i ≤ len) × Copying 6 (take len (places s)) m i
+Inv-loop s len m₀ i₀ m i = (i ≤ len) × Copying cards (take len (places s)) m i
 
 abbrev μ-loop : tie.MeasureT-loop
 μ-loop s len m₀ i₀ m i = len - i
@@ -21,7 +22,7 @@ abbrev μ-loop : tie.MeasureT-loop
 loop-holds : tie.Need-loop-holds Inv-loop μ-loop
 loop-holds c =
     let a = c .before .args in
-    (omega arith, writing-start 6 _ _ refl (omega (arith, used-length (a .s .now) (a .len) (omega arith))))
+    (omega arith, writing-start cards _ _ refl (omega (arith, used-length (a .s .now) (a .len) (omega arith))))
 
 mul-read : tie.Need-mul-read Inv-loop μ-loop
 mul-read c = search needs

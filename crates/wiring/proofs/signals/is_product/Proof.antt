@@ -8,11 +8,12 @@ use Rattle.monomial.proofs.Loops.{Seeking, seeking-start}
 use Rattle.wiring.specs.Signals.{tabled}
 use Rattle.wiring.proofs.signals.Laws.{tabled-found, tabled-on, tabled-ends}
 use borrow.Author.Needs.{needs}
+use Rattle.monomial.specs.Monomial.{width}
 use Rattle.wiring.proofs.signals.is_product.Statement.{statement}
 use Rattle.wiring.proofs.signals.is_product.Tie as tie
 
 abbrev Inv-loop : tie.InvT-loop
-Inv-loop table m count i₀ i = (count ≡ length table / 6) × Seeking (same (m .e)) (tabled table) i
+Inv-loop table m count i₀ i = (count ≡ length table / width) × Seeking (same (m .e)) (tabled table) i
 
 abbrev μ-loop : tie.MeasureT-loop
 μ-loop table m count i₀ i = count - i
@@ -31,8 +32,10 @@ same-requires c κs = search needs
 
 returns : tie.Need-returns Inv-loop μ-loop
 returns c =
-    let a = c .before .before .before .before .before .before .args in
-    let k = c .before .before .before .before .loop in
+    let at-loop = c .before .before .before .before in
+    let start = at-loop .before .before in
+    let a = start .args in
+    let k = at-loop .loop in
     let here = ap (same (a .m .e)) (sym (c .before .before .read .ensures)) ∙ sym (c .before .same .ensures) ∙ c .if1 .taken in
     tabled-found (same (a .m .e)) (a .table .now) (k .inv .1) (omega arith) here
 
@@ -44,8 +47,10 @@ loop-less c = search needs
 
 loop-again : tie.Need-loop-again Inv-loop μ-loop
 loop-again c =
-    let a = c .before .before .before .before .before .before .args in
-    let k = c .before .before .before .before .loop in
+    let at-loop = c .before .before .before .before in
+    let start = at-loop .before .before in
+    let a = start .args in
+    let k = at-loop .loop in
     let not-here = ap (same (a .m .e)) (sym (c .before .before .read .ensures)) ∙ sym (c .before .same .ensures) ∙ c .if1 .left in
     (k .inv .0, tabled-on (same (a .m .e)) (a .table .now) (k .inv .1) (omega arith) not-here)
 

@@ -6,6 +6,7 @@ use lib.ListN.{length}
 use Rattle.monomial.specs.Order.{same}
 use Rattle.wiring.proofs.signals.Laws.{array-length, Searching, searching-start, searching-found, searching-on, searching-ends}
 use borrow.Author.Needs.{needs}
+use Rattle.wiring.specs.Panel.{mostSignals}
 use Rattle.wiring.proofs.signals.is_signal.Statement.{statement}
 use Rattle.wiring.proofs.signals.is_signal.Tie as tie
 
@@ -17,7 +18,7 @@ abbrev μ-loop : tie.MeasureT-loop
 
 loop-holds : tie.Need-loop-holds Inv-loop μ-loop
 loop-holds c =
-    let l : length (c .args .t1 .m) ≡ 13 = search (needs, array-length) in
+    let l : length (c .args .t1 .m) ≡ mostSignals = search (needs, array-length) in
     searching-start _ _ _ (omega arith)
 
 mul-x : tie.Need-mul-x Inv-loop μ-loop

@@ -52,7 +52,8 @@ write-requires c κs = row-room (c .before .before .before .before .loop2 .inv .
 
 add-at : tie.Need-add-at Inv-loop2 μ-loop2 Inv-loop μ-loop
 add-at c =
-    let h = row-within (c .before .before .before .before .before .before .before .loop2 .inv .1) in
+    let at-loop2 = c .before .before .before .before .before .before .before in
+    let h = row-within (at-loop2 .loop2 .inv .1) in
     search needs
 
 add-b : tie.Need-add-b Inv-loop2 μ-loop2 Inv-loop μ-loop
@@ -63,8 +64,10 @@ loop2-less c = search needs
 
 loop2-again : tie.Need-loop2-again Inv-loop2 μ-loop2 Inv-loop μ-loop
 loop2-again c =
-    let k = c .before .before .before .before .before .before .before .loop2 in
-    let product = c .before .before .before .before .times in
+    let at-times = c .before .before .before .before in
+    let at-loop2 = at-times .before .before .before in
+    let k = at-loop2 .loop2 in
+    let product = at-times .times in
     let w = c .before .before .write in
     (w .kept .1 .0 ∙ k .inv .0, row-put (k .inv .1) (product .result .e) (omega arith) (product .ensures) _ (w .ensures))
 

@@ -4,17 +4,18 @@ use Prim.Native.Nat.{_-_}
 use native.Mathlib.Omega.{arith}
 use Rattle.wiring.proofs.terms.Laws.{Fitting, fitting-start, fitting-fails, fitting-on, fitting-ends}
 use borrow.Author.Needs.{needs}
+use Rattle.monomial.specs.Monomial.{width}
 use Rattle.wiring.proofs.terms.exponents_right.Statement.{statement}
 use Rattle.wiring.proofs.terms.exponents_right.Tie as tie
 
 abbrev Inv-loop : tie.InvT-loop
-Inv-loop most n e i₀ i = Fitting 6 most n e i
+Inv-loop most n e i₀ i = Fitting width most n e i
 
 abbrev μ-loop : tie.MeasureT-loop
-μ-loop most n e i₀ i = 6 - i
+μ-loop most n e i₀ i = width - i
 
 loop-holds : tie.Need-loop-holds Inv-loop μ-loop
-loop-holds c = fitting-start 6 _ _ _ (search needs)
+loop-holds c = fitting-start width _ _ _ (search needs)
 
 array-read-if1 : tie.Need-array-read-if1 Inv-loop μ-loop
 array-read-if1 c = search needs

@@ -8,6 +8,7 @@ use Rattle.monomial.proofs.Tests.{is→nT}
 use Rattle.wiring.specs.Terms.{recordAt, exponentsRight, coefficientRight}
 use Rattle.wiring.proofs.terms.Laws.{right-fails, right-last}
 use borrow.Author.Needs.{needs}
+use Rattle.wiring.specs.Panel.{termExponent}
 use Rattle.wiring.proofs.terms.term_right.Statement.{statement}
 use Rattle.wiring.proofs.terms.term_right.Tie as tie
 
@@ -27,7 +28,8 @@ returns c =
 
 returns-2 : tie.Need-returns-2
 returns-2 c =
-    let a = c .before .before .before .before .before .args in
+    let start = c .before .before .before .before .before in
+    let a = start .args in
     right-fails (a .n) (recordAt (a .terms .now) (a .t)) (λ f. omega (arith, f .high, c .before .before .wide .ensures .0))
 
 add-if3 : tie.Need-add-if3
@@ -38,7 +40,8 @@ shared-slice-read-if3 c = search needs
 
 returns-3 : tie.Need-returns-3
 returns-3 c =
-    let a = c .before .before .before .before .before .before .before .args in
+    let start = c .before .before .before .before .before .before .before in
+    let a = start .args in
     right-fails (a .n) (recordAt (a .terms .now) (a .t)) (λ f. c .if3 .taken (f .blank))
 
 add-read : tie.Need-add-read
@@ -52,10 +55,11 @@ exponents-right-requires c κs = search needs
 
 returns-4 : tie.Need-returns-4
 returns-4 c =
-    let a = c .before .before .before .before .before .before .before .before .before .before .args in
-    let m = ap (exponentsRight 9 (a .n)) (c .before .before .read .ensures) in
+    let start = c .before .before .before .before .before .before .before .before .before .before in
+    let a = start .args in
+    let m = ap (exponentsRight termExponent (a .n)) (c .before .before .read .ensures) in
     let no = sym m ∙ sym (c .before .exponents-right .ensures) ∙ not-true _ (c .if4 .taken) in
-    right-fails (a .n) (recordAt (a .terms .now) (a .t)) (λ f. is→nT (exponentsRight 9 (a .n) (recordAt (a .terms .now) (a .t) .monomial)) no (f .exponents))
+    right-fails (a .n) (recordAt (a .terms .now) (a .t)) (λ f. is→nT (exponentsRight termExponent (a .n) (recordAt (a .terms .now) (a .t) .monomial)) no (f .exponents))
 
 add-decode : tie.Need-add-decode
 add-decode c = search needs
@@ -68,11 +72,13 @@ coefficient-right-requires c κs = search needs
 
 returns-5 : tie.Need-returns-5
 returns-5 c =
-    let k = c .before .before .before .before .before in
+    let at-exponents-right = c .before .before .before in
+    let at-read = at-exponents-right .before in
+    let k = at-read .before in
     let w = k .before .before .before .before in
     let a = w .before .before .before .args in
-    let yes = sym (ap (exponentsRight 9 (a .n)) (c .before .before .before .before .read .ensures)) ∙ sym
-    (c .before .before .before .exponents-right .ensures) ∙ not-false _ (c .before .before .if4 .left) in
+    let yes = sym (ap (exponentsRight termExponent (a .n)) (at-read .read .ensures)) ∙ sym
+    (at-exponents-right .exponents-right .ensures) ∙ not-false _ (c .before .before .if4 .left) in
     let whole = right-last (a .n) (recordAt (a .terms .now) (a .t)) _ (w .wide .ensures .0) (k .before .before .before .if1 .left) (k .before .before .if2 .left) (k .if3 .left) yes in
     c .coefficient-right .ensures ∙ ap coefficientRight (toZ-ofZ w32 _ (record { sfits = c .before .decode .ok }) ∙ c .before .decode .ensures) ∙ whole
 

@@ -37,12 +37,15 @@ is-beyond-requires c κs = search needs
 
 returns-2 : tie.Need-returns-2
 returns-2 c =
-    let a = c .before .before .before .before .before .before .args in
+    let at-if1 = c .before .before .before in
+    let at-power = at-if1 .before in
+    let start = at-power .before .before in
+    let a = start .args in
     let l = a .terms .now in
-    let x = c .before .before .before .before .power in
+    let x = at-power .power in
     let m = c .before .before .image in
     offered-fails (beyond (a .last)) (system (records l)) (a .z .e) (recordAt l (a .t)) (x .result) (m .result .e) (x .ensures)
-    (c .before .before .before .if1 .left) (m .ensures) _ (sym (c .before .is-beyond .ensures) ∙ not-true _ (c .if2 .taken)) refl
+    (at-if1 .if1 .left) (m .ensures) _ (sym (c .before .is-beyond .ensures) ∙ not-true _ (c .if2 .taken)) refl
 
 total-requires : tie.Need-total-requires
 total-requires c κs =
@@ -54,29 +57,41 @@ is-zero-requires c κs = search needs
 
 returns-3 : tie.Need-returns-3
 returns-3 c =
-    let a = c .before .before .before .before .before .before .before .before .before .args in
+    let at-if2 = c .before .before .before in
+    let at-is-beyond = at-if2 .before in
+    let at-image = at-is-beyond .before in
+    let at-if1 = at-image .before in
+    let at-power = at-if1 .before in
+    let start = at-power .before .before in
+    let a = start .args in
     let l = a .terms .now in
-    let x = c .before .before .before .before .before .before .before .power in
-    let m = c .before .before .before .before .before .image in
+    let x = at-power .power in
+    let m = at-image .image in
     let sum = c .before .before .total in
     let same-sum = toZ-ofZ w32 (sum .result) (sfits-of (sum .ok)) in
     let zero = ap isZero (sym (sum .ensures) ∙ sym same-sum) ∙ sym (c .before .is-zero .ensures) ∙ c .if3 .taken in
     offered-zero (beyond (a .last)) (system (records l)) (a .z .e) (recordAt l (a .t)) (x .result) (m .result .e) (x .ensures)
-    (c .before .before .before .before .before .before .if1 .left) (m .ensures) _
-    (sym (c .before .before .before .before .is-beyond .ensures) ∙ not-false _ (c .before .before .before .if2 .left)) zero refl
+    (at-if1 .if1 .left) (m .ensures) _
+    (sym (at-is-beyond .is-beyond .ensures) ∙ not-false _ (at-if2 .if2 .left)) zero refl
 
 returns-4 : tie.Need-returns-4
 returns-4 c =
-    let a = c .before .before .before .before .before .before .before .before .before .args in
+    let at-if2 = c .before .before .before in
+    let at-is-beyond = at-if2 .before in
+    let at-image = at-is-beyond .before in
+    let at-if1 = at-image .before in
+    let at-power = at-if1 .before in
+    let start = at-power .before .before in
+    let a = start .args in
     let l = a .terms .now in
-    let x = c .before .before .before .before .before .before .before .power in
-    let m = c .before .before .before .before .before .image in
+    let x = at-power .power in
+    let m = at-image .image in
     let sum = c .before .before .total in
     let same-sum = toZ-ofZ w32 (sum .result) (sfits-of (sum .ok)) in
     let other = ap isZero (sym (sum .ensures) ∙ sym same-sum) ∙ sym (c .before .is-zero .ensures) ∙ c .if3 .left in
     offered-here (beyond (a .last)) (system (records l)) (a .z .e) (recordAt l (a .t)) (x .result) (m .result .e) (x .ensures)
-    (c .before .before .before .before .before .before .if1 .left) (m .ensures) _
-    (sym (c .before .before .before .before .is-beyond .ensures) ∙ not-false _ (c .before .before .before .if2 .left)) other refl refl
+    (at-if1 .if1 .left) (m .ensures) _
+    (sym (at-is-beyond .is-beyond .ensures) ∙ not-false _ (at-if2 .if2 .left)) other refl refl
 
 pub following-spec : {M : Type 1} → statement M
 following-spec =

@@ -11,11 +11,12 @@ use Rattle.monomial.proofs.order.Laws.{mono-order}
 use Rattle.wiring.specs.Choice.{beyond}
 use Rattle.wiring.proofs.quadratic.Records.{at-record, Meeting, meeting-start, meeting-same, meeting-more, meeting-heads}
 use borrow.Author.Needs.{needs}
+use Rattle.wiring.specs.Panel.{termBytes}
 use Rattle.wiring.proofs.wires.next_monomial.Statement.{statement}
 use Rattle.wiring.proofs.wires.next_monomial.Tie as tie
 
 abbrev Inv-loop : tie.InvT-loop
-Inv-loop terms z last count best₀ t₀ best t = (count ≡ length terms / 12) × Meeting (beyond last) (records terms) (z .e) mono-order best₀ t best
+Inv-loop terms z last count best₀ t₀ best t = (count ≡ length terms / termBytes) × Meeting (beyond last) (records terms) (z .e) mono-order best₀ t best
 
 abbrev μ-loop : tie.MeasureT-loop
 μ-loop terms z last count best₀ t₀ best t = count - t
@@ -39,9 +40,11 @@ loop-less c = search needs
 
 loop-again : tie.Need-loop-again Inv-loop μ-loop
 loop-again c =
-    let a = c .before .before .before .before .before .args in
+    let at-loop = c .before .before .before in
+    let start = at-loop .before .before in
+    let a = start .args in
     let l = a .terms .now in
-    let k = c .before .before .before .loop in
+    let k = at-loop .loop in
     let f = offers (beyond (a .last)) (system (records l)) (a .z .e) in
     let told = at-record f l (k .t) (omega arith) ∙ sym (c .before .following .ensures .told) in
     let few : k .t < length (records l) = omega (arith, records-length l) in (

@@ -9,6 +9,7 @@ use Rattle.monomial.specs.Monomial.{Mono}
 use Rattle.monomial.specs.Order.{same}
 use Rattle.monomial.specs.Product.{mul}
 use Rattle.monomial.proofs.Loops.{Placing, placing-start, placing-on}
+use Rattle.wiring.specs.Panel.{mostSignals}
 use Rattle.wiring.specs.declared.signals.Signals.{Signals}
 use Rattle.wiring.specs.Signals.{signalsOf}
 use Rattle.wiring.proofs.signals.Laws.{array-length, front-length, front-at, product-of-two}
@@ -30,7 +31,7 @@ abbrev μ-found : tie.MeasureT-found
 μ-found m v len r₀ a₀ r a = len - a
 
 -- The places in a scope of their own: `omega` reads all that is in sight, and at a need that is much.
-module _ (v : Signals) (room : length (v .m) ≡ 13) (fits : v .len ≤ 13) where
+module _ (v : Signals) (room : length (v .m) ≡ mostSignals) (fits : v .len ≤ mostSignals) where
   long : length (signalsOf v) ≡ v .len
   long = front-length (v .len) (v .m) (omega arith)
 
@@ -43,7 +44,7 @@ module _ (v : Signals) (room : length (v .m) ≡ 13) (fits : v .len ≤ 13) wher
   beyond : (i : ℕ) → v .len ≤ i → length (signalsOf v) ≤ i
   beyond i h = omega (arith, long)
 
-  small : (i : ℕ) → i < v .len → i < 13
+  small : (i : ℕ) → i < v .len → i < mostSignals
   small i h = omega arith
 
 found-holds : tie.Need-found-holds Inv-loop μ-loop Inv-found μ-found
@@ -60,7 +61,7 @@ loop-holds c =
     let s = c .before .before .before in
     let v = s .args .t1 in
     let k = c .before .before .found in
-    let room : length (v .m) ≡ 13 = search (needs, array-length) in
+    let room : length (v .m) ≡ mostSignals = search (needs, array-length) in
     let ha : k .a < v .len = omega arith in
     (k .inv .0, (omega arith, (sym (at v room (s .pre .0) (k .a) ha), (k .inv .1, row-start (signalsOf v) (s .args .m .e) (k .a) (within v room (s .pre .0) (k .a) ha) (k .inv .1)))))
 
@@ -72,11 +73,12 @@ element-copy-out-y c = search needs
 
 times-requires : tie.Need-times-requires Inv-loop μ-loop Inv-found μ-found
 times-requires c κs =
-    let s = c .before .before .before .before .before .before in
+    let at-found = c .before .before .before .before .before in
+    let s = at-found .before in
     let v = s .args .t1 in
     let k = c .before .before .loop in
-    let room : length (v .m) ≡ 13 = search (needs, array-length) in
-    let a = c .before .before .before .before .before .found .a in
+    let room : length (v .m) ≡ mostSignals = search (needs, array-length) in
+    let a = at-found .found .a in
     let ha : a < v .len = rw (k .inv .0) at (k .inv .1 .0) in
     let hb : k .b < v .len = omega arith in
     rw (k .inv .1 .1 .0, ← at v room (s .pre .0) (k .b) hb) (product-of-two (signalsOf v) a (k .b) [] (s .pre .1 .0) (within v room (s .pre .0) a ha) (within v room (s .pre .0) (k .b) hb))
@@ -92,11 +94,13 @@ loop-less c = search needs
 
 loop-again : tie.Need-loop-again Inv-loop μ-loop Inv-found μ-found
 loop-again c =
-    let s = c .before .before .before .before .before .before .before .before .before in
+    let at-loop = c .before .before .before .before .before in
+    let at-found = at-loop .before .before .before in
+    let s = at-found .before in
     let v = s .args .t1 in
-    let o = c .before .before .before .before .before .before .before .before .found in
-    let k = c .before .before .before .before .before .loop in
-    let room : length (v .m) ≡ 13 = search (needs, array-length) in
+    let o = at-found .found in
+    let k = at-loop .loop in
+    let room : length (v .m) ≡ mostSignals = search (needs, array-length) in
     let hb : k .b < v .len = omega arith in
     let at-b = at v room (s .pre .0) (k .b) hb in
     let product = c .before .before .times .ensures ∙ ap₂ mul (k .inv .1 .1 .0) (sym at-b) in
@@ -112,11 +116,12 @@ found-less c = search needs
 
 found-again : tie.Need-found-again Inv-loop μ-loop Inv-found μ-found
 found-again c =
-    let s = c .before .before .before .before .before in
+    let at-found = c .before .before .before .before in
+    let s = at-found .before in
     let v = s .args .t1 in
-    let o = c .before .before .before .before .found in
+    let o = at-found .found in
     let k = c .before .loop in
-    let room : length (v .m) ≡ 13 = search (needs, array-length) in
+    let room : length (v .m) ≡ mostSignals = search (needs, array-length) in
     let ha : o .a < v .len = rw (k .inv .0) at (k .inv .1 .0) in
     let hb : v .len ≤ k .b = omega arith in
     (k .inv .0, row-ends (signalsOf v) (s .args .m .e) (o .a) (within v room (s .pre .0) (o .a) ha) (k .inv .1 .1 .1 .0) (k .b) (k .inv .1 .1 .1 .1) (beyond v room (s .pre .0) (k .b) hb))
@@ -126,17 +131,19 @@ returns c =
     let s = c .before .before in
     let v = s .args .t1 in
     let k = c .before .found in
-    let room : length (v .m) ≡ 13 = search (needs, array-length) in
+    let room : length (v .m) ≡ mostSignals = search (needs, array-length) in
     let ha : v .len ≤ k .a = omega arith in
     absurd (pair-there (signalsOf v) (s .args .m .e) (k .a) (k .inv .1) (beyond v room (s .pre .0) (k .a) ha) (s .pre .1 .1))
 
 returns-2 : tie.Need-returns-2 Inv-loop μ-loop Inv-found μ-found
 returns-2 c =
-    let s = c .before .before .before .before .before .before .before .before .before in
+    let at-loop = c .before .before .before .before .before in
+    let at-found = at-loop .before .before .before in
+    let s = at-found .before in
     let v = s .args .t1 in
-    let o = c .before .before .before .before .before .before .before .before .found in
-    let k = c .before .before .before .before .before .loop in
-    let room : length (v .m) ≡ 13 = search (needs, array-length) in
+    let o = at-found .found in
+    let k = at-loop .loop in
+    let room : length (v .m) ≡ mostSignals = search (needs, array-length) in
     let hb : k .b < v .len = omega arith in
     let at-b = at v room (s .pre .0) (k .b) hb in
     let product = c .before .before .times .ensures ∙ ap₂ mul (k .inv .1 .1 .0) (sym at-b) in

@@ -8,14 +8,15 @@ use Rattle.monomial.proofs.Loops.{Pasting, pasting-start, pasting-length, pasti
 use Rattle.wiring.specs.Coefficient.{unsigned}
 use Rattle.wiring.specs.Wires.{wireRecord}
 use borrow.Author.Needs.{needs}
+use Rattle.wiring.specs.Panel.{wireBytes}
 use Rattle.wiring.proofs.wires.put_record.Statement.{statement}
 use Rattle.wiring.proofs.wires.put_record.Tie as tie
 
 abbrev Inv-loop : tie.InvT-loop
-Inv-loop out₀ at left c u a b bytes from i₀ out i = (from ≡ 8 * at) × Pasting 0 8 from bytes out₀ out i
+Inv-loop out₀ at left c u a b bytes from i₀ out i = (from ≡ wireBytes * at) × Pasting 0 wireBytes from bytes out₀ out i
 
 abbrev μ-loop : tie.MeasureT-loop
-μ-loop out₀ at left c u a b bytes from i₀ out i = 8 - i
+μ-loop out₀ at left c u a b bytes from i₀ out i = wireBytes - i
 
 bits-of-requires : tie.Need-bits-of-requires Inv-loop μ-loop
 bits-of-requires c κs = search needs
@@ -45,7 +46,7 @@ mul-from : tie.Need-mul-from Inv-loop μ-loop
 mul-from c = search needs
 
 loop-holds : tie.Need-loop-holds Inv-loop μ-loop
-loop-holds c = (refl, pasting-start 0 8 _ _ _ refl (omega arith))
+loop-holds c = (refl, pasting-start 0 wireBytes _ _ _ refl (omega arith))
 
 array-read-out : tie.Need-array-read-out Inv-loop μ-loop
 array-read-out c = search needs

@@ -8,9 +8,10 @@ use borrow.Author.Needs.{needs, sfits-of}
 use lib.ListN.{length, getD}
 use mir.Syntax.{w32}
 use mir.ValLaws.{toZ-ofZ}
-use Rattle.monomial.specs.Monomial.{Mono, one}
+use Rattle.monomial.specs.Monomial.{Mono, one, width}
 use Rattle.monomial.proofs.order.Laws.{mono-order}
 use Rattle.monomial.proofs.Counting.{at-in}
+use Rattle.wiring.specs.Panel.{setExponent, mostSignals, wireBytes}
 use Rattle.wiring.specs.Poly.{Poly, plain, support}
 use Rattle.wiring.specs.Derivative.{derivative}
 use Rattle.wiring.specs.Signals.{signalsOf}
@@ -23,7 +24,7 @@ use Rattle.wiring.proofs.wires.write_row.Statement.{statement}
 use Rattle.wiring.proofs.wires.write_row.Tie as tie
 
 abbrev nothing : Pick
-nothing = record { some = false; m = record { e = one 6 } }
+nothing = record { some = false; m = record { e = one width } }
 
 abbrev derived : List ℕ → Mono → Poly Mono
 derived terms z = derivative plain (system (records terms)) z
@@ -45,15 +46,15 @@ next-monomial-requires : tie.Need-next-monomial-requires Inv-loop μ-loop
 next-monomial-requires c κs =
     let s = c .before .before .before in
     let v = s .args .t2 in
-    let room : length (v .m) ≡ 13 = search (needs, array-length) in
-    let fits = entry-fits 72 (v .len) (v .m) (s .args .left) (omega arith) (omega arith) (s .pre .1 .1 .1 .0) in
+    let room : length (v .m) ≡ mostSignals = search (needs, array-length) in
+    let fits = entry-fits setExponent (v .len) (v .m) (s .args .left) (omega arith) (omega arith) (s .pre .1 .1 .1 .0) in
     (s .pre .0, fits)
 
 loop-holds : tie.Need-loop-holds Inv-loop μ-loop
 loop-holds c =
     let s = c .before .before .before .before in
     let v = s .args .t2 in
-    let room : length (v .m) ≡ 13 = search (needs, array-length) in
+    let room : length (v .m) ≡ mostSignals = search (needs, array-length) in
     let here = front-at (v .len) (v .m) (s .args .left) [] (omega arith) (omega arith) in
     let k : s .args .from - s .args .from ≡ 0 = omega arith in
     (omega arith, (sym here, rw k (rowing-start (signalsOf v) (s .args .left) (derived (s .args .terms .now) (entry (v .m) (s .args .left))) (s .args .from) (s .args .out .now) nothing _ refl (c .next-monomial .ensures))))
@@ -65,28 +66,30 @@ returns : tie.Need-returns Inv-loop μ-loop
 returns c =
     let s = c .before .before .before .before .before .before .before in
     let k = c .before .before .loop in
-    let full : length (k .out) < 8 * k .at + 8 = omega arith in
+    let full : length (k .out) < wireBytes * k .at + wireBytes = omega arith in
     λ done sheet. rw (sym (k .inv .1 .0)) (rowing-full (signalsOf (s .args .t2)) (s .args .left) _ (k .inv .1 .1) (c .before .loop-test .taken) full done sheet)
 
 pair-of-requires : tie.Need-pair-of-requires Inv-loop μ-loop
 pair-of-requires c κs =
     let s = c .before .before .before .before .before .before .before .before .before in
     let v = s .args .t2 in
-    let room : length (v .m) ≡ 13 = search (needs, array-length) in
-    let k = c .before .before .before .before .loop in
+    let room : length (v .m) ≡ mostSignals = search (needs, array-length) in
+    let at-loop-test = c .before .before .before in
+    let at-loop = at-loop-test .before in
+    let k = at-loop .loop in
     let z = entry (v .m) (s .args .left) in
     let long = front-length (v .len) (v .m) (omega arith) in
     let member = Memᴰ·cast (k .inv .1 .0) (at-in (signalsOf v) (s .args .left) [] (omega arith)) in
-    let met = rowing-met (signalsOf v) (s .args .left) (derived (s .args .terms .now) z) (k .inv .1 .1) (c .before .before .before .loop-test .taken)
+    let met = rowing-met (signalsOf v) (s .args .left) (derived (s .args .terms .now) z) (k .inv .1 .1) (at-loop-test .loop-test .taken)
     (λ m. s .pre .1 .1 .1 .1 .1 z m member) in
-    (s .pre .1 .0, (fitting-weaken 72 127 (signalsOf v) (omega arith) (s .pre .1 .1 .1 .0), met))
+    (s .pre .1 .0, (fitting-weaken setExponent 127 (signalsOf v) (omega arith) (s .pre .1 .1 .1 .0), met))
 
 total-requires : tie.Need-total-requires Inv-loop μ-loop
 total-requires c κs =
     let s = c .before .before .before .before .before .before .before .before .before .before in
     let v = s .args .t2 in
-    let room : length (v .m) ≡ 13 = search (needs, array-length) in
-    let fits = entry-fits 72 (v .len) (v .m) (s .args .left) (omega arith) (omega arith) (s .pre .1 .1 .1 .0) in
+    let room : length (v .m) ≡ mostSignals = search (needs, array-length) in
+    let fits = entry-fits setExponent (v .len) (v .m) (s .args .left) (omega arith) (omega arith) (s .pre .1 .1 .1 .0) in
     (s .pre .0, fits)
 
 put-record-requires : tie.Need-put-record-requires Inv-loop μ-loop
@@ -101,16 +104,18 @@ next-monomial-requires-2 : tie.Need-next-monomial-requires-2 Inv-loop μ-loop
 next-monomial-requires-2 c κs =
     let s = c .before .before .before .before .before .before .before .before .before .before .before .before .before .before in
     let v = s .args .t2 in
-    let room : length (v .m) ≡ 13 = search (needs, array-length) in
-    let fits = entry-fits 72 (v .len) (v .m) (s .args .left) (omega arith) (omega arith) (s .pre .1 .1 .1 .0) in
+    let room : length (v .m) ≡ mostSignals = search (needs, array-length) in
+    let fits = entry-fits setExponent (v .len) (v .m) (s .args .left) (omega arith) (omega arith) (s .pre .1 .1 .1 .0) in
     (s .pre .0, fits)
 
 loop-less : tie.Need-loop-less Inv-loop μ-loop
 loop-less c =
-    let s = c .before .before .before .before .before .before .before .before .before .before .before .before .before .before .before in
-    let k = c .before .before .before .before .before .before .before .before .before .before .loop in
+    let at-loop-test = c .before .before .before .before .before .before .before .before .before in
+    let at-loop = at-loop-test .before in
+    let s = at-loop .before .before .before .before .before in
+    let k = at-loop .loop in
     let left = rowing-left (signalsOf (s .args .t2)) (s .args .left) (derived (s .args .terms .now) (entry (s .args .t2 .m) (s .args .left)))
-    (k .inv .1 .1) (c .before .before .before .before .before .before .before .before .before .loop-test .taken) in
+    (k .inv .1 .1) (at-loop-test .loop-test .taken) in
     omega arith
 
 loop-again : tie.Need-loop-again Inv-loop μ-loop

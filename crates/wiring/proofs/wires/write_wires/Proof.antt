@@ -6,6 +6,7 @@ use native.Mathlib.Omega.{arith}
 use borrow.Author.Needs.{needs}
 use borrow.Author.Tests.{not-true, not-false}
 use lib.ListN.{length}
+use Rattle.wiring.specs.Panel.{mostSignals}
 use Rattle.wiring.specs.Poly.{plain}
 use Rattle.wiring.specs.Derivative.{derivative}
 use Rattle.wiring.specs.Signals.{signalsOf}
@@ -35,17 +36,22 @@ write-row-requires c κs =
     (s .pre .0, (s .pre .1 .0, (omega arith, (s .pre .1 .1 .0, (k .inv .1 .1 .1 .sheet .room, s .pre .1 .1 .1 .1)))))
 
 same-length : tie.Need-same-length Inv-loop μ-loop
-same-length c = c .before .before .before .before .write-row .kept .1 .1 .1 .0 ∙ c .before .before .before .before .before .before .before .loop .inv .1 .0
+same-length c =
+    let at-write-row = c .before .before .before .before in
+    let at-loop = at-write-row .before .before .before in
+    at-write-row .write-row .kept .1 .1 .1 .0 ∙ at-loop .loop .inv .1 .0
 
 returns : tie.Need-returns Inv-loop μ-loop
 returns c =
     let s = c .before .before .before .before .before .before .before .before .before .before in
-    let k = c .before .before .before .before .before .before .before .loop in
+    let room : length (s .args .v .m) ≡ mostSignals = search (needs, array-length) in
+    let at-write-row = c .before .before .before .before in
+    let at-loop = at-write-row .before .before .before in
+    let k = at-loop .loop in
     let d = derivative plain (system (records (s .args .terms .now))) in
-    let w = c .before .before .before .before .write-row in
+    let w = at-write-row .write-row in
     let no = not-true (w .result .ok) (c .if1 .taken) in
     let wrote = w .ensures (k .inv .1 .1 .1 .done) (k .inv .1 .1 .1 .sheet) in
-    let room : length (s .args .v .m) ≡ 13 = search (needs, array-length) in
     let few : k .left < length (signalsOf (s .args .v)) = omega (arith, front-length (s .args .v .len) (s .args .v .m) (omega arith)) in
     let out = w .last .1 .1 .1 .0 in
     let full = listing-full (signalsOf (s .args .v)) d (k .inv .1 .1 .1) out few (wrote-out _ (w .result) out false no wrote) in
@@ -60,12 +66,14 @@ loop-less c = search needs
 loop-again : tie.Need-loop-again Inv-loop μ-loop
 loop-again c =
     let s = c .before .before .before .before .before .before .before .before .before .before in
-    let k = c .before .before .before .before .before .before .before .loop in
+    let room : length (s .args .v .m) ≡ mostSignals = search (needs, array-length) in
+    let at-write-row = c .before .before .before .before in
+    let at-loop = at-write-row .before .before .before in
+    let k = at-loop .loop in
     let d = derivative plain (system (records (s .args .terms .now))) in
-    let w = c .before .before .before .before .write-row in
+    let w = at-write-row .write-row in
     let yes = not-false (w .result .ok) (c .if1 .left) in
     let wrote = w .ensures (k .inv .1 .1 .1 .done) (k .inv .1 .1 .1 .sheet) in
-    let room : length (s .args .v .m) ≡ 13 = search (needs, array-length) in
     let few : k .left < length (signalsOf (s .args .v)) = omega (arith, front-length (s .args .v .len) (s .args .v .m) (omega arith)) in
     let out = w .last .1 .1 .1 .0 in
     let more = listing-more (signalsOf (s .args .v)) d (k .inv .1 .1 .1) (w .result .at) out few (wrote-out _ (w .result) out true yes wrote) in
@@ -79,7 +87,7 @@ returns-2 c =
     let s = c .before .before .before .before in
     let k = c .before .loop in
     let d = derivative plain (system (records (s .args .terms .now))) in
-    let room : length (s .args .v .m) ≡ 13 = search (needs, array-length) in
+    let room : length (s .args .v .m) ≡ mostSignals = search (needs, array-length) in
     let all-done : length (signalsOf (s .args .v)) ≤ k .left = omega (arith, front-length (s .args .v .len) (s .args .v .m) (omega arith)) in
     wrote-in (wiring plain (signalsOf (s .args .v)) d) (k .w) (k .out) true (k .inv .1 .1 .0) (listing-ends (signalsOf (s .args .v)) d (k .inv .1 .1 .1) all-done)
 

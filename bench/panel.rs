@@ -1,0 +1,23 @@
+// The panel's numbers for the benchmark, each once. Timing and the measuring of stack take one part of them each.
+#![allow(dead_code)]
+
+pub const VARIABLES: usize = 6;
+pub const CARDS: usize = 6;
+pub const TERMS: usize = 32;
+
+// A term record: equation, zero, exponents, coefficient.
+pub const EXPONENTS_AT: usize = 2;
+pub const COEFFICIENT_AT: usize = EXPONENTS_AT + VARIABLES;
+pub const TERM_BYTES: usize = COEFFICIENT_AT + 4;
+
+pub const SET_BYTES: usize = VARIABLES * CARDS;
+pub const WIRE_BYTES: usize = 8;
+
+// Planning goes to the last card, with room for a thousand sets. No wiring list is longer than WIRES.
+pub const CAP: u64 = CARDS as u64;
+pub const ROOM: usize = 1000 * SET_BYTES;
+pub const WIRES: usize = (1 + CARDS) * TERMS * WIRE_BYTES;
+
+// 1, the variables and the new signals; and each product of two of them.
+pub const SIGNALS: usize = 1 + VARIABLES + CARDS;
+pub const PRODUCTS: usize = SIGNALS * (SIGNALS + 1) / 2;

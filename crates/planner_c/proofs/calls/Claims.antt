@@ -1,0 +1,135 @@
+-- What C gets of each call, said of the five numbers and the bytes alone: whose reply they are and what it means; done, none, full and spent of
+-- planning, and done of checking and wiring, by their numbers. Assumes nothing.
+use mathlib.Core.Path.{_≡_, sym, ap, _∙_}
+use mathlib.Core.Logic.{_↔_}
+use mathlib.Core.List.{List, [], _∷_}
+use Prim.Native.Nat.{ℕ, _/_}
+use lib.ListN.{length}
+use Rattle.wiring.specs.Panel.{setBytes}
+use Rattle.wiring.specs.Poly.{plain}
+use Rattle.wiring.specs.Quadratic.{Quadratic}
+use Rattle.wiring.specs.Reply.{numbers, inOrder, Outcome, outcome}
+use Rattle.wiring.specs.Terms.{records, system}
+use Rattle.wiring.specs.Sets.{setOf}
+use Rattle.wiring.specs.Answers.{verdict, checked, wired}
+use Rattle.wiring.specs.declared.reply.Reply.{Reply}
+use Rattle.wiring.specs.declared.reply.Reply.the-variants.{Done, Setting, Length, Term, Twice, Nothing, Full, Spent, BadSet, NotQuadratic}
+use Rattle.wiring.specs.Claims.{WellFormed, signalsIn, derivativeIn, CheckSays, Patch}
+use Rattle.wiring.proofs.reply.Laws.{same-reply}
+use Rattle.wiring.proofs.answers.Exact.{verdict-says, check-exact}
+use Rattle.wiring.proofs.answers.Wired.{wire-exact, wire-replies, wire-done}
+use Rattle.walk.specs.Walk.{bare}
+use Rattle.walk.specs.Plan.{planned}
+use Rattle.walk.specs.Claims.{Lacks, Fills, Spends, Planned, PlanSays, planLeaves}
+use Rattle.walk.proofs.plan.Exact.{plan-exact, plan-replies, plan-finds, plan-lacks, plan-fills, plan-spends}
+use Rattle.planner_c.specs.Calls.{Answer, answer, given}
+use Rattle.planner_c.specs.Claims.{Heard, Stopped, PlanMeans, WireMeans}
+use Rattle.planner_c.proofs.calls.Exact.{in-order-one, given-exact}
+
+-- ---- one reply has these five numbers
+pub heard-one : (r r' : Reply) (five : List ℕ) → five ≡ inOrder (numbers r) → five ≡ inOrder (numbers r') → r ≡ r'
+heard-one r r' five e e' = same-reply r r' (in-order-one (numbers r) (numbers r') (sym e ∙ e'))
+
+-- what an outcome leaves to C is heard as the reply that the outcome is of
+heard : (o : Outcome) (r : Reply) (left : List ℕ) → outcome r left ≡ o → (Means : Reply → List ℕ → Type 0)
+    → ((x : Reply) (bytes : List ℕ) → outcome x bytes ≡ o → Means x bytes)
+    → (five bytes : List ℕ) → answer five bytes ≡ given o → Heard (λ x. Means x bytes) five
+heard o r left is Means means five bytes e =
+    let numbered : five ≡ inOrder (numbers r) = ap (λ (x : Answer). x .five) (e ∙ sym (ap given is)) in
+    let same : answer (inOrder (numbers r)) bytes ≡ given o = ap (λ (l : List ℕ). answer l bytes) (sym numbered) ∙ e in
+    record { reply = r; numbered = numbered; means = means r bytes (given-exact r bytes o .0 same) }
+
+-- ---- planning
+module _ (n cap limit : ℕ) (terms : List ℕ) (size : ℕ) where
+  plan-means : (r : Reply) (bytes : List ℕ) → outcome r bytes ≡ planned n cap limit terms size → PlanMeans n cap limit terms size r bytes
+  plan-means (Done o c k) bytes e = plan-finds n cap limit terms size o c k bytes e
+  plan-means (Nothing o k) bytes e =
+      let x = plan-exact n cap limit terms size (Nothing o k) bytes .0 e in
+      record { accepted = x .0 .0; none-below = plan-lacks n cap limit terms size o k bytes e .1; exact = x .0 .1; zeros = x .1 }
+  plan-means (Full o k) bytes e =
+      let x = plan-exact n cap limit terms size (Full o k) bytes .0 e in
+      record { accepted = x .0 .0; none-below = plan-fills n cap limit terms size o k bytes e; exact = x .0 .1; zeros = x .1 }
+  plan-means (Spent o k) bytes e =
+      let x = plan-exact n cap limit terms size (Spent o k) bytes .0 e in
+      record { accepted = x .0 .0; none-below = plan-spends n cap limit terms size o k bytes e; exact = x .0 .1; zeros = x .1 }
+  plan-means Setting bytes e = plan-exact n cap limit terms size Setting bytes .0 e
+  plan-means Length bytes e = plan-exact n cap limit terms size Length bytes .0 e
+  plan-means (Term p) bytes e = plan-exact n cap limit terms size (Term p) bytes .0 e
+  plan-means (Twice p) bytes e = plan-exact n cap limit terms size (Twice p) bytes .0 e
+  plan-means BadSet bytes e = plan-exact n cap limit terms size BadSet bytes .0 e .0
+  plan-means (NotQuadratic o p) bytes e = plan-exact n cap limit terms size (NotQuadratic o p) bytes .0 e .0
+
+  -- a meaning that brings back what the reply says and leaves is had exactly where C gets the reply's numbers
+  exactly : (r : Reply) (bytes : List ℕ)
+      → (PlanMeans n cap limit terms size r bytes → PlanSays n cap limit terms size r × (bytes ≡ planLeaves n terms size r))
+      → (answer (inOrder (numbers r)) bytes ≡ given (planned n cap limit terms size)) ↔ PlanMeans n cap limit terms size r bytes
+  exactly r bytes back = (
+    (λ e. plan-means r bytes (given-exact r bytes (planned n cap limit terms size) .0 e)),
+    λ m. given-exact r bytes (planned n cap limit terms size) .1 (plan-exact n cap limit terms size r bytes .1 (back m)),
+  )
+
+  -- whatever C gets is of one reply, and means what that reply says
+  pub siragumon-plan-means : (five bytes : List ℕ) → answer five bytes ≡ given (planned n cap limit terms size)
+      → Heard (λ r. PlanMeans n cap limit terms size r bytes) five
+  siragumon-plan-means five bytes e =
+      let some = plan-replies n cap limit terms size in
+      heard (planned n cap limit terms size) (some .0) _ (some .1) (PlanMeans n cap limit terms size) plan-means five bytes e
+
+  -- 0, order, count, steps, 0: the buffer holds every smallest quadratic set, each once, ascending, then zeros; none is smaller, of any powers
+  pub siragumon-plan-done : (o c k : ℕ) (bytes : List ℕ) → answer (0 ∷ o ∷ c ∷ k ∷ 0 ∷ []) bytes ≡ given (planned n cap limit terms size)
+      → Planned n cap limit terms size o c k bytes
+  siragumon-plan-done o c k bytes e = plan-finds n cap limit terms size o c k bytes (given-exact (Done o c k) bytes (planned n cap limit terms size) .0 e)
+
+  -- 5, order, 0, steps, 0: exactly where no level up to the cap has a find; then no quadratic set has at most the cap's monomials
+  pub siragumon-plan-none : (o k : ℕ) (bytes : List ℕ) → (answer (5 ∷ o ∷ 0 ∷ k ∷ 0 ∷ []) bytes ≡ given (planned n cap limit terms size))
+      ↔ Stopped n cap limit terms size (Lacks bare n (system (records terms)) limit (size / setBytes) cap) o k bytes
+  siragumon-plan-none o k bytes = exactly (Nothing o k) bytes (λ s. ((s .accepted, s .exact), s .zeros))
+
+  -- 6, order, 0, steps, 0: exactly where the step of that number finds a set for which there is no room
+  pub siragumon-plan-full : (o k : ℕ) (bytes : List ℕ) → (answer (6 ∷ o ∷ 0 ∷ k ∷ 0 ∷ []) bytes ≡ given (planned n cap limit terms size))
+      ↔ Stopped n cap limit terms size (Fills bare n (system (records terms)) limit (size / setBytes) cap) o k bytes
+  siragumon-plan-full o k bytes = exactly (Full o k) bytes (λ s. ((s .accepted, s .exact), s .zeros))
+
+  -- 7, order, 0, limit, 0: exactly where the next step, one of that level, would pass the limit
+  pub siragumon-plan-spent : (o k : ℕ) (bytes : List ℕ) → (answer (7 ∷ o ∷ 0 ∷ k ∷ 0 ∷ []) bytes ≡ given (planned n cap limit terms size))
+      ↔ Stopped n cap limit terms size (Spends bare n (system (records terms)) limit (size / setBytes) cap) o k bytes
+  siragumon-plan-spent o k bytes = exactly (Spent o k) bytes (λ s. ((s .accepted, s .exact), s .zeros))
+
+-- ---- checking
+module _ (n : ℕ) (terms set : List ℕ) where
+  pub siragumon-check-means : (five : List ℕ) → five ≡ inOrder (checked n terms set) → Heard (CheckSays n terms set) five
+  siragumon-check-means five e =
+      let says : CheckSays n terms set (verdict n terms set) = verdict-says n terms set in
+      record { reply = verdict n terms set; numbered = e ∙ ap inOrder (sym (check-exact n terms set (verdict n terms set) .1 says)); means = says }
+
+  -- 0, order, 0, 0, 0: exactly where Definition 1 holds of the given set
+  pub siragumon-check-done : (o c k : ℕ) → ((0 ∷ o ∷ c ∷ k ∷ 0 ∷ []) ≡ inOrder (checked n terms set))
+      ↔ (WellFormed n terms set × (o ≡ length (setOf set)) × (c ≡ 0) × (k ≡ 0) × Quadratic plain (signalsIn n set) (derivativeIn terms))
+  siragumon-check-done o c k = (
+    (λ e. check-exact n terms set (Done o c k) .0 (in-order-one (numbers (Done o c k)) (checked n terms set) e)),
+    λ h. ap inOrder (check-exact n terms set (Done o c k) .1 h),
+  )
+
+-- ---- wiring
+module _ (n : ℕ) (terms set : List ℕ) (size : ℕ) where
+  wire-means : (r : Reply) (bytes : List ℕ) → outcome r bytes ≡ wired n terms set size → WireMeans n terms set size r bytes
+  wire-means (Done o c k) bytes e = (wire-exact n terms set size (Done o c k) bytes .0 e .0, wire-done n terms set size o c k bytes e)
+  wire-means (Full o k) bytes e = wire-exact n terms set size (Full o k) bytes .0 e
+  wire-means Setting bytes e = wire-exact n terms set size Setting bytes .0 e
+  wire-means Length bytes e = wire-exact n terms set size Length bytes .0 e
+  wire-means (Term p) bytes e = wire-exact n terms set size (Term p) bytes .0 e
+  wire-means (Twice p) bytes e = wire-exact n terms set size (Twice p) bytes .0 e
+  wire-means BadSet bytes e = wire-exact n terms set size BadSet bytes .0 e
+  wire-means (NotQuadratic o p) bytes e = wire-exact n terms set size (NotQuadratic o p) bytes .0 e
+  wire-means (Nothing o k) bytes e = wire-exact n terms set size (Nothing o k) bytes .0 e .0
+  wire-means (Spent o k) bytes e = wire-exact n terms set size (Spent o k) bytes .0 e .0
+
+  pub siragumon-wire-means : (five bytes : List ℕ) → answer five bytes ≡ given (wired n terms set size) → Heard (λ r. WireMeans n terms set size r bytes) five
+  siragumon-wire-means five bytes e =
+      let some = wire-replies n terms set size in
+      heard (wired n terms set size) (some .0) _ (some .1) (WireMeans n terms set size) wire-means five bytes e
+
+  -- 0, order, count, 0, 0: Definition 1 holds of the given set, and the buffer holds its list, which is correct, then zeros
+  pub siragumon-wire-done : (o c k : ℕ) (bytes : List ℕ) → answer (0 ∷ o ∷ c ∷ k ∷ 0 ∷ []) bytes ≡ given (wired n terms set size)
+      → Quadratic plain (signalsIn n set) (derivativeIn terms) × Patch n terms set c bytes
+  siragumon-wire-done o c k bytes e = let m = wire-means (Done o c k) bytes (given-exact (Done o c k) bytes (wired n terms set size) .0 e) in (m .0 .1, m .1)

@@ -1,0 +1,55 @@
+-- What the five numbers and the bytes that a call leaves mean, for each reply. Assumes nothing.
+use mathlib.Core.Path.{_≡_}
+use mathlib.Core.List.{List}
+use Prim.Native.Nat.{ℕ, _/_}
+use lib.ListN.{replicate}
+use Rattle.wiring.specs.Panel.{setBytes}
+use Rattle.wiring.specs.Reply.{numbers, inOrder}
+use Rattle.wiring.specs.Terms.{records, system}
+use Rattle.wiring.specs.declared.reply.Reply.{Reply}
+use Rattle.wiring.specs.declared.reply.Reply.the-variants.{Done, Setting, Length, Term, Twice, Nothing, Full, Spent, BadSet, NotQuadratic}
+use Rattle.wiring.specs.Claims.{WireSays, Patch}
+use Rattle.walk.specs.Walk.{bare}
+use Rattle.walk.specs.Claims.{Lacks, Fills, Spends, Accepted, PlanSays, NoneBelow, Planned}
+
+-- the reply of which these are the five numbers, and what it means
+pub record Heard (Means : Reply → Type 0) (five : List ℕ) : Type 0 where
+  pub reply : Reply
+  pub numbered : five ≡ inOrder (numbers reply)
+  pub means : Means reply
+
+module _ (n cap limit : ℕ) (terms : List ℕ) (size : ℕ) where
+  -- planning ended without sets: `how` says exactly where, by the order and the steps
+  pub record Stopped (how : ℕ → ℕ → Type 0) (order steps : ℕ) (bytes : List ℕ) : Type 0 where
+    pub accepted : Accepted n cap limit terms
+    -- no quadratic list of monomials, of any powers, has fewer members than the order
+    pub none-below : NoneBelow n terms order
+    pub exact : how order steps
+    pub zeros : bytes ≡ replicate size 0
+
+  -- planning: done lists all smallest quadratic sets; none, full and spent stop exactly by the steps of the walk; the refusals are those of the library
+  abbrev pub PlanMeans : Reply → List ℕ → Type 0
+  PlanMeans (Done o c k) bytes = Planned n cap limit terms size o c k bytes
+  PlanMeans (Nothing o k) bytes = Stopped (Lacks bare n (system (records terms)) limit (size / setBytes) cap) o k bytes
+  PlanMeans (Full o k) bytes = Stopped (Fills bare n (system (records terms)) limit (size / setBytes) cap) o k bytes
+  PlanMeans (Spent o k) bytes = Stopped (Spends bare n (system (records terms)) limit (size / setBytes) cap) o k bytes
+  PlanMeans Setting bytes = PlanSays n cap limit terms size Setting × (bytes ≡ replicate size 0)
+  PlanMeans Length bytes = PlanSays n cap limit terms size Length × (bytes ≡ replicate size 0)
+  PlanMeans (Term p) bytes = PlanSays n cap limit terms size (Term p) × (bytes ≡ replicate size 0)
+  PlanMeans (Twice p) bytes = PlanSays n cap limit terms size (Twice p) × (bytes ≡ replicate size 0)
+  PlanMeans BadSet bytes = ⊥
+  PlanMeans (NotQuadratic o p) bytes = ⊥
+
+-- wiring: done writes a correct list; every other reply leaves zeros
+module _ (n : ℕ) (terms set : List ℕ) (size : ℕ) where
+  abbrev pub WireMeans : Reply → List ℕ → Type 0
+  WireMeans (Done o c k) bytes = WireSays n terms set size (Done o c k) × Patch n terms set c bytes
+  WireMeans (Full o k) bytes = WireSays n terms set size (Full o k) × (bytes ≡ replicate size 0)
+  WireMeans Setting bytes = WireSays n terms set size Setting × (bytes ≡ replicate size 0)
+  WireMeans Length bytes = WireSays n terms set size Length × (bytes ≡ replicate size 0)
+  WireMeans (Term p) bytes = WireSays n terms set size (Term p) × (bytes ≡ replicate size 0)
+  WireMeans (Twice p) bytes = WireSays n terms set size (Twice p) × (bytes ≡ replicate size 0)
+  WireMeans BadSet bytes = WireSays n terms set size BadSet × (bytes ≡ replicate size 0)
+  WireMeans (NotQuadratic o p) bytes = WireSays n terms set size (NotQuadratic o p) × (bytes ≡ replicate size 0)
+  WireMeans (Nothing o k) bytes = ⊥
+  WireMeans (Spent o k) bytes = ⊥

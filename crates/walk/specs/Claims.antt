@@ -1,0 +1,272 @@
+-- What is claimed of planning: the sets that a walk finds, when it ends and how, and that they are all smallest quadratic sets. Assumes nothing.
+use mathlib.Core.Path.{_≡_}
+use mathlib.Core.Logic.{_⊎_}
+use mathlib.Core.Bool.{true, cond}
+use mathlib.Core.List.{List, [], _∷_, _++_}
+use Prim.Native.Nat.{ℕ, suc, _+_, _*_, _-_, _/_, _≤_, _<_}
+use lib.Dec.{T, eqb}
+use lib.ListN.{length, getD, take, drop, replicate}
+use Rattle.monomial.specs.Lists.{any, insertBy, arrangeBy}
+use Rattle.monomial.specs.Monomial.{Mono, width}
+use Rattle.monomial.specs.Order.{same, before, sameSet, beforeSet}
+use Rattle.monomial.specs.Divisors.{pairs}
+use Rattle.monomial.specs.Claims.{_∈_, _⊆_, Ascending, Rearranged, Within}
+use Rattle.wiring.specs.Panel.{cards, setBytes, mostSteps}
+use Rattle.wiring.specs.Reply.{numbers}
+use Rattle.wiring.specs.Poly.{Poly, plain}
+use Rattle.wiring.specs.Derivative.{derivative}
+use Rattle.wiring.specs.Quadratic.{Quadratic}
+use Rattle.wiring.specs.Signals.{signals}
+use Rattle.wiring.specs.Terms.{records, system}
+use Rattle.wiring.specs.Sets.{setRecord}
+use Rattle.wiring.specs.Answers.{missing}
+use Rattle.wiring.specs.Claims.{Wide, base, Measured, Breaks, Repeats, Flawless, beyond, Ranged, Recordable}
+use Rattle.wiring.specs.declared.reply.Reply.{Reply}
+use Rattle.wiring.specs.declared.reply.Reply.the-variants.{Done, Setting, Length, Term, Twice, Nothing, Full, Spent, BadSet, NotQuadratic}
+use Rattle.walk.specs.Walk.{Finds, Rules, bare, Step, found, other, level, walked, opened, Run, ended, spent, full}
+use Rattle.walk.specs.Plan.{Ending, done, none, fullAt, spentAt, plan, setsBytes}
+use Rattle.walk.specs.Turns.{Walked}
+
+-- ---- what rules keep
+-- the pairs that are tried are those of the nonsquare, in some order
+abbrev pub Orderly : Rules → Type 0
+Orderly r = (v : List Mono) (m : Mono) → Rearranged (pairs m) (r .tries v m)
+
+-- what may be added: t holds s, and each of its further monomials may be
+pub record Extends (r : Rules) (s t : List Mono) : Type 0 where
+  pub holds : s ⊆ t
+  pub may : (m : Mono) → m ∈ t → (m ∈ s) ⊎ T (r .may m)
+
+-- the lists of which the rules speak: those that hold the start and besides only what may be
+abbrev pub Counts : Rules → List Mono → Type 0
+Counts r s = Extends r (r .start) s
+
+-- closing leaves out nothing: a closed set is in no quadratic set for which there is room and whose further monomials may be
+abbrev pub Sparing : Rules → ℕ → List (Poly Mono) → Type 0
+Sparing r n fs = (room : ℕ) (s t : List Mono) → Ascending before s → Ascending before t → Wide t → Extends r s t → missing n fs t ≡ [] → length t ≤ length s + room
+    → r .closed room (signals width n s) (missing n fs s) ≡ true → ⊥
+
+-- none of the set is in V of the empty set, and none has an exponent beyond xn
+pub record Proper (n : ℕ) (s : List Mono) : Type 0 where
+  pub new : (m : Mono) → m ∈ s → m ∈ base n → ⊥
+  pub within : (m : Mono) → m ∈ s → Within n m
+
+-- rules that heed no unused variable: of a set and nonsquares that hold none they say the same for n and for b variables
+pub record Heedless (r : Rules) (n b : ℕ) : Type 0 where
+  pub proper : Proper n (r .start)
+  pub wide : Wide (r .start)
+  pub closing : (room : ℕ) (s ns : List Mono) → Proper n s → Wide s → ((m : Mono) → m ∈ ns → Within n m) → Wide ns
+      → r .closed room (signals width n s) ns ≡ r .closed room (signals width b s) ns
+  pub trying : (s : List Mono) (m : Mono) → Proper n s → Wide s → Within n m → length m ≡ width → r .tries (signals width n s) m ≡ r .tries (signals width b s) m
+
+-- ---- the sets that steps find, ascending, each once
+-- with one step more
+unfoldable pub noted : Step → Finds → Finds
+noted (other t) finds = finds
+noted (found s) finds = cond (any (sameSet s) finds) finds (insertBy sameSet beforeSet s finds)
+
+-- with those found before
+unfoldable pub listed : Finds → List Step → Finds
+listed finds [] = finds
+listed finds (e ∷ es) = listed (noted e finds) es
+
+abbrev pub distinct : List Step → Finds
+distinct es = listed [] es
+
+-- what a find t below the opened set s is like, at level k
+pub record Sound (r : Rules) (n : ℕ) (terms : List ℕ) (k : ℕ) (s t : List Mono) : Type 0 where
+  pub quadratic : missing n (system (records terms)) t ≡ []
+  pub extends : Extends r s t
+  pub short : length t ≤ k
+  pub walked : Walked t
+
+-- ---- how a run ends, of steps es with `taken` before them and `finds` so far
+module _ (limit room : ℕ) where
+  -- all steps are taken, and all finds have room
+  pub record RunEnds (es : List Step) (taken : ℕ) (finds : Finds) (t : ℕ) (l : Finds) : Type 0 where
+    pub steps : t ≡ taken + length es
+    pub within : t ≤ limit
+    pub sets : l ≡ listed finds es
+    pub roomy : length l ≤ room
+
+  -- there are more steps than the limit allows, and all finds up to it have room
+  pub record RunStops (es : List Step) (taken : ℕ) (finds : Finds) : Type 0 where
+    pub over : limit < taken + length es
+    pub roomy : length (listed finds (take (limit - taken) es)) ≤ room
+
+  -- a step within the limit finds the first set for which there is no room
+  pub record RunFills (es : List Step) (taken : ℕ) (finds : Finds) (t : ℕ) : Type 0 where
+    pub at : ℕ
+    pub inside : at < length es
+    pub steps : t ≡ taken + suc at
+    pub within : t ≤ limit
+    pub filled : length (listed finds (take at es)) ≡ room
+    pub more : length (listed finds (take (suc at) es)) ≡ suc room
+
+  abbrev pub RunFate : List Step → ℕ → Finds → Run → Type 0
+  RunFate es taken finds (ended t l) = RunEnds es taken finds t l
+  RunFate es taken finds spent = RunStops es taken finds
+  RunFate es taken finds (full t) = RunFills es taken finds t
+
+-- ---- how a plan ends, by the steps of its levels
+-- no level below k has a find
+abbrev pub Barren : Rules → ℕ → List (Poly Mono) → ℕ → Type 0
+Barren r n fs k = (i : ℕ) → i < k → distinct (level r n fs i) ≡ []
+
+module _ (r : Rules) (n : ℕ) (fs : List (Poly Mono)) (limit room cap : ℕ) where
+  -- level j is the first with a find, it is walked to its end within the limit, and its sets have room
+  pub record Ends (j u : ℕ) (l : Finds) : Type 0 where
+    pub low : j ≤ cap
+    pub barren : Barren r n fs j
+    pub steps : u ≡ walked r n fs (suc j)
+    pub within : u ≤ limit
+    pub sets : l ≡ distinct (level r n fs j)
+    pub some : l ≡ [] → ⊥
+    pub roomy : length l ≤ room
+
+  -- all levels up to the cap are walked within the limit, and none has a find
+  pub record Lacks (j u : ℕ) : Type 0 where
+    pub last : j ≡ suc cap
+    pub barren : Barren r n fs j
+    pub steps : u ≡ walked r n fs j
+    pub within : u ≤ limit
+
+  -- level j is the first with a find, and step number u, within the limit, finds there the first set for which there is no room
+  pub record Fills (j u : ℕ) : Type 0 where
+    pub low : j ≤ cap
+    pub barren : Barren r n fs j
+    pub at : ℕ
+    pub inside : at < length (level r n fs j)
+    pub steps : u ≡ walked r n fs j + suc at
+    pub within : u ≤ limit
+    pub filled : length (distinct (take at (level r n fs j))) ≡ room
+    pub more : length (distinct (take (suc at) (level r n fs j))) ≡ suc room
+
+  -- no level below j has a find, the step that would pass the limit is one of level j, and the sets found up to the limit have room
+  pub record Spends (j u : ℕ) : Type 0 where
+    pub low : j ≤ cap
+    pub barren : Barren r n fs j
+    pub steps : u ≡ limit
+    pub reached : walked r n fs j ≤ limit
+    pub over : limit < walked r n fs (suc j)
+    pub roomy : length (distinct (take (limit - walked r n fs j) (level r n fs j))) ≤ room
+
+  abbrev pub Fate : Ending → Type 0
+  Fate (done j u l) = Ends j u l
+  Fate (none j u) = Lacks j u
+  Fate (fullAt j u) = Fills j u
+  Fate (spentAt j u) = Spends j u
+
+abbrev pub stepsOf : Ending → ℕ
+stepsOf (done j u l) = u
+stepsOf (none j u) = u
+stepsOf (fullAt j u) = u
+stepsOf (spentAt j u) = u
+
+module _ (r : Rules) (n : ℕ) (fs : List (Poly Mono)) (room cap : ℕ) where
+  -- the plan under a limit that allows every step of every level: it ends after the first find that has no room, or else after all steps
+  -- up to and with the first level that has a find, or up to the cap
+  abbrev pub endless : Ending
+  endless = plan r n fs (walked r n fs (suc cap)) room cap
+
+  -- a limit that is spent, at some level
+  pub record SpentBy (limit : ℕ) : Type 0 where
+    pub level : ℕ
+    pub is : plan r n fs limit room cap ≡ spentAt level limit
+
+-- ---- smallest
+-- Definition 1 for V of a list of monomials
+abbrev pub QuadraticList : ℕ → List (Poly Mono) → List Mono → Type 0
+QuadraticList n fs s = Quadratic plain (signals width n s) (derivative plain fs)
+
+-- of the lists that count, no quadratic one has fewer than j members
+abbrev pub NoneSmaller : Rules → ℕ → List (Poly Mono) → ℕ → Type 0
+NoneSmaller r n fs j = (s : List Mono) → Wide s → Counts r s → QuadraticList n fs s → j ≤ length s
+
+-- one of the sets that done lists: it can stand in a set record of n variables
+pub record Listed (r : Rules) (n : ℕ) (terms : List ℕ) (j : ℕ) (s : List Mono) : Type 0 where
+  pub recordable : Recordable n s
+  pub extends : Counts r s
+  pub quadratic : QuadraticList n (system (records terms)) s
+  pub size : length s ≡ j
+
+-- all of them
+pub record Smallest (r : Rules) (n : ℕ) (terms : List ℕ) (j : ℕ) (l : Finds) : Type 0 where
+  pub none-smaller : NoneSmaller r n (system (records terms)) j
+  -- every quadratic list of that many members that counts, put in order, is listed
+  pub all : (s : List Mono) → Wide s → Counts r s → QuadraticList n (system (records terms)) s → length s ≡ j → arrangeBy same before s ∈ l
+  pub each : (s : List Mono) → s ∈ l → Listed r n terms j s
+  pub ascending : Ascending beforeSet l
+  pub some : l ≡ [] → ⊥
+
+-- found in the walk's steps, within the limit and the room
+pub record Finished (r : Rules) (n : ℕ) (terms : List ℕ) (cap limit room j u : ℕ) (l : Finds) : Type 0 where
+  pub low : j ≤ cap
+  pub steps : u ≡ walked r n (system (records terms)) (suc j)
+  pub within : u ≤ limit
+  pub roomy : length l ≤ room
+  pub sets : Smallest r n terms j l
+
+-- a quadratic set inside t that is found below the opened set s at level k, with d more steps of depth
+pub record Reached (r : Rules) (n : ℕ) (fs : List (Poly Mono)) (k : ℕ) (t : List Mono) (d : ℕ) (s : List Mono) : Type 0 where
+  pub set : List Mono
+  pub ascending : Ascending before set
+  pub extends : Extends r s set
+  pub within : set ⊆ t
+  pub quadratic : missing n fs set ≡ []
+  pub listed : found set ∈ opened r n fs k d s
+
+-- ---- planning
+pub record InRange (n cap limit : ℕ) : Type 0 where
+  pub ranged : Ranged n
+  pub capped : cap ≤ cards
+  pub low : 1 ≤ limit
+  pub high : limit ≤ mostSteps
+
+-- the settings, the length and the records are in order
+pub record Accepted (n cap limit : ℕ) (terms : List ℕ) : Type 0 where
+  pub range : InRange n cap limit
+  pub measured : Measured terms
+  pub flawless : Flawless n (records terms) beyond
+
+-- the sets found at a level, ascending, each once
+abbrev pub setsAt : ℕ → List ℕ → ℕ → Finds
+setsAt n terms order = distinct (level bare n (system (records terms)) order)
+
+-- what each reply of planning says, with a buffer of this size
+abbrev pub PlanSays : ℕ → ℕ → ℕ → List ℕ → ℕ → Reply → Type 0
+PlanSays n cap limit terms size Setting = InRange n cap limit → ⊥
+PlanSays n cap limit terms size Length = InRange n cap limit × (Measured terms → ⊥)
+PlanSays n cap limit terms size (Term p) = InRange n cap limit × Measured terms × Breaks n (records terms) beyond p
+PlanSays n cap limit terms size (Twice p) = InRange n cap limit × Measured terms × Repeats n (records terms) beyond p
+PlanSays n cap limit terms size (Done o c k) =
+    Accepted n cap limit terms × (c ≡ length (setsAt n terms o)) × Ends bare n (system (records terms)) limit (size / setBytes) cap o k (setsAt n terms o)
+PlanSays n cap limit terms size (Nothing o k) = Accepted n cap limit terms × Lacks bare n (system (records terms)) limit (size / setBytes) cap o k
+PlanSays n cap limit terms size (Full o k) = Accepted n cap limit terms × Fills bare n (system (records terms)) limit (size / setBytes) cap o k
+PlanSays n cap limit terms size (Spent o k) = Accepted n cap limit terms × Spends bare n (system (records terms)) limit (size / setBytes) cap o k
+PlanSays n cap limit terms size BadSet = ⊥
+PlanSays n cap limit terms size (NotQuadratic o p) = ⊥
+
+-- and what it leaves in the buffer: the sets and then zeros; or only zeros
+abbrev pub planLeaves : ℕ → List ℕ → ℕ → Reply → List ℕ
+planLeaves n terms size r =
+    cond (eqb (numbers r .code) 0) (setsBytes (setsAt n terms (numbers r .order)) ++ replicate (size - setBytes * numbers r .count) 0) (replicate size 0)
+
+-- of all lists of monomials, of any powers, in any order and with repeats: no quadratic one has fewer than j members
+abbrev pub NoneBelow : ℕ → List ℕ → ℕ → Type 0
+NoneBelow n terms j = (s : List Mono) → Wide s → QuadraticList n (system (records terms)) s → j ≤ length s
+
+-- what done says, and its bytes
+pub record Planned (n cap limit : ℕ) (terms : List ℕ) (size order count steps : ℕ) (bytes : List ℕ) : Type 0 where
+  pub accepted : Accepted n cap limit terms
+  pub sets : Finds
+  -- the smallest quadratic sets, all of them, found in the walk's steps, within the limit and the room
+  pub finished : Finished bare n terms cap limit (size / setBytes) order steps sets
+  -- of all lists of monomials: no quadratic one is smaller, and each of that many members, put in order, is listed
+  pub none-below : NoneBelow n terms order
+  pub all : (s : List Mono) → Wide s → QuadraticList n (system (records terms)) s → length s ≡ order → arrangeBy same before s ∈ sets
+  pub counted : count ≡ length sets
+  -- record number i holds set number i; behind them are zeros
+  pub written : (i : ℕ) → i < count → take setBytes (drop (setBytes * i) bytes) ≡ setRecord (getD sets i [])
+  pub rest : (k : ℕ) → setBytes * count ≤ k → getD bytes k 0 ≡ 0
+  pub long : length bytes ≡ size

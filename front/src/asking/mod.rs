@@ -1,0 +1,5 @@
+//! Asking the planner: the proved program run, level by level, and its answer read back.
+
+pub mod answer;
+pub mod climb;
+pub mod planner;

@@ -1,0 +1,26 @@
+//! The numbers of the panel (document 01) and of the program that is asked, each once. The planner judges by them
+//! itself; here they shape what is sent to it, and give a refusal its reason.
+
+/// Variables of a system, at most: a monomial has an exponent for each.
+pub const VARIABLES: usize = 6;
+/// New signals of a set, at most: each has an integrator card of its own.
+pub const CARDS: u64 = 6;
+
+/// Terms of a system, at most.
+pub const TERMS: usize = 32;
+/// The highest power of a variable in a term.
+pub const POWER: u128 = 9;
+/// The largest coefficient of a term, either way.
+pub const COEFFICIENT: u128 = 1_000_000;
+
+/// A term record: equation, a zero, the exponents, the coefficient.
+pub const EXPONENTS_AT: usize = 2;
+pub const COEFFICIENT_AT: usize = EXPONENTS_AT + VARIABLES;
+pub const TERM_BYTES: usize = COEFFICIENT_AT + std::mem::size_of::<i32>();
+
+/// Steps of a search: at most, and where none are typed.
+pub const STEPS: u64 = 1_000_000_000;
+pub const USUAL_STEPS: u64 = 1_000_000;
+/// Sets that there is room for: at most, and where none are typed.
+pub const SETS: u64 = 20_000;
+pub const USUAL_SETS: u64 = 1_000;

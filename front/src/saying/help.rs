@@ -1,0 +1,40 @@
+//! The words of `--help`.
+
+use crate::panel::{CARDS, SETS, STEPS, TERMS, USUAL_SETS, USUAL_STEPS, VARIABLES};
+use crate::saying::numbers::grouped;
+
+pub fn help() -> String {
+    let (steps, usual_steps) = (grouped(STEPS), grouped(USUAL_STEPS));
+    let (sets, usual_sets) = (grouped(SETS), grouped(USUAL_SETS));
+    format!(
+        "\
+Plans a patch: finds all smallest sets of new signals that make a polynomial system quadratic, and wires one.
+
+  ./plan \"x' = x^4 + x^3\"
+  ./plan \"x' = x^2*y\" \"y' = -x*y^2\" --svg patch.svg
+  ./plan system.txt --cards 3 --steps 1000000000
+
+An argument with = in it is one equation or several, separated by commas, semicolons or lines; any other is the name
+of a file that holds them (- is standard input). In a file, # hides the rest of its line.
+
+Variables are x, y, z or x1 to x{VARIABLES}, coefficients whole numbers, powers ^ or ** with a whole number, products * or a
+space; sums are written multiplied out. A variable without an equation never changes. A system has up to {TERMS} terms.
+
+  --cards K      new signals of a set, at most: 0 to {CARDS} ({CARDS})
+  --steps N      steps of the search, at most: 1 to {steps} ({usual_steps})
+  --sets N       sets that there is room for: 0 to {sets} ({usual_sets})
+  --set N        wires the N-th set of the list (1)
+  --svg FILE     draws the patch of that set
+  --json         writes all of it for other programs
+  --file FILE    reads equations from a file, whatever its name
+  --help         these words
+
+A new signal is a product of powers of the variables. The word \"smallest\" is printed only after the whole search has
+ended; short of that the words say how far it got. A search of more than a second tells on standard error what it has
+shown so far; it may be stopped at any time.
+
+Exit status: 0 all smallest sets are listed; 1 none up to --cards, or stopped by --steps or --sets; 2 the input was
+refused or not understood; 3 something could not be built, run or written.
+"
+    )
+}

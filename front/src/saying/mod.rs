@@ -1,0 +1,10 @@
+//! Saying it: the answer in words for a person, and as JSON for other programs.
+
+pub mod export;
+pub mod help;
+pub mod json;
+pub mod numbers;
+pub mod report;
+pub mod rule;
+pub mod watch;
+pub mod words;

@@ -1,0 +1,283 @@
+//! The words for a reply. "Smallest" is said after code 0 alone: only then has the whole search ended. Short of that
+//! the words say how far the search got, and nothing of what it met on its way.
+
+use crate::asking::answer::{Reply, DONE, FULL, LENGTH, NONE, SETTING, SPENT, TERM, TWICE};
+use crate::panel::{CARDS, SETS, STEPS, TERMS};
+use crate::saying::numbers::{counted, grouped};
+use crate::saying::rule;
+use crate::typed::settings::Settings;
+use crate::typed::system::System;
+use crate::typed::text::{short, Source, Span};
+
+/// What is said of a reply, in lines, and the places in the typed text that it is about, each with words of its own.
+#[derive(Debug, PartialEq)]
+pub struct Said {
+    pub words: String,
+    pub places: Vec<(&'static str, Span)>,
+}
+
+fn signals(number: u64) -> String {
+    counted(number, "new signal")
+}
+
+/// What is known once level k has ended without a find.
+pub fn excluded(k: u64) -> String {
+    if k == 0 {
+        "without new signals it cannot be wired".into()
+    } else {
+        format!("no set of up to {} exists", signals(k))
+    }
+}
+
+/// What is known where the walk stopped in a level.
+fn stopped(reply: &Reply) -> String {
+    let place = format!("stopped in level {} after {}", reply.order, counted(reply.steps, "step"));
+    match reply.order {
+        0 => place,
+        level => format!("{}; {place}", excluded(level - 1)),
+    }
+}
+
+pub fn said(reply: &Reply, settings: &Settings, system: &System, sources: &[Source]) -> Said {
+    let mut places = Vec::new();
+    let words = match reply.code {
+        DONE => done(reply),
+        SETTING => setting(settings),
+        LENGTH => {
+            if let Some(first) = system.terms.get(TERMS) {
+                places.push(("", first.span));
+            }
+            format!(
+                "Refused: {} were typed, and the box takes up to {TERMS}. This is term {}:",
+                counted(system.terms.len() as u64, "term"),
+                TERMS + 1
+            )
+        }
+        TERM | TWICE => {
+            let place = reply.place as usize;
+            let Some(term) = place.checked_sub(1).and_then(|i| system.terms.get(i)) else {
+                return Said { words: format!("Refused: term {place}."), places };
+            };
+            let text = short(&sources[term.span.source].text[term.span.from..term.span.to]);
+            places.push(("", term.span));
+            if reply.code == TERM {
+                let broken = rule::broken(term, &system.names).unwrap_or("a field of it breaks its rule".into());
+                format!("Refused: term {place}, {text}: {broken}.")
+            } else {
+                let earlier = system.terms[..place - 1]
+                    .iter()
+                    .find(|other| other.equation == term.equation && other.powers == term.powers);
+                if let Some(earlier) = earlier {
+                    places.push(("It repeats this one:", earlier.span));
+                }
+                let left = &system.names[term.equation - 1];
+                format!(
+                    "Refused: term {place}, {text}: the equation of {left} has this product already; add the two up."
+                )
+            }
+        }
+        NONE => none(reply),
+        FULL => full(reply, settings),
+        SPENT => spent(reply),
+        code => format!("Code {code}, which planning never gives."),
+    };
+    Said { words, places }
+}
+
+fn done(reply: &Reply) -> String {
+    let ended = format!("The whole search has ended, after {}.", counted(reply.steps, "step"));
+    match (reply.order, reply.count) {
+        (0, _) => format!("Nothing needs to be added: each term is a product of at most two variables.\n{ended}"),
+        (order, 1) => format!("Found: 1 smallest set, of {}, and it is the only one.\n{ended}", signals(order)),
+        (order, count) => {
+            format!("Found: {} smallest sets, of {} each, and these are all.\n{ended}", grouped(count), signals(order))
+        }
+    }
+}
+
+fn setting(settings: &Settings) -> String {
+    let faults: Vec<String> = settings
+        .out_of_range()
+        .iter()
+        .map(|(option, count, least, most)| {
+            format!("{option} is {}, and may be {} to {}", grouped(count.digits()), grouped(least), grouped(most))
+        })
+        .collect();
+    if faults.is_empty() {
+        return "Refused: a setting is out of range.".into();
+    }
+    format!("Refused: {}.", faults.join("; "))
+}
+
+fn none(reply: &Reply) -> String {
+    let cap = reply.order.saturating_sub(1);
+    let further = match cap {
+        CARDS => "The box has no more cards than that.".to_string(),
+        cap => format!("--cards {} looks further.", cap + 1),
+    };
+    format!(
+        "None: {}.\nThe search up to there has ended, after {}. {further}",
+        excluded(cap),
+        counted(reply.steps, "step")
+    )
+}
+
+fn spent(reply: &Reply) -> String {
+    let further = match reply.steps {
+        STEPS => "No higher limit is taken.",
+        _ => "--steps sets another limit.",
+    };
+    format!(
+        "Spent: {}, the limit.\nSets of {} have not been searched to the end, so nothing is said of them. {further}",
+        stopped(reply),
+        signals(reply.order)
+    )
+}
+
+fn full(reply: &Reply, settings: &Settings) -> String {
+    if reply.order == 0 {
+        return format!(
+            "Full: nothing needs to be added, and there is no room to list the empty set; {}.",
+            stopped(reply)
+        );
+    }
+    let further = match settings.sets.value() {
+        Some(SETS) => "There is no more room than that.",
+        _ => "--sets makes more room.",
+    };
+    format!(
+        "Full: {}.\nThere are more sets of {} than there is room for ({}); none is listed, since they would not be all. \
+         {further}",
+        stopped(reply),
+        signals(reply.order),
+        grouped(settings.sets.digits())
+    )
+}
+
+#[cfg(test)]
+mod tests {
+    use super::*;
+    use crate::typed::system::tests::system;
+    use crate::typed::text::point;
+
+    const TEXT: &str = "x' = x^4 + x^3";
+
+    fn words_with(reply: [u64; 5], settings: &Settings, text: &str) -> Said {
+        let [code, order, count, steps, place] = reply;
+        let sources = [Source { file: None, text: text.into() }];
+        said(&Reply { code, order, count, steps, place }, settings, &system(text), &sources)
+    }
+
+    fn words(reply: [u64; 5]) -> String {
+        words_with(reply, &Settings::default(), TEXT).words
+    }
+
+    #[test]
+    fn code_0() {
+        assert_eq!(
+            words([0, 2, 2, 23, 0]),
+            "Found: 2 smallest sets, of 2 new signals each, and these are all.\nThe whole search has ended, after 23 steps."
+        );
+        assert_eq!(
+            words([0, 1, 1, 6, 0]),
+            "Found: 1 smallest set, of 1 new signal, and it is the only one.\nThe whole search has ended, after 6 steps."
+        );
+        assert_eq!(
+            words([0, 0, 1, 1, 0]),
+            "Nothing needs to be added: each term is a product of at most two variables.\n\
+             The whole search has ended, after 1 step."
+        );
+    }
+
+    #[test]
+    fn code_1() {
+        let settings = Settings { cards: 7.into(), steps: 0.into(), ..Settings::default() };
+        assert_eq!(
+            words_with([1, 0, 0, 0, 0], &settings, TEXT).words,
+            "Refused: --cards is 7, and may be 0 to 6; --steps is 0, and may be 1 to 1,000,000,000."
+        );
+    }
+
+    #[test]
+    fn code_2() {
+        let text = format!("x' = {}", (0..33).map(|i| format!("{}", i + 1)).collect::<Vec<_>>().join(" + "));
+        let said = words_with([2, 0, 0, 0, 0], &Settings::default(), &text);
+        assert_eq!(said.words, "Refused: 33 terms were typed, and the box takes up to 32. This is term 33:");
+        let (_, span) = said.places[0];
+        assert_eq!(&text[span.from..span.to], "33");
+    }
+
+    #[test]
+    fn code_3() {
+        let text = "x' = x + x^10";
+        let said = words_with([3, 0, 0, 0, 2], &Settings::default(), text);
+        assert_eq!(said.words, "Refused: term 2, x^10: the power of x is 10, and the box takes 0 to 9.");
+        let sources = [Source { file: None, text: text.into() }];
+        assert_eq!(point(&sources, said.places[0].1), "  x' = x + x^10\n           ^^^^\n");
+    }
+
+    #[test]
+    fn code_4() {
+        let said = words_with([4, 0, 0, 0, 3], &Settings::default(), "x' = x*y + 1 - 2*y x");
+        assert_eq!(said.words, "Refused: term 3, 2*y x: the equation of x has this product already; add the two up.");
+        assert_eq!(said.places.len(), 2);
+        assert_eq!((said.places[1].1.from, said.places[1].1.to), (5, 8));
+    }
+
+    #[test]
+    fn code_5() {
+        assert_eq!(
+            words([5, 3, 0, 1234, 0]),
+            "None: no set of up to 2 new signals exists.\nThe search up to there has ended, after 1,234 steps. \
+             --cards 3 looks further."
+        );
+        assert_eq!(
+            words([5, 1, 0, 1, 0]),
+            "None: without new signals it cannot be wired.\nThe search up to there has ended, after 1 step. \
+             --cards 1 looks further."
+        );
+        assert!(words([5, 7, 0, 99, 0]).ends_with("The box has no more cards than that."));
+    }
+
+    #[test]
+    fn code_6() {
+        let room = |sets: u64| Settings { sets: sets.into(), ..Settings::default() };
+        assert_eq!(
+            words_with([6, 2, 0, 15, 0], &room(1), TEXT).words,
+            "Full: no set of up to 1 new signal exists; stopped in level 2 after 15 steps.\nThere are more sets of 2 \
+             new signals than there is room for (1); none is listed, since they would not be all. --sets makes more room."
+        );
+        let most = words_with([6, 2, 0, 15, 0], &room(20_000), TEXT).words;
+        assert!(most.ends_with("There is no more room than that."), "{most}");
+        assert_eq!(
+            words_with([6, 0, 0, 1, 0], &room(0), "x' = x^2").words,
+            "Full: nothing needs to be added, and there is no room to list the empty set; \
+             stopped in level 0 after 1 step."
+        );
+    }
+
+    #[test]
+    fn code_7() {
+        assert_eq!(
+            words([7, 3, 0, 1000000, 0]),
+            "Spent: no set of up to 2 new signals exists; stopped in level 3 after 1,000,000 steps, the limit.\n\
+             Sets of 3 new signals have not been searched to the end, so nothing is said of them. --steps sets another limit."
+        );
+        assert!(words([7, 1, 0, 1_000_000_000, 0]).ends_with("nothing is said of them. No higher limit is taken."));
+        assert!(words([7, 1, 0, 6, 0]).starts_with("Spent: without new signals it cannot be wired; stopped in level 1"));
+    }
+
+    #[test]
+    fn smallest_is_said_of_a_whole_search_alone() {
+        for code in 0..8 {
+            for order in 0..8 {
+                let said = words([code, order, 1, 1, 1]).to_lowercase();
+                let may = code == 0 && 0 < order;
+                assert_eq!(said.contains("smallest"), may, "{said}");
+                for boast in ["minimal", "optimal", "best", "fewest", "found:"] {
+                    assert!(may || !said.contains(boast), "{said}");
+                }
+            }
+        }
+    }
+}

@@ -1,0 +1,519 @@
+//! Equations from text. Terms are kept as typed, unmerged, each with its place: what is wrong with a system is for the
+//! planner to say, and what is no system at all is said here.
+
+use crate::panel::{CARDS, VARIABLES};
+use crate::typed::lexer::{tokens, Token, Word};
+use crate::typed::text::{short, Fault, Source, Span};
+
+/// A name of the text. Numbers count from 1.
+#[derive(Debug, Clone, Copy, PartialEq)]
+pub enum Variable {
+    /// x, y, z
+    Letter(usize),
+    /// x1, x2, .., as many as the box takes
+    Numbered(usize),
+    /// w1, w2, .., one for each card: a new signal of an earlier plan, pasted back
+    Wired(usize),
+}
+
+/// The variables that have names without numbers.
+pub const LETTERS: [&str; 3] = ["x", "y", "z"];
+
+impl Variable {
+    pub fn of(name: &str) -> Option<Variable> {
+        let letter = LETTERS.iter().position(|&letter| letter == name).map(|i| Variable::Letter(i + 1));
+        letter
+            .or_else(|| number(name, 'x', VARIABLES).map(Variable::Numbered))
+            .or_else(|| number(name, 'w', CARDS as usize).map(Variable::Wired))
+    }
+}
+
+/// The number of a name like x1: 1 to `most`, without zeros before it.
+fn number(name: &str, letter: char, most: usize) -> Option<usize> {
+    let digits = name.strip_prefix(letter)?;
+    (1..=most).find(|i| i.to_string() == digits)
+}
+
+/// One term as typed. Numbers too large to hold stand at the largest that fits; no rule of the box lets them pass.
+#[derive(Debug, Clone, PartialEq)]
+pub struct Term {
+    pub negative: bool,
+    /// The product of the written numbers, 1 where there is none.
+    pub size: u128,
+    /// The factors in their order; a name may stand more than once.
+    pub powers: Vec<(Variable, u128)>,
+    pub span: Span,
+}
+
+#[derive(Debug, Clone, PartialEq)]
+pub struct Equation {
+    pub left: Variable,
+    pub span: Span,
+    /// Empty for a lone 0.
+    pub terms: Vec<Term>,
+}
+
+/// All that was typed.
+#[derive(Debug, Default, PartialEq)]
+pub struct Typed {
+    pub equations: Vec<Equation>,
+    /// Lines like `w1 = x^2`: they say what a pasted signal is, and are no equations.
+    pub namings: Vec<(Variable, Span)>,
+    /// Every name that stands in an equation, in the order of the text.
+    pub names: Vec<(Variable, Span)>,
+}
+
+pub fn parse(sources: &[Source]) -> Result<Typed, Fault> {
+    let mut typed = Typed::default();
+    for (number, source) in sources.iter().enumerate() {
+        let mut parser = Parser { tokens: tokens(number, source), at: 0, text: &source.text, typed: &mut typed };
+        parser.text()?;
+    }
+    if typed.equations.is_empty() {
+        return Err(Fault::nowhere("there is no equation here; one reads x' = x^4 + x^3"));
+    }
+    one_style(&typed.names)?;
+    for &(name, span) in &typed.namings {
+        if !typed.equations.iter().any(|e| e.left == name) {
+            let name = text_of(sources, span);
+            return Err(Fault::at(span, format!("{name} is named here, and its equation, {name}' = .., is missing")));
+        }
+    }
+    Ok(typed)
+}
+
+fn text_of(sources: &[Source], span: Span) -> &str {
+    &sources[span.source].text[span.from..span.to]
+}
+
+fn one_style(names: &[(Variable, Span)]) -> Result<(), Fault> {
+    let letters = names.iter().find(|n| matches!(n.0, Variable::Letter(_)));
+    let numbered = names.iter().find(|n| matches!(n.0, Variable::Numbered(_)));
+    match (letters, numbered) {
+        (Some(&(_, a)), Some(&(_, b))) => {
+            let later = if (a.source, a.from) < (b.source, b.from) { b } else { a };
+            Err(Fault::at(
+                later,
+                format!(
+                    "two ways of naming in one system: use x, y, z or x1 to x{VARIABLES}, not both \
+                     (the square of x is x^2)"
+                ),
+            ))
+        }
+        _ => Ok(()),
+    }
+}
+
+struct Parser<'a> {
+    tokens: Vec<Token>,
+    at: usize,
+    text: &'a str,
+    typed: &'a mut Typed,
+}
+
+impl Parser<'_> {
+    fn word(&self) -> &Word {
+        &self.tokens[self.at].word
+    }
+
+    fn span(&self) -> Span {
+        self.tokens[self.at].span
+    }
+
+    fn following(&self) -> &Word {
+        let next = (self.at + 1).min(self.tokens.len() - 1);
+        &self.tokens[next].word
+    }
+
+    /// Takes a word. The end is never taken.
+    fn take(&mut self) -> Token {
+        let token = self.tokens[self.at].clone();
+        if token.word != Word::End {
+            self.at += 1;
+        }
+        token
+    }
+
+    fn takes(&mut self, word: Word) -> bool {
+        let there = *self.word() == word;
+        if there {
+            self.take();
+        }
+        there
+    }
+
+    fn fault<T>(&self, words: impl Into<String>) -> Result<T, Fault> {
+        Err(Fault::at(self.span(), words))
+    }
+
+    fn text(&mut self) -> Result<(), Fault> {
+        loop {
+            match self.word() {
+                Word::Break => {
+                    self.take();
+                }
+                Word::End => return Ok(()),
+                _ => self.line()?,
+            }
+        }
+    }
+
+    fn line(&mut self) -> Result<(), Fault> {
+        let left = match self.word() {
+            Word::Name(_) => self.variable()?,
+            Word::Other(_) => return self.stranger(),
+            _ => return self.fault("an equation begins with the name of its variable, as in x' = x^2"),
+        };
+        let span = self.tokens[self.at - 1].span;
+        let name = self.text[span.from..span.to].to_string();
+        let naming = match self.word() {
+            Word::Prime => {
+                self.take();
+                if *self.word() == Word::Prime {
+                    return self
+                        .fault("a second derivative: give the first a variable of its own, as in x' = y, y' = -x");
+                }
+                false
+            }
+            Word::Equals if matches!(left, Variable::Wired(_)) => true,
+            Word::Equals => return Err(Fault::at(span, format!("the left side is a derivative, written {name}'"))),
+            Word::Other(_) => return self.stranger(),
+            _ => return self.fault(format!("an equation begins with {name}' and =")),
+        };
+        if !self.takes(Word::Equals) {
+            if let Word::Other(_) = self.word() {
+                return self.stranger();
+            }
+            return self.fault(format!("= is missing after {name}'"));
+        }
+        // The names of a naming stand in no equation.
+        let names = self.typed.names.len();
+        let terms = self.sum()?;
+        match self.word() {
+            Word::Break | Word::End => {}
+            Word::Prime => {
+                return self.fault(
+                    "another equation begins before this: put a comma, a semicolon or a new line between the two",
+                )
+            }
+            Word::Equals => return self.fault("a second = in one equation"),
+            Word::Power => return self.fault("a power of a number or of a power: multiply it out"),
+            _ => return self.stranger(),
+        }
+        if naming {
+            self.typed.names.truncate(names);
+            self.typed.namings.push((left, span));
+            return Ok(());
+        }
+        if self.typed.equations.iter().any(|e| e.left == left) {
+            return Err(Fault::at(span, format!("the equation of {name} is given twice")));
+        }
+        self.typed.names.insert(names, (left, span));
+        self.typed.equations.push(Equation { left, span, terms });
+        Ok(())
+    }
+
+    fn sum(&mut self) -> Result<Vec<Term>, Fault> {
+        let mut terms = Vec::new();
+        let mut negative = self.takes(Word::Minus);
+        if !negative {
+            self.takes(Word::Plus);
+        }
+        let first = self.at;
+        loop {
+            terms.push(self.term(negative)?);
+            negative = match self.word() {
+                Word::Plus => false,
+                Word::Minus => true,
+                _ => break,
+            };
+            self.take();
+        }
+        // A lone 0 is an equation without terms. In a sum it is a term as typed.
+        let lone = self.at == first + 1 && terms[0].powers.is_empty() && terms[0].size == 0;
+        if lone {
+            terms.clear();
+        }
+        Ok(terms)
+    }
+
+    fn term(&mut self, negative: bool) -> Result<Term, Fault> {
+        let mut term = Term { negative, size: 1, powers: Vec::new(), span: self.span() };
+        loop {
+            self.factor(&mut term)?;
+            term.span = term.span.to_end_of(self.tokens[self.at - 1].span);
+            match self.word() {
+                Word::Times => {
+                    self.take();
+                }
+                Word::Name(_) | Word::Number(_) => {}
+                _ => return Ok(term),
+            }
+        }
+    }
+
+    fn factor(&mut self, term: &mut Term) -> Result<(), Fault> {
+        match self.word().clone() {
+            Word::Number(digits) => {
+                self.take();
+                term.size = term.size.saturating_mul(whole(&digits));
+                Ok(())
+            }
+            Word::Name(_) => {
+                let variable = self.variable()?;
+                self.typed.names.push((variable, self.tokens[self.at - 1].span));
+                let power = if self.takes(Word::Power) { self.power()? } else { 1 };
+                term.powers.push((variable, power));
+                Ok(())
+            }
+            Word::Plus | Word::Minus => self.fault("two signs in a row: a term has one sign, in front of it"),
+            Word::Break | Word::End => self.fault("a term is missing here (a right side that is nothing is written 0)"),
+            Word::Other(_) => self.stranger(),
+            _ => self.fault("a term is missing before this"),
+        }
+    }
+
+    fn power(&mut self) -> Result<u128, Fault> {
+        match self.word().clone() {
+            Word::Number(digits) => {
+                self.take();
+                Ok(whole(&digits))
+            }
+            Word::Minus => self.fault("a negative power: the box multiplies and cannot divide"),
+            Word::Other(_) => self.stranger(),
+            _ => self.fault("a power is a whole number, as in x^3"),
+        }
+    }
+
+    fn variable(&mut self) -> Result<Variable, Fault> {
+        let Word::Name(name) = self.word().clone() else {
+            return self.fault("a name is missing here");
+        };
+        if let Some(variable) = Variable::of(&name) {
+            self.take();
+            return Ok(variable);
+        }
+        let name = short(&name);
+        let derivative = name.strip_prefix('d').filter(|rest| Variable::of(rest).is_some());
+        match (self.following(), derivative) {
+            (Word::Other('('), _) => {
+                self.fault(format!("{name}(..) is a function: the box takes sums of products of powers alone"))
+            }
+            (Word::Other('/'), Some(rest)) => self.fault(format!("write the derivative of {rest} as {rest}'")),
+            _ if name.chars().all(|c| "xyz".contains(c)) => {
+                let product: Vec<String> = name.chars().map(String::from).collect();
+                self.fault(format!(
+                    "the name {name} is not known: a product is written {} or {}",
+                    product.join("*"),
+                    product.join(" ")
+                ))
+            }
+            _ => self.fault(format!("the name {name} is not known: variables are x, y, z or x1 to x{VARIABLES}")),
+        }
+    }
+
+    /// Says what is wrong with a character that no equation has.
+    fn stranger<T>(&self) -> Result<T, Fault> {
+        let Word::Other(c) = *self.word() else {
+            return self.fault("this is not read here");
+        };
+        match c {
+            '/' => self.fault("a fraction: coefficients are whole numbers, and nothing is divided"),
+            '.' => self.fault("a decimal point: coefficients and powers are whole numbers"),
+            '(' | ')' | '[' | ']' | '{' | '}' => self.fault("brackets: write the sum multiplied out, term by term"),
+            '²' | '³' | '¹' | '⁰' | '⁴'..='⁹' => self.fault("write a power with ^, as in x^2"),
+            '₀'..='₉' => self.fault("write the number of a variable on the line, as in x1"),
+            _ => self.fault(format!("{c:?} is not read here")),
+        }
+    }
+}
+
+fn whole(digits: &str) -> u128 {
+    digits.parse().unwrap_or(u128::MAX)
+}
+
+#[cfg(test)]
+mod tests {
+    use super::*;
+    use crate::typed::text::point;
+
+    fn sources(texts: &[&str]) -> Vec<Source> {
+        texts.iter().map(|text| Source { file: None, text: text.to_string() }).collect()
+    }
+
+    fn good(text: &str) -> Typed {
+        parse(&sources(&[text])).unwrap_or_else(|fault| panic!("{text}: {fault:?}"))
+    }
+
+    /// The words of a refusal, and what they point at.
+    fn bad(text: &str) -> (String, String) {
+        let sources = sources(&[text]);
+        let fault = parse(&sources).expect_err(text);
+        let at = fault.span.map_or(String::new(), |s| text_of(&sources, s).to_string());
+        (fault.words, at)
+    }
+
+    type Seen = (bool, u128, Vec<(Variable, u128)>, String);
+
+    /// Sign and size, powers, and text of each term.
+    fn terms(text: &str) -> Vec<Seen> {
+        let sources = sources(&[text]);
+        let typed = parse(&sources).unwrap();
+        let terms = typed.equations.into_iter().flat_map(|e| e.terms);
+        terms.map(|t| (t.negative, t.size, t.powers, text_of(&sources, t.span).to_string())).collect()
+    }
+
+    const X: Variable = Variable::Letter(1);
+    const Y: Variable = Variable::Letter(2);
+
+    #[test]
+    fn a_sum_of_powers() {
+        assert_eq!(
+            terms("x' = x^4 + x**3"),
+            vec![(false, 1, vec![(X, 4)], "x^4".into()), (false, 1, vec![(X, 3)], "x**3".into())]
+        );
+    }
+
+    #[test]
+    fn signs_and_coefficients() {
+        assert_eq!(
+            terms("x' = -x - 2*x^2 + 3 x y"),
+            vec![
+                (true, 1, vec![(X, 1)], "x".into()),
+                (true, 2, vec![(X, 2)], "2*x^2".into()),
+                (false, 3, vec![(X, 1), (Y, 1)], "3 x y".into())
+            ]
+        );
+        assert_eq!(terms("x' = +7")[0], (false, 7, vec![], "7".into()), "a number is a term with no variable");
+    }
+
+    #[test]
+    fn factors_of_one_term_are_kept() {
+        assert_eq!(terms("x' = 2*3*x*x^2"), vec![(false, 6, vec![(X, 1), (X, 2)], "2*3*x*x^2".into())]);
+        assert_eq!(terms("x' = 2x*3"), vec![(false, 6, vec![(X, 1)], "2x*3".into())]);
+    }
+
+    #[test]
+    fn repeats_are_left_to_the_planner() {
+        assert_eq!(terms("x' = x + x").len(), 2);
+        assert_eq!(terms("x' = x + 0").len(), 2, "0 in a sum is a term");
+        assert_eq!(terms("x' = 0*x").len(), 1);
+    }
+
+    #[test]
+    fn a_lone_zero_is_an_equation_without_terms() {
+        assert_eq!(terms("x' = 0"), vec![]);
+        assert_eq!(terms("x' = -0"), vec![]);
+        assert_eq!(good("x' = 0").equations.len(), 1);
+    }
+
+    #[test]
+    fn numbers_of_any_length() {
+        let long = "9".repeat(60);
+        assert_eq!(terms(&format!("x' = {long}*x"))[0].1, u128::MAX);
+        assert_eq!(terms(&format!("x' = {long}*0*x"))[0].1, 0);
+        assert_eq!(terms(&format!("x' = x^{long}"))[0].2[0].1, u128::MAX);
+    }
+
+    #[test]
+    fn many_equations_in_one_text_or_in_several() {
+        for text in ["x' = y, y' = x", "x' = y; y' = x;", "# two\nx' = y\n\ny' = x # the other\n"] {
+            assert_eq!(good(text).equations.len(), 2, "{text}");
+        }
+        let typed = parse(&sources(&["x' = y", "y' = x"])).unwrap();
+        assert_eq!(typed.equations[1].terms[0].span.source, 1);
+    }
+
+    #[test]
+    fn a_wiring_can_be_pasted_back() {
+        let typed = good("w1 = x^2\nx' = x*w1\nw1' = 2*w1^2");
+        assert_eq!(typed.equations.len(), 2);
+        assert_eq!(typed.namings.len(), 1);
+        let (words, at) = bad("w1 = x^2\nx' = x*w1");
+        assert!(words.contains("w1' = .., is missing"), "{words}");
+        assert_eq!(at, "w1");
+    }
+
+    #[test]
+    fn empty_texts() {
+        for text in ["", "  \n\n", "# nothing", ";"] {
+            assert!(bad(text).0.contains("no equation"), "{text:?}");
+        }
+        assert!(parse(&[]).is_err());
+        assert!(bad("x' =").0.contains("term is missing"));
+        assert!(bad("x' = , y' = x").0.contains("term is missing"));
+        assert!(bad("x' = x +").0.contains("term is missing"));
+    }
+
+    #[test]
+    fn unknown_names() {
+        for (text, name) in
+            [("x' = u", "u"), ("x' = x7", "x7"), ("x0' = 1", "x0"), ("X' = 1", "X"), ("x1' = x12", "x12")]
+        {
+            let (words, at) = bad(text);
+            assert!(words.contains("is not known"), "{text}: {words}");
+            assert_eq!(at, name);
+        }
+        assert!(bad("x' = xy").0.contains("x*y or x y"));
+    }
+
+    #[test]
+    fn what_is_no_polynomial() {
+        for (text, words, at) in [
+            ("x' = sin(x)", "function", "sin"),
+            ("x' = x/2", "fraction", "/"),
+            ("x' = 1/2 x", "fraction", "/"),
+            ("x' = 0.5*x", "decimal", "."),
+            ("x' = x^0.5", "decimal", "."),
+            ("x' = x^-1", "negative power", "-"),
+            ("x' = x^y", "whole number", "y"),
+            ("x' = x*(y + 1)", "multiplied out", "("),
+            ("x' = x²", "with ^", "²"),
+            ("x' = 2^3", "multiply it out", "^"),
+            ("x' = x^2^3", "multiply it out", "^"),
+            ("x' = x $ y", "not read", "$"),
+        ] {
+            let (said, pointed) = bad(text);
+            assert!(said.contains(words), "{text}: {said}");
+            assert_eq!(pointed, at, "{text}");
+        }
+    }
+
+    #[test]
+    fn what_is_no_equation() {
+        for (text, words) in [
+            ("x^3", "begins with x'"),
+            ("x = x^3", "written x'"),
+            ("x' x^3", "= is missing after x'"),
+            ("x'' = x", "second derivative"),
+            ("dx/dt = x", "as x'"),
+            ("= x", "begins with the name"),
+            ("x' = x y' = y", "another equation begins"),
+            ("x' = x = y", "second ="),
+            ("x' = x + - y", "two signs"),
+            ("x' = 2*-x", "two signs"),
+            ("x' = * x", "term is missing"),
+            ("x' = x ** ", "whole number"),
+            ("x' = 1,000*x", "begins with the name"),
+        ] {
+            let (said, _) = bad(text);
+            assert!(said.contains(words), "{text}: {said}");
+        }
+    }
+
+    #[test]
+    fn an_equation_twice() {
+        let sources = sources(&["x' = x", "y' = x, x' = y"]);
+        let fault = parse(&sources).unwrap_err();
+        assert_eq!(fault.words, "the equation of x is given twice");
+        assert_eq!(point(&sources, fault.span.unwrap()), "  y' = x, x' = y\n          ^\n");
+    }
+
+    #[test]
+    fn two_ways_of_naming() {
+        let (words, at) = bad("x' = x2 + x");
+        assert!(words.contains("not both"), "{words}");
+        assert_eq!(at, "x2");
+        assert_eq!(bad("x1' = x").1, "x");
+    }
+}

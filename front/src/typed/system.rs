@@ -1,0 +1,295 @@
+//! The typed equations as the box takes them: numbered variables and term records.
+
+use crate::algebra::{self, Exponents};
+use crate::panel::{COEFFICIENT_AT, EXPONENTS_AT, TERM_BYTES, VARIABLES};
+use crate::typed::parser::{Typed, Variable, LETTERS};
+use crate::typed::text::{Fault, Span};
+
+/// A term record.
+#[derive(Debug, Clone, PartialEq)]
+pub struct Record {
+    pub equation: u8,
+    pub exponents: Exponents,
+    pub coefficient: i32,
+}
+
+impl Record {
+    pub fn bytes(&self) -> [u8; TERM_BYTES] {
+        let mut out = [0; TERM_BYTES];
+        out[0] = self.equation;
+        out[EXPONENTS_AT..COEFFICIENT_AT].copy_from_slice(&self.exponents);
+        out[COEFFICIENT_AT..].copy_from_slice(&self.coefficient.to_le_bytes());
+        out
+    }
+}
+
+/// A term as typed, with its variables numbered. It need not fit a record.
+#[derive(Debug, Clone, PartialEq)]
+pub struct Term {
+    /// From 1.
+    pub equation: usize,
+    pub powers: [u128; VARIABLES],
+    pub negative: bool,
+    pub size: u128,
+    pub span: Span,
+}
+
+impl Term {
+    /// Nothing where a power does not fit a byte or the coefficient 32 bits.
+    pub fn record(&self) -> Option<Record> {
+        let mut exponents = [0; VARIABLES];
+        for (e, &power) in exponents.iter_mut().zip(&self.powers) {
+            *e = u8::try_from(power).ok()?;
+        }
+        let size = i64::try_from(self.size).ok()?;
+        let coefficient = i32::try_from(if self.negative { -size } else { size }).ok()?;
+        Some(Record { equation: self.equation as u8, exponents, coefficient })
+    }
+}
+
+/// A system that can be asked about.
+#[derive(Debug, PartialEq)]
+pub struct System {
+    /// The variables by their typed names: the first is x1 of the box.
+    pub names: Vec<String>,
+    /// Whether the variable stands anywhere in the equations.
+    pub used: Vec<bool>,
+    /// Whether the variable has an equation.
+    pub fed: Vec<bool>,
+    /// All terms in the order of the text: term p is record p.
+    pub terms: Vec<Term>,
+    /// New signals are named on from here, w1 where it is 0.
+    pub wired: usize,
+    /// The names that lines like `w1 = x^2` gave.
+    pub namings: Vec<String>,
+}
+
+impl System {
+    pub fn of(typed: &Typed) -> Result<System, Fault> {
+        let largest = |of: fn(Variable) -> usize| typed.names.iter().map(|&(v, _)| of(v)).max().unwrap_or(0);
+        let plain = largest(|v| match v {
+            Variable::Letter(i) | Variable::Numbered(i) => i,
+            Variable::Wired(_) => 0,
+        });
+        let wired = largest(|v| match v {
+            Variable::Wired(i) => i,
+            _ => 0,
+        });
+        // A pasted signal comes after all variables.
+        let number = |v| match v {
+            Variable::Letter(i) | Variable::Numbered(i) => i,
+            Variable::Wired(i) => plain + i,
+        };
+        if let Some(&(_, span)) = typed.names.iter().find(|&&(v, _)| VARIABLES < number(v)) {
+            let count = plain + wired;
+            return Err(Fault::at(span, format!("{count} variables, and the box takes up to {VARIABLES}")));
+        }
+        let letters = typed.names.iter().any(|&(v, _)| matches!(v, Variable::Letter(_)));
+        let name = |i: usize| match i {
+            i if plain <= i => format!("w{}", i - plain + 1),
+            i if letters => LETTERS[i].into(),
+            i => format!("x{}", i + 1),
+        };
+        let n = plain + wired;
+        let mut system = System {
+            names: (0..n).map(name).collect(),
+            used: vec![false; n],
+            fed: vec![false; n],
+            terms: Vec::new(),
+            wired,
+            namings: Vec::new(),
+        };
+        for &(v, _) in &typed.names {
+            system.used[number(v) - 1] = true;
+        }
+        for &(v, _) in &typed.namings {
+            system.namings.push(system.names[number(v) - 1].clone());
+        }
+        for equation in &typed.equations {
+            let left = number(equation.left);
+            system.fed[left - 1] = true;
+            for term in &equation.terms {
+                let mut powers = [0u128; VARIABLES];
+                for &(v, power) in &term.powers {
+                    let place = &mut powers[number(v) - 1];
+                    *place = place.saturating_add(power);
+                }
+                let (negative, size, span) = (term.negative, term.size, term.span);
+                system.terms.push(Term { equation: left, powers, negative, size, span });
+            }
+        }
+        Ok(system)
+    }
+
+    /// The records, or the number of the first term that fits none, from 1.
+    pub fn records(&self) -> Result<Vec<Record>, usize> {
+        self.terms.iter().enumerate().map(|(i, t)| t.record().ok_or(i + 1)).collect()
+    }
+
+    /// Variables that stand in a term and have no equation.
+    pub fn unfed(&self) -> Vec<&str> {
+        let all = self.names.iter().zip(&self.used).zip(&self.fed);
+        all.filter(|((_, &used), &fed)| used && !fed).map(|((name, _), _)| name.as_str()).collect()
+    }
+
+    /// The equations as they were read, variable by variable.
+    pub fn equations(&self, records: &[Record]) -> Vec<String> {
+        let mut out = Vec::new();
+        for (i, name) in self.names.iter().enumerate().filter(|&(i, _)| self.fed[i]) {
+            let own = records.iter().filter(|r| usize::from(r.equation) == i + 1);
+            let terms: Vec<(i64, String)> =
+                own.map(|r| (r.coefficient.into(), algebra::monomial(&self.names, &r.exponents))).collect();
+            out.push(format!("{name}' = {}", algebra::sum(terms.iter().map(|(c, m)| (*c, m.as_str())))));
+        }
+        out
+    }
+}
+
+#[cfg(test)]
+pub mod tests {
+    use super::*;
+    use crate::typed::parser::parse;
+    use crate::typed::text::Source;
+
+    pub fn system(text: &str) -> System {
+        let sources = [Source { file: None, text: text.into() }];
+        System::of(&parse(&sources).unwrap()).unwrap()
+    }
+
+    fn exponents(first: [u8; 3]) -> Exponents {
+        [first[0], first[1], first[2], 0, 0, 0]
+    }
+
+    #[test]
+    fn a_record_is_twelve_bytes() {
+        let records = system("y' = -2*x^4*y").records().unwrap();
+        assert_eq!(records.len(), 1);
+        assert_eq!(records[0].bytes(), [2, 0, 4, 1, 0, 0, 0, 0, 0xfe, 0xff, 0xff, 0xff]);
+    }
+
+    #[test]
+    fn terms_go_as_typed() {
+        let records = system("x' = x + x*x^2 + x + 2*3").records().unwrap();
+        let seen: Vec<_> = records.iter().map(|r| (r.exponents, r.coefficient)).collect();
+        let (x, one) = (exponents([1, 0, 0]), exponents([0, 0, 0]));
+        assert_eq!(seen, vec![(x, 1), (exponents([3, 0, 0]), 1), (x, 1), (one, 6)]);
+        let system = system("x' = x^10 + 1000001*x + 0*x");
+        assert_eq!(system.records().unwrap().len(), 3, "what fits a record is for the planner to refuse");
+    }
+
+    #[test]
+    fn what_fits_no_record_is_named() {
+        assert_eq!(system("x' = x + x^256").records(), Err(2));
+        assert!(system("x' = x^255").records().is_ok());
+        assert_eq!(system("x' = x^200*x^56").records(), Err(1));
+        assert_eq!(system("x' = 2147483648*x").records(), Err(1));
+        assert!(system("x' = -2147483648*x + 2147483647").records().is_ok());
+        assert_eq!(system(&format!("x' = {}*x", "7".repeat(50))).records(), Err(1));
+    }
+
+    #[test]
+    fn variables_are_counted_to_the_largest() {
+        let system = system("x' = z^2");
+        assert_eq!(system.names, ["x", "y", "z"]);
+        assert_eq!(system.used, [true, false, true]);
+        assert_eq!(system.unfed(), ["z"], "y stands nowhere, so there is nothing to say of it");
+        assert_eq!(super::tests::system("x6' = 1").names.len(), 6);
+    }
+
+    #[test]
+    fn pasted_signals_follow_the_variables() {
+        let system = system("w1 = x^2\nx' = x*w1\nw1' = 2*w1^2");
+        assert_eq!(system.names, ["x", "w1"]);
+        assert_eq!((system.wired, system.namings.as_slice()), (1, ["w1".to_string()].as_slice()));
+        assert_eq!(system.records().unwrap()[1].exponents, exponents([0, 2, 0]));
+    }
+
+    #[test]
+    fn more_than_six_variables() {
+        let sources = [Source { file: None, text: "x4' = w3, w3' = 1".into() }];
+        let fault = System::of(&parse(&sources).unwrap()).unwrap_err();
+        assert_eq!(fault.words, "7 variables, and the box takes up to 6");
+    }
+
+    #[test]
+    fn equations_are_shown_as_read() {
+        let system = system("y' = - x 2 + 3y\nx' = 0");
+        assert_eq!(system.equations(&system.records().unwrap()), ["x' = 0", "y' = -2*x + 3*y"]);
+    }
+
+    /// Texts of all sorts: pieces of equations in any order, in every other text such as may stand there.
+    fn babble(seed: &mut u64) -> String {
+        const GOOD: [&str; 14] =
+            ["x", "y", "z^2", "x^3", "**2", "2", "10", "*", " ", " + ", " - ", "+", ", y' = -", "\nz' = "];
+        const ALL: [&str; 32] = [
+            "x1' = ",
+            "w1' = ",
+            "w1 = ",
+            "x2",
+            "x6",
+            "w1",
+            "w2",
+            "0",
+            "^",
+            "-",
+            "=",
+            "'",
+            ", ",
+            "; ",
+            "\n",
+            "#",
+            "/",
+            ".",
+            "(",
+            ")",
+            "²",
+            "′",
+            "é",
+            "sin",
+            "\t",
+            "999999999999",
+            "x",
+            "*",
+            " + ",
+            "x' = ",
+            "y' = ",
+            "y",
+        ];
+        let mut next = |bound: usize| {
+            *seed = seed.wrapping_mul(6364136223846793005).wrapping_add(1442695040888963407);
+            (*seed >> 33) as usize % bound
+        };
+        let length = 1 + next(10);
+        let (start, pieces): (&str, &[&str]) = if next(2) == 0 { ("x' = x", &GOOD) } else { ("", &ALL) };
+        let rest: String = (0..length).map(|_| pieces[next(pieces.len())]).collect();
+        format!("{start}{rest}")
+    }
+
+    #[test]
+    fn no_text_is_too_odd_and_what_is_shown_is_what_was_read() {
+        let (mut seed, mut read) = (1, 0);
+        for _ in 0..20_000 {
+            let text = babble(&mut seed);
+            let sources = [Source { file: None, text }];
+            let system = match parse(&sources).and_then(|typed| System::of(&typed)) {
+                Ok(system) => system,
+                Err(fault) => {
+                    // Every fault can be pointed at.
+                    fault.span.map(|span| crate::typed::text::point(&sources, span));
+                    continue;
+                }
+            };
+            // A lone 0 that was typed as a product is refused, and its equation shown as that of nothing.
+            let records = system.records().ok().filter(|all| all.iter().all(|r| r.coefficient != 0));
+            if let Some(mut records) = records {
+                let shown = super::tests::system(&system.equations(&records).join("\n"));
+                records.sort_by_key(|r| r.equation);
+                let n = system.names.len();
+                assert_eq!(shown.records(), Ok(records), "{:?}", sources[0].text);
+                assert_eq!(shown.names[..], system.names[..shown.names.len().min(n)], "{:?}", sources[0].text);
+                read += 1;
+            }
+        }
+        assert!(500 < read, "{read}");
+    }
+}
