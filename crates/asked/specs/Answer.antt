@@ -1,4 +1,4 @@
--- What the program writes, by what was asked: the report, or of wrong words the reply that a setting is wrong. Assumes nothing.
+-- What the program writes: the report that was asked for, or of wrong words the reply of code 1. Assumes nothing.
 use mathlib.Core.Path.{_≡_}
 use mathlib.Core.List.{List, [], _∷_}
 use Prim.Native.Nat.{ℕ}

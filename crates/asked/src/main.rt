@@ -1,4 +1,4 @@
-// The same with settings given as arguments: reads them and term records, plans and wires once, and writes the lines of the report.
+// Document 01's program with settings as arguments: plans and wires once, and writes the lines of the report.
 //
 //     asked N K LIMIT SETS WHICH < term-records
 mod answer;

@@ -33,7 +33,8 @@ pub fn reply_line(five: [u64; 5], line: &mut [u8; LINE_BYTES]) -> usize
 // The six exponents at place i of a set record.
 fn put_monomial(bytes: &[u8], i: usize, line: &mut [u8], at: usize) -> usize
     requires { ⌜ (width * i + width ≤ length (now bytes)) × (at + powersBytes ≤ length (now line)) ⌝ }
-    ensures { λ r. ⌜ Added (exponents (take width (drop (width * i) (now (bytes .entry))))) at r (now (line .entry)) (now (line .exit)) × (r ≤ at + powersBytes) ⌝ }
+    ensures { λ r. ⌜ Added (exponents (take width (drop (width * i) (now (bytes .entry))))) at r (now (line .entry)) (now (line .exit)) ×
+        (r ≤ at + powersBytes) ⌝ }
 {
     let m = Monomial::read(bytes, WIDTH * i);
     let e = m.e;

@@ -1,4 +1,4 @@
-// Document 01's program: reads term records from standard input, plans and wires once, and writes the lines of the report.
+// Document 01's program: reads term records, plans and wires once, and writes the lines of the report.
 use report::program;
 use wiring::panel::TERMS_BYTES;
 use wiring::panel::WIRES_BYTES;

@@ -1,5 +1,5 @@
--- What a report says: after a refusal the reply alone; after code 0 every smallest set by its record, in order, and then the wiring list of the set that is
--- asked for. Assumes nothing.
+-- What a report says: after a refusal the reply alone; after code 0 every smallest set by its record, in order, and then
+-- the wiring list of the set that is asked for. Assumes nothing.
 use mathlib.Core.Path.{_≡_, refl, sym, ap, _∙_}
 use mathlib.Core.Logic.{_⊎_, inl, inr}
 use mathlib.Core.List.{List, [], _∷_, _++_, map}
@@ -33,8 +33,8 @@ use Rattle.report.proofs.prepare.Laws.{wires-zero, wires-beyond, wires-
 use Rattle.report.proofs.line.Laws.{slots-length, slots-at}
 
 -- records that are those of a list of things, one behind the other
-pub slots-are : {A : Type 0} (f : A → List ℕ) (l : List A) (d : A) (size count : ℕ) (bytes : List ℕ) → count ≡ length l → count ≤ length bytes / size
-    → ((i : ℕ) → i < count → slot size bytes i ≡ f (getD l i d)) → slots size count bytes ≡ map f l
+pub slots-are : {A : Type 0} (f : A → List ℕ) (l : List A) (d : A) (size count : ℕ) (bytes : List ℕ) → count ≡ length l
+    → count ≤ length bytes / size → ((i : ℕ) → i < count → slot size bytes i ≡ f (getD l i d)) → slots size count bytes ≡ map f l
 slots-are f l d size count bytes many fits each =
     let all : min count (length bytes / size) ≡ count = omega arith in
     let long : length (slots size count bytes) ≡ length (map f l) = slots-length size count bytes ∙ all ∙ many ∙ sym (length-map l f) in
@@ -61,7 +61,8 @@ unwritten = record { left = 0; a = 0; b = 0; coefficient = pos 0 }
 
 module _ (s : Settings) (terms : List ℕ) where
   -- after any code but 0 only the first line
-  pub report-refused : (r : Reply) (bytes : List ℕ) → outcome r bytes ≡ planned (s .n) (s .cap) (s .limit) terms (setBytes * s .room) → (numbers r .code ≡ 0 → ⊥)
+  pub report-refused : (r : Reply) (bytes : List ℕ)
+      → outcome r bytes ≡ planned (s .n) (s .cap) (s .limit) terms (setBytes * s .room) → (numbers r .code ≡ 0 → ⊥)
       → report s terms ≡ replyLine (inOrder (numbers r)) ∷ []
   unfolding report results linesOf
   report-refused r bytes e f = rw (← e, ne-eqb (numbers r .code) 0 f)
@@ -79,7 +80,7 @@ module _ (s : Settings) (terms : List ℕ) where
         let long : length bytes ≡ size = plan-length (s .n) (s .cap) (s .limit) terms size (Done o c k) bytes e in
         let fits : setBytes * c ≤ size = records-fit (s .n) (s .cap) (s .limit) terms size o c k bytes e in
         let many : c ≡ length found = plan-finds (s .n) (s .cap) (s .limit) terms size o c k bytes e .counted in
-        slots-are setRecord found [] setBytes c bytes many (omega arith) (λ i h. record-at (s .n) (s .cap) (s .limit) terms size o c k bytes e i h)
+        slots-are setRecord found [] setBytes c bytes many (omega arith) (record-at (s .n) (s .cap) (s .limit) terms size o c k bytes e)
 
     -- the reply, a line for each smallest set, and then the wiring
     pub report-done : report s terms ≡ replyLine (0 ∷ o ∷ c ∷ k ∷ 0 ∷ [])
@@ -111,17 +112,22 @@ module _ (s : Settings) (terms : List ℕ) where
       wires = record-wired (s .n) (s .cap) (s .limit) terms size o c k bytes e (s .which - 1) (omega arith) wiresBytes (omega arith)
 
       filed : counted (length list) left ≡ wiringOf (s .n) terms (s .which) c bytes
-      filed = wires-there (s .n) terms (s .which) c bytes wiresBytes refl low high (setBytes * (s .which - 1)) refl (Done o (length list) 0) left _ (rw same wires) refl
+      filed =
+          wires-there (s .n) terms (s .which) c bytes wiresBytes refl low high (setBytes * (s .which - 1)) refl (Done o (length list) 0) left _
+          (rw same wires) refl
         where
           same : setBytes * (s .which - 1) + setBytes - setBytes * (s .which - 1) ≡ setBytes
           same = omega arith
 
       -- the set of that number: a line for each record of its list
       pub wiring-lines : wireLines (wiringOf (s .n) terms (s .which) c bytes)
-          ≡ map (λ w. wireLine (wireRecord w)) (listIn (s .n) terms (setRecord (getD (sets-of (s .n) (s .cap) (s .limit) terms (setBytes * s .room) o c k bytes e) (s .which - 1) [])))
+          ≡ map (λ w. wireLine (wireRecord w))
+          (listIn (s .n) terms (setRecord (getD (sets-of (s .n) (s .cap) (s .limit) terms (setBytes * s .room) o c k bytes e) (s .which - 1) [])))
       unfolding wireLines
       wiring-lines =
           let long : length left ≡ wiresBytes = wire-length (s .n) terms _ wiresBytes (Done o (length list) 0) left wires in
-          let most : wireBytes * length list ≤ wiresBytes = omega (arith, length-append (wireList list) (replicate (wiresBytes - wireBytes * length list) 0), list-length list) in
-          let each = slots-are wireRecord list unwritten wireBytes (length list) left refl (omega arith) (λ j h. list-at list (replicate (wiresBytes - wireBytes * length list) 0) j unwritten h) in
+          let zeros : List ℕ = replicate (wiresBytes - wireBytes * length list) 0 in
+          let most : wireBytes * length list ≤ wiresBytes = omega (arith, length-append (wireList list) zeros, list-length list) in
+          let at : (j : ℕ) → j < length list → slot wireBytes left j ≡ wireRecord (getD list j unwritten) = λ j h. list-at list zeros j unwritten h in
+          let each = slots-are wireRecord list unwritten wireBytes (length list) left refl (omega arith) at in
           rw (← filed) (ap (map wireLine) each ∙ twice wireLine wireRecord list)

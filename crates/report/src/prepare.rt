@@ -60,9 +60,11 @@ fn wire_set(
     five[2]
 }
 
-// Plans into the first bytes of `sets`, as many as the room that is asked for, or all that there are; and wires one of the sets that are found.
+// Plans into the first bytes of `sets`, as many as the room that is asked for, or all that there are; and wires one of
+// the sets that are found.
 pub fn prepare(s: Settings, terms: &[u8], sets: &mut [u8], out: &mut [u8; WIRES_BYTES]) -> Prepared
-    ensures { λ r. ⌜ Prepares (fitted s (length (now (sets .entry)))) (now (terms .entry)) r (now (sets .entry)) (now (sets .exit)) (now (out .exit)) ⌝ }
+    ensures { λ r. ⌜ Prepares (fitted s (length (now (sets .entry)))) (now (terms .entry)) r
+        (now (sets .entry)) (now (sets .exit)) (now (out .exit)) ⌝ }
 {
     let room = least(s.room, sets.len() / SET_BYTES);
     let lent = SET_BYTES * room;

@@ -15,8 +15,8 @@ use Rattle.asked.specs.declared.settings.Asked.the-variants.{Right, Wron
 use Rattle.asked.specs.Settings.{mostSets, Roomy}
 use Rattle.asked.specs.Answer.{answered, Answers}
 
-pub answered-lines : (a : Asked) (terms : List ℕ) (p : Prepared) (sets setsAfter wires wiresAfter : List ℕ) → Roomy a → length sets ≡ setBytes * mostSets
-    → Answers a terms p sets setsAfter wires wiresAfter → linesOf (resultsIn p setsAfter wiresAfter) ≡ answered a terms
+pub answered-lines : (a : Asked) (terms : List ℕ) (p : Prepared) (sets setsAfter wires wiresAfter : List ℕ) → Roomy a
+    → length sets ≡ setBytes * mostSets → Answers a terms p sets setsAfter wires wiresAfter → linesOf (resultsIn p setsAfter wiresAfter) ≡ answered a terms
 unfolding answered
 answered-lines (Right s) terms p sets setsAfter wires wiresAfter h long e =
     prepared-lines s terms (roomy s (omega arith) e)

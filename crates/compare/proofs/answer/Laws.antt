@@ -16,17 +16,19 @@ use Rattle.compare.specs.declared.head.Head.{Head}
 use Rattle.compare.specs.Answer.{filler, Case, outcomeCase, caseOf, Answers}
 
 -- a reply and a buffer, told as they are
-told : (r : Reply) (o : Outcome) (five bytes : List ℕ) {end : ℕ} {l m : List ℕ} → outcome r bytes ≡ o → five ≡ inOrder (numbers r) → Stands (caseLine five bytes) end l m
-    → Answers (outcomeCase o) end l m bytes
+told : (r : Reply) (o : Outcome) (five bytes : List ℕ) {end : ℕ} {l m : List ℕ} → outcome r bytes ≡ o
+    → five ≡ inOrder (numbers r) → Stands (caseLine five bytes) end l m → Answers (outcomeCase o) end l m bytes
 told r o five bytes {end} {l} {m} e f s = subst (λ (x : Outcome). Answers (outcomeCase x) end l m bytes) e (rw f at s, refl)
 
 module _ (h : Head) (terms set : List ℕ) (size now : ℕ) (same : now ≡ size) {end : ℕ} {l m : List ℕ} where
-  pub plan-told : h .operation ≡ 1 → (r : Reply) (five bytes : List ℕ) → outcome r bytes ≡ planned (h .n) (h .cap) (h .limit) terms now → five ≡ inOrder (numbers r)
+  pub plan-told : h .operation ≡ 1 → (r : Reply) (five bytes : List ℕ)
+      → outcome r bytes ≡ planned (h .n) (h .cap) (h .limit) terms now → five ≡ inOrder (numbers r)
       → Stands (caseLine five bytes) end l m → Answers (caseOf h terms set size) end l m bytes
   unfolding caseOf
   plan-told p r five bytes e f s = rw (eq-eqb (h .operation) 1 p) (told r _ five bytes (rw same at e) f s)
 
-  pub check-told : (h .operation ≡ 1 → ⊥) → h .operation ≡ 2 → (r : Reply) (five bytes : List ℕ) → numbers r ≡ checked (h .n) terms set → five ≡ inOrder (numbers r)
+  pub check-told : (h .operation ≡ 1 → ⊥) → h .operation ≡ 2 → (r : Reply) (five bytes : List ℕ)
+      → numbers r ≡ checked (h .n) terms set → five ≡ inOrder (numbers r)
       → bytes ≡ replicate now filler → Stands (replyLine five) end l m → Answers (caseOf h terms set size) end l m bytes
   unfolding caseOf
   check-told p q r five bytes e f b s = rw (ne-eqb (h .operation) 1 p, eq-eqb (h .operation) 2 q) (rw (f, e) at s, rw same at b)

@@ -1,4 +1,5 @@
--- What a caller has of the contract of `line_of`: line after line until there is none, it writes the lines of the report and nothing else. Assumes nothing.
+-- What the contract of `line_of` says to a caller: none is told exactly behind the last line, the lines by their numbers
+-- are all of them, and two outcomes are equal. Assumes nothing.
 use mathlib.Core.Path.{_≡_, ap, _∙_}
 use mathlib.Core.Logic.{_↔_}
 use mathlib.Core.Bool.{cond}
@@ -24,7 +25,8 @@ use Rattle.report.specs.Report.{slots, setLines, wireLines, linesOf, lin
 use Rattle.report.proofs.line.Laws.{behind, shownSets, shownWires, sets-length, wires-length}
 
 -- ---- the promise leaves nothing open: the length of the line, and every byte that was lent
-pub line-determined : (lines : List (List ℕ)) (k : ℕ) {e f : ℕ} {l m n : List ℕ} → Stands (lineAt lines k) e l m → Stands (lineAt lines k) f l n → (e ≡ f) × (m ≡ n)
+pub line-determined : (lines : List (List ℕ)) (k : ℕ) {e f : ℕ} {l m n : List ℕ}
+    → Stands (lineAt lines k) e l m → Stands (lineAt lines k) f l n → (e ≡ f) × (m ≡ n)
 line-determined lines k a b = stands-one a b
 
 -- ---- each line has a byte, its newline
@@ -52,7 +54,8 @@ module _ (r : Results) where
   lines-filled : Filled (linesOf r)
   unfolding linesOf setLines wireLines
   lines-filled =
-      let sets = filled-made (λ bytes. setLine bytes (r .plan .said .order)) (λ x. set-some x (r .plan .said .order)) (slots setBytes (r .plan .said .count) (r .plan .bytes)) in
+      let o = r .plan .said .order in
+      let sets = filled-made (λ bytes. setLine bytes o) (λ x. set-some x o) (slots setBytes (r .plan .said .count) (r .plan .bytes)) in
       let wires = filled-made wireLine wire-some (slots wireBytes (r .wiring .count) (r .wiring .bytes)) in
       let both : Filled later = filled-both (setLines (r .plan)) (wireLines (r .wiring)) sets wires in
       (reply-some (inOrder (r .plan .said)), cond-cases Filled (eqb (r .plan .said .code) 0) later [] (λ _. both) (λ _. tt))
@@ -61,7 +64,8 @@ module _ (r : Results) where
   pub lines-most : length (linesOf r) ≤ suc (length (r .plan .bytes) / setBytes + length (r .wiring .bytes) / wireBytes)
   unfolding linesOf
   lines-most =
-      let both : length later ≡ shownSets r + shownWires r = length-append (setLines (r .plan)) (wireLines (r .wiring)) ∙ omega (arith, sets-length r, wires-length r) in
+      let both : length later ≡ shownSets r + shownWires r =
+      length-append (setLines (r .plan)) (wireLines (r .wiring)) ∙ omega (arith, sets-length r, wires-length r) in
       let most : ℕ = length (r .plan .bytes) / setBytes + length (r .wiring .bytes) / wireBytes in
       let rest : length (cond (eqb (r .plan .said .code) 0) later []) ≤ most =
       cond-cases (λ l. length l ≤ most) (eqb (r .plan .said .code) 0) later [] (λ _. omega arith) (λ _. omega arith) in
@@ -77,7 +81,9 @@ module _ (r : Results) where
           where
             go : Tested (leb (length (linesOf r)) k) → length (linesOf r) ≤ k
             go (passed t) = leb-true (length (linesOf r)) k t
-            go (failed t) = let h : 0 < length (lineAt (linesOf r) k) = filled-at (linesOf r) k lines-filled (leb-false (length (linesOf r)) k t) in absurd (omega (arith, s .1 .ends))
+            go (failed t) =
+                let h : 0 < length (lineAt (linesOf r) k) = filled-at (linesOf r) k lines-filled (leb-false (length (linesOf r)) k t) in
+                absurd (omega (arith, s .1 .ends))
 
         back : length (linesOf r) ≤ k → end ≡ 0
         back h = let none : length (lineAt (linesOf r) k) ≡ 0 = ap length (behind (linesOf r) k [] h) in omega (arith, s .1 .ends)
@@ -99,5 +105,6 @@ lines-few p sets wires =
 -- the lines by their numbers, one after the other, are the lines
 pub all-lines : (lines : List (List ℕ)) → map (lineAt lines) (below (length lines)) ≡ lines
 all-lines lines =
-    let many : length (map (lineAt lines) (below (length lines))) ≡ length lines = length-map (below (length lines)) (lineAt lines) ∙ below-length (length lines) in
-    ext-getD [] (map (lineAt lines) (below (length lines))) lines many (λ i h. below-at (lineAt lines) (length lines) i [] (omega arith))
+    let n : ℕ = length lines in
+    let many : length (map (lineAt lines) (below n)) ≡ n = length-map (below n) (lineAt lines) ∙ below-length n in
+    ext-getD [] (map (lineAt lines) (below n)) lines many (λ i h. below-at (lineAt lines) n i [] (omega arith))

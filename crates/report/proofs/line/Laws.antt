@@ -77,9 +77,11 @@ module _ (r : Results) where
     later : (k : ℕ) → (k ≡ 0 → ⊥) → lineAt (linesOf r) k ≡ getD (setLines (r .plan) ++ wireLines (r .wiring)) (k - 1) []
     unfolding linesOf
     later zero h = absurd (h refl)
-    later (suc k) h = rw (eq-eqb (r .plan .said .code) 0 done) (ap (λ (i : ℕ). getD (setLines (r .plan) ++ wireLines (r .wiring)) i []) (omega arith))
+    later (suc k) h =
+        rw (eq-eqb (r .plan .said .code) 0 done) (ap (λ (i : ℕ). getD (setLines (r .plan) ++ wireLines (r .wiring)) i []) (omega arith))
 
-    pub set-next : (k : ℕ) → (k ≡ 0 → ⊥) → k - 1 < shownSets → setLine (slot setBytes (r .plan .bytes) (k - 1)) (r .plan .said .order) ≡ lineAt (linesOf r) k
+    pub set-next : (k : ℕ) → (k ≡ 0 → ⊥) → k - 1 < shownSets
+        → setLine (slot setBytes (r .plan .bytes) (k - 1)) (r .plan .said .order) ≡ lineAt (linesOf r) k
     unfolding setLines
     set-next k h i =
         let f : List ℕ → List ℕ = λ bytes. setLine bytes (r .plan .said .order) in
@@ -114,7 +116,9 @@ front-within l n = go (test (leb n (length l)))
 
 -- a record that was copied out of a buffer, over as many bytes
 pub copied : (size at : ℕ) (bytes blank copy : List ℕ) → at + size ≤ length bytes → length blank ≡ size
-    → copy ≡ take (length (take (at + size - at) (drop at bytes))) (take (at + size - at) (drop at bytes)) ++ drop (length (take (at + size - at) (drop at bytes))) blank
+    → copy
+    ≡ take (length (take (at + size - at) (drop at bytes))) (take (at + size - at) (drop at bytes))
+    ++ drop (length (take (at + size - at) (drop at bytes))) blank
     → copy ≡ take size (drop at bytes)
 copied size at bytes blank copy h b e =
     let same : at + size - at ≡ size = omega arith in

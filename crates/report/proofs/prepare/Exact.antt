@@ -40,6 +40,7 @@ module _ (s : Settings) (terms : List ℕ) {p : Prepared} {sets after wires : Li
       )
 
 -- of a refused setting only the reply is told
-pub setting-line : (sets wires : List ℕ) → linesOf (resultsIn (record { reply = Setting; lent = 0; wires = 0 }) sets wires) ≡ replyLine (inOrder (numbers Setting)) ∷ []
+pub setting-line : (sets wires : List ℕ)
+    → linesOf (resultsIn (record { reply = Setting; lent = 0; wires = 0 }) sets wires) ≡ replyLine (inOrder (numbers Setting)) ∷ []
 unfolding linesOf
 setting-line sets wires = refl

@@ -58,7 +58,8 @@ module _ (s : Settings) (terms sets : List ℕ) (room : ℕ) (fits : room ≡ mi
 
       pub prepares : (count : ℕ) (out : List ℕ)
           → counted count out ≡ wiringOf (s .n) terms (s .which) (getD five 2 0) (take (setBytes * room) (bytes ++ drop (setBytes * room) sets))
-          → Prepares (fitted s (length sets)) terms (record { reply = reply; lent = setBytes * room; wires = count }) sets (bytes ++ drop (setBytes * room) sets) out
+          → Prepares (fitted s (length sets)) terms (record { reply = reply; lent = setBytes * room; wires = count }) sets
+          (bytes ++ drop (setBytes * room) sets) out
       unfolding results
       prepares count out w =
           let laid : Outcome → Counted → Results = λ o w. record { plan = o; wiring = w } in

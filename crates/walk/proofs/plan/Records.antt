@@ -1,4 +1,5 @@
--- The records that a done plan leaves: they lie within the buffer, and each of them, handed to wiring, is wired. Assumes nothing.
+-- The records that a done plan leaves: they lie within the buffer, and each of them, handed to wiring, is wired.
+-- Assumes nothing.
 use mathlib.Core.Path.{_≡_, refl}
 use mathlib.Core.List.{List, [], _++_}
 use Prim.Native.Nat.{ℕ, _*_, _-_, _≤_, _<_}
@@ -43,20 +44,24 @@ module _ (n cap limit : ℕ) (terms : List ℕ) (size : ℕ) where
       -- wired into so many bytes, or more, it is done: its list, then zeros
       pub record-wired : (room : ℕ) → wiresBytes ≤ room
           → outcome (Done o (length (listIn n terms (setRecord (getD sets-of i [])))) 0)
-          (wireList (listIn n terms (setRecord (getD sets-of i []))) ++ replicate (room - wireBytes * length (listIn n terms (setRecord (getD sets-of i [])))) 0)
+          (wireList (listIn n terms (setRecord (getD sets-of i [])))
+          ++ replicate (room - wireBytes * length (listIn n terms (setRecord (getD sets-of i [])))) 0)
           ≡ wired n terms (take setBytes (drop (setBytes * i) bytes)) room
       record-wired room q =
           let set : List ℕ = setRecord (getD sets-of i []) in
-          let says = check-exact n terms set (Done o 0 0) .0 (listed-checks n cap limit terms size (found .accepted) o (getD sets-of i []) record-listed) in
+          let checks = listed-checks n cap limit terms size (found .accepted) o (getD sets-of i []) record-listed in
+          let says = check-exact n terms set (Done o 0 0) .0 checks in
           let most = list-most n terms set (says .0) in
-          rw record-at (wire-exact n terms set room (Done o (length (listIn n terms set)) 0) _ .1 ((says .0, says .4, says .1, refl, refl, omega arith), refl))
+          let done : Reply = Done o (length (listIn n terms set)) 0 in
+          rw record-at (wire-exact n terms set room done _ .1 ((says .0, says .4, says .1, refl, refl, omega arith), refl))
 
       -- and so it is said
       pub record-wires : (room : ℕ) → wiresBytes ≤ room → (r : Reply) (left : List ℕ)
           → outcome r left ≡ wired n terms (take setBytes (drop (setBytes * i) bytes)) room
           → r ≡ Done o (length (listIn n terms (take setBytes (drop (setBytes * i) bytes)))) 0
       record-wires room q r left w =
-          rw record-at (listed-wires n cap limit terms size (found .accepted) o (getD sets-of i []) record-listed room q r left (rw record-at at w))
+          let set = getD sets-of i [] in
+          rw record-at (listed-wires n cap limit terms size (found .accepted) o set record-listed room q r left (rw record-at at w))
 
   -- no reply counts more sets than the buffer holds
   pub count-fits : (r : Reply) (bytes : List ℕ) → outcome r bytes ≡ planned n cap limit terms size → setBytes * numbers r .count ≤ size

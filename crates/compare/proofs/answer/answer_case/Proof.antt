@@ -29,7 +29,8 @@ returns c =
     let filled = tested .before .before .before in
     let start = filled .before .before .before .before .before in
     let long : length (filled .fill .last .0) ≡ length (start .args .buffer .now) = search needs in
-    plan-told _ _ _ _ _ long (tested .if1 .taken) (planned .plan .result) _ _ (planned .plan .ensures) (said .numbers .ensures) (c .case-line .ensures)
+    plan-told _ _ _ _ _ long (tested .if1 .taken) (planned .plan .result) _ _ (planned .plan .ensures) (said .numbers .ensures)
+    (c .case-line .ensures)
 
 check-requires : tie.Need-check-requires
 check-requires c κs = search needs
@@ -49,8 +50,8 @@ returns-2 c =
     let checked = said .before in
     let tested = checked .before in
     let filled = tested .before .before .before .before in
-    check-told _ _ _ _ _ refl (tested .before .if1 .left) (tested .if2 .taken) (checked .check .result) _ _ (checked .check .ensures) (said .numbers2 .ensures)
-    (filled .fill .ensures) (c .reply-line .ensures)
+    check-told _ _ _ _ _ refl (tested .before .if1 .left) (tested .if2 .taken) (checked .check .result) _ _ (checked .check .ensures)
+    (said .numbers2 .ensures) (filled .fill .ensures) (c .reply-line .ensures)
 
 wire-requires : tie.Need-wire-requires
 wire-requires c κs = search needs
@@ -72,8 +73,8 @@ returns-3 c =
     let filled = tested .before .before .before .before in
     let start = filled .before .before .before .before .before in
     let long : length (filled .fill .last .0) ≡ length (start .args .buffer .now) = search needs in
-    wire-told _ _ _ _ _ long (tested .before .if1 .left) (tested .if2 .left) (wired .wire .result) _ _ (wired .wire .ensures) (said .numbers3 .ensures)
-    (c .case-line2 .ensures)
+    wire-told _ _ _ _ _ long (tested .before .if1 .left) (tested .if2 .left) (wired .wire .result) _ _ (wired .wire .ensures)
+    (said .numbers3 .ensures) (c .case-line2 .ensures)
 
 pub answer-case-spec : {M : Type 1} → statement M
 answer-case-spec =

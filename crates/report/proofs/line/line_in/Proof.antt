@@ -1,4 +1,4 @@
--- `line_in` meets its contract: the reply's line, then by its number a set's, a wiring record's, or none. Assumes nothing.
+-- `line_in` meets its contract: the reply, then by its number a set, a wiring record, or none. Assumes nothing.
 use mathlib.Core.Path.{_≡_}
 use mathlib.Core.List.{List}
 use Prim.Native.Nat.{ℕ, _-_, _<_, _≤_}

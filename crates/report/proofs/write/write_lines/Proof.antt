@@ -1,4 +1,4 @@
--- `write_lines` meets its contract: a line that is told is one of the report, so the loop ends behind the last (`line-told`). Assumes nothing.
+-- `write_lines` meets its contract: each line that is told is one of the report, so the loop ends. Assumes nothing.
 use Prim.Native.Nat.{_-_}
 use native.Mathlib.Omega.{arith}
 use lib.ListN.{length}
@@ -47,7 +47,8 @@ loop-less : tie.Need-loop-less Inv-loop μ-loop
 loop-less c =
     let line = c .before .before .before in
     let start = line .before .before .before .before .before in
-    let told = line-told (resultsIn (start .args .p) (start .args .sets .now) (start .args .wires .now)) _ (line .line-of .ensures) (c .before .before .if1 .left) in
+    let r = resultsIn (start .args .p) (start .args .sets .now) (start .args .wires .now) in
+    let told = line-told r _ (line .line-of .ensures) (c .before .before .if1 .left) in
     omega arith
 
 loop-again : tie.Need-loop-again Inv-loop μ-loop
