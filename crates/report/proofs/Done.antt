@@ -2,14 +2,15 @@
 -- the wiring list of the set that is asked for. Assumes nothing.
 use mathlib.Core.Path.{_≡_, refl, sym, ap, _∙_}
 use mathlib.Core.Logic.{_⊎_, inl, inr}
-use mathlib.Core.List.{List, [], _∷_, _++_, map}
-use Prim.Native.Nat.{ℕ, zero, suc, _+_, _*_, _-_, _/_, _≤_, _<_, min}
+use mathlib.Core.List.{List, [], _∷_, _++_, map, map-map}
+use Prim.Native.Nat.{ℕ, _+_, _*_, _-_, _/_, _≤_, _<_, min}
 use native.Mathlib.Omega.{arith}
 use borrow.Author.Tests.{ne-eqb}
 use lib.IntN.{pos}
 use lib.ListN.{length, getD, replicate, length-append, length-map}
 use lib.Seq.{ext-getD}
 use Rattle.monomial.specs.Lists.{below}
+use Rattle.monomial.proofs.Members.{map-at}
 use Rattle.wiring.specs.Panel.{setBytes, wireBytes, wiresBytes}
 use Rattle.wiring.specs.Reply.{numbers, inOrder, outcome}
 use Rattle.wiring.specs.Sets.{setRecord}
@@ -23,8 +24,9 @@ use Rattle.wiring.proofs.wires.Correct.{list-at}
 use Rattle.wiring.proofs.answers.Wired.{wire-length}
 use Rattle.walk.specs.Walk.{Finds}
 use Rattle.walk.specs.Plan.{planned}
+use Rattle.walk.specs.Claims.{setsAt}
 use Rattle.walk.proofs.plan.Exact.{plan-finds, plan-length}
-use Rattle.walk.proofs.plan.Records.{sets-of, records-fit, record-at, record-wired}
+use Rattle.walk.proofs.plan.Records.{records-fit, record-at, record-wired}
 use Rattle.lines.specs.Answer.{replyLine, setLine, wireLine}
 use Rattle.report.specs.declared.prepare.Settings.{Settings}
 use Rattle.report.specs.Prepare.{counted, slot, wiringOf, results}
@@ -40,20 +42,10 @@ slots-are f l d size count bytes many fits each =
     let long : length (slots size count bytes) ≡ length (map f l) = slots-length size count bytes ∙ all ∙ many ∙ sym (length-map l f) in
     ext-getD [] (slots size count bytes) (map f l) long one
   where
-    mapped : (m : List _) (i : ℕ) → i < length m → getD (map f m) i [] ≡ f (getD m i d)
-    mapped [] i h = let z : ⊥ = omega arith in absurd z
-    mapped (x ∷ m) zero h = refl
-    mapped (x ∷ m) (suc i) h = mapped m i (omega arith)
-
     one : (i : ℕ) → i < length (slots size count bytes) → getD (slots size count bytes) i [] ≡ getD (map f l) i []
     one i h =
         let low : i < min count (length bytes / size) = omega (arith, slots-length size count bytes) in
-        slots-at size count bytes i low ∙ each i (omega arith) ∙ sym (mapped l i (omega arith))
-
--- one thing made of another that was made
-twice : {A B C : Type 0} (g : B → C) (f : A → B) (l : List A) → map g (map f l) ≡ map (λ x. g (f x)) l
-twice g f [] = refl
-twice g f (x ∷ l) = ap (λ (m : List _). g (f x) ∷ m) (twice g f l)
+        slots-at size count bytes i low ∙ each i (omega arith) ∙ sym (map-at f l i d [] (omega arith))
 
 -- what stands behind the last record
 unwritten : Wire
@@ -72,7 +64,7 @@ module _ (s : Settings) (terms : List ℕ) where
     size = setBytes * s .room
 
     abbrev found : Finds
-    found = sets-of (s .n) (s .cap) (s .limit) terms size o c k bytes e
+    found = setsAt (s .n) terms o
 
     -- the records that are counted are those of the sets
     records : slots setBytes c bytes ≡ map setRecord found
@@ -84,10 +76,10 @@ module _ (s : Settings) (terms : List ℕ) where
 
     -- the reply, a line for each smallest set, and then the wiring
     pub report-done : report s terms ≡ replyLine (0 ∷ o ∷ c ∷ k ∷ 0 ∷ [])
-        ∷ map (λ x. setLine (setRecord x) o) (sets-of (s .n) (s .cap) (s .limit) terms (setBytes * s .room) o c k bytes e)
+        ∷ map (λ x. setLine (setRecord x) o) (setsAt (s .n) terms o)
         ++ wireLines (wiringOf (s .n) terms (s .which) c bytes)
     unfolding report results linesOf setLines
-    report-done = rw (← e, records, twice (λ b. setLine b o) setRecord found)
+    report-done = rw (← e, records, map-map (λ b. setLine b o) setRecord found)
 
     -- no set of that number: nothing is wired
     pub nothing-wired : (s .which ≡ 0) ⊎ (c < s .which) → wireLines (wiringOf (s .n) terms (s .which) c bytes) ≡ []
@@ -122,7 +114,7 @@ module _ (s : Settings) (terms : List ℕ) where
       -- the set of that number: a line for each record of its list
       pub wiring-lines : wireLines (wiringOf (s .n) terms (s .which) c bytes)
           ≡ map (λ w. wireLine (wireRecord w))
-          (listIn (s .n) terms (setRecord (getD (sets-of (s .n) (s .cap) (s .limit) terms (setBytes * s .room) o c k bytes e) (s .which - 1) [])))
+          (listIn (s .n) terms (setRecord (getD (setsAt (s .n) terms o) (s .which - 1) [])))
       unfolding wireLines
       wiring-lines =
           let long : length left ≡ wiresBytes = wire-length (s .n) terms _ wiresBytes (Done o (length list) 0) left wires in
@@ -130,4 +122,4 @@ module _ (s : Settings) (terms : List ℕ) where
           let most : wireBytes * length list ≤ wiresBytes = omega (arith, length-append (wireList list) zeros, list-length list) in
           let at : (j : ℕ) → j < length list → slot wireBytes left j ≡ wireRecord (getD list j unwritten) = λ j h. list-at list zeros j unwritten h in
           let each = slots-are wireRecord list unwritten wireBytes (length list) left refl (omega arith) at in
-          rw (← filed) (ap (map wireLine) each ∙ twice wireLine wireRecord list)
+          rw (← filed) (ap (map wireLine) each ∙ map-map wireLine wireRecord list)

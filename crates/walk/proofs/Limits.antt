@@ -22,11 +22,11 @@ use Rattle.wiring.specs.Claims.{summed}
 use Rattle.wiring.proofs.signals.Laws.{signals-cases}
 use Rattle.wiring.proofs.derivative.Bounds.{sum-fits, total-fits}
 use Rattle.walk.specs.Walk.{Rules, level}
-use Rattle.walk.specs.Openings.{openings}
+use Rattle.walk.specs.Openings.{openings, Inherited}
 use Rattle.walk.specs.Turns.{Walked}
 use Rattle.walk.specs.Claims.{Orderly}
 use Rattle.walk.proofs.Rules.{opens-fits}
-use Rattle.walk.proofs.Openings.{Inherited, opened-keep}
+use Rattle.walk.proofs.Openings.{opened-keep}
 use Rattle.walk.proofs.children.Laws.{nonsquare-fits, child-walked, walked-fits}
 
 module _ (r : Rules) (o : Orderly r) (begins : Walked (r .start)) (n : ℕ) (terms : List ℕ) (clean : CleanTerms terms) (k : ℕ) (low : k ≤ cards) where

@@ -20,7 +20,7 @@ use Rattle.wiring.specs.Choice.{chosen}
 use Rattle.wiring.specs.Signals.{signals}
 use Rattle.wiring.specs.Answers.{missing}
 use Rattle.walk.specs.Walk.{Finds, Rules, child, pair, opening, Step, found, other, opens, ends, tried, triedAll, opened, level}
-use Rattle.walk.specs.Openings.{openedBy, openings, Parted, ChildOf}
+use Rattle.walk.specs.Openings.{openedBy, openings, Parted, ChildOf, Inherited, StepHolds}
 use Rattle.walk.specs.Claims.{Orderly}
 use Rattle.walk.proofs.Rules.{tries-in, tries-out, opens-fits}
 use Rattle.walk.proofs.Steps.{opened-found, opened-ends, opened-split, tried-open, tried-shut, level-opens, level-out}
@@ -29,10 +29,6 @@ use Rattle.walk.proofs.children.Laws.{chosen-in, child-asc, split-longe
 -- the one entry of a list
 only : {A : Type 0} {x y : A} → x ∈ (y ∷ []) → x ≡ y
 only h = ⊎-elim (λ e. e) (λ j. absurd (List·Memᴰ·not-nil j)) (List·Memᴰ·cases-cons h)
-
--- each child that the walk opens keeps P of its set
-abbrev pub Inherited : Rules → ℕ → List (Poly Mono) → ℕ → (List Mono → Type 0) → Type 0
-Inherited r n fs k P = (s : List Mono) (m : Mono) (p : Mono × Mono) → P s → m ∈ missing n fs s → p ∈ pairs m → T (opens r n k s p) → P (child n s p)
 
 module _ (r : Rules) (n : ℕ) (fs : List (Poly Mono)) (k : ℕ) where
   parted-gap : (s : List Mono) (p : Mono × Mono) (q : Parted r n fs k s p) → chosen (q .first) (q .others) ∈ missing n fs s
@@ -88,12 +84,7 @@ module _ (r : Rules) (o : Orderly r) (n : ℕ) (fs : List (Poly Mono)) (k : ℕ)
       subst (λ es. x ∈ es) (sym (opened-split r n fs k d s (q .first) (q .others) (q .are) (q .on))) (there later)
 
   -- ---- what each child keeps of its set, each opened set keeps; and exactly the quadratic ones are found
-  abbrev pub StepHolds : (List Mono → Type 0) → Step → Type 0
-  StepHolds P (found t) = P t × (missing n fs t ≡ [])
-  StepHolds P (other (opening t)) = P t × (missing n fs t ≡ [] → ⊥)
-  StepHolds P (other pair) = Unit {0}
-
-  pub steps-keep : (P : List Mono → Type 0) → Inherited r n fs k P → (d : ℕ) (s : List Mono) (x : Step) → P s → x ∈ opened r n fs k d s → StepHolds P x
+  pub steps-keep : (P : List Mono → Type 0) → Inherited r n fs k P → (d : ℕ) (s : List Mono) (x : Step) → P s → x ∈ opened r n fs k d s → StepHolds n fs P x
   unfolding opened
   steps-keep P keeps zero s x p h = absurd (List·Memᴰ·not-nil h)
   steps-keep P keeps (suc d) s x p h = go (step-from d s x h) (λ c. steps-keep P keeps d c x)
@@ -101,14 +92,14 @@ module _ (r : Rules) (o : Orderly r) (n : ℕ) (fs : List (Poly Mono)) (k : ℕ)
       some : (m : Mono) (l : List Mono) → missing n fs s ≡ m ∷ l → missing n fs s ≡ [] → ⊥
       some m l e f = List·Memᴰ·not-nil (subst (λ (y : List Mono). m ∈ y) (sym e ∙ f) here)
 
-      go : From r n fs k d s x → ((c : List Mono) → P c → x ∈ opened r n fs k d c → StepHolds P x) → StepHolds P x
-      go (own-find e q) ih = subst (StepHolds P) (sym q) (p, e)
-      go (own m l e q) ih = subst (StepHolds P) (sym q) (p, some m l e)
-      go (own-pair q) ih = subst (StepHolds P) (sym q) tt
+      go : From r n fs k d s x → ((c : List Mono) → P c → x ∈ opened r n fs k d c → StepHolds n fs P x) → StepHolds n fs P x
+      go (own-find e q) ih = subst (StepHolds n fs P) (sym q) (p, e)
+      go (own m l e q) ih = subst (StepHolds n fs P) (sym q) (p, some m l e)
+      go (own-pair q) ih = subst (StepHolds n fs P) (sym q) tt
       go (below c q j) ih =
           ih (child n s c) (keeps s (chosen (q .first) (q .others)) c p (parted-gap r n fs k s c q) (q .listed) (is→T (opens r n k s c) (q .taken))) j
 
-  openings-keep : (P : List Mono → Type 0) (x : Step) (t : List Mono) → t ∈ openedBy x → StepHolds P x → P t
+  openings-keep : (P : List Mono → Type 0) (x : Step) (t : List Mono) → t ∈ openedBy x → StepHolds n fs P x → P t
   openings-keep P (found u) t i h = subst P (sym (only i)) (h .0)
   openings-keep P (other (opening u)) t i h = subst P (sym (only i)) (h .0)
   openings-keep P (other pair) t i h = absurd (List·Memᴰ·not-nil i)

@@ -27,8 +27,9 @@ use Rattle.wiring.proofs.signals.Laws.{base-in, signals-cases}
 use Rattle.walk.specs.Walk.{Rules, child, found, opened}
 use Rattle.walk.specs.Turns.{Walked}
 use Rattle.walk.specs.Claims.{Orderly, Extends, Proper, Sound}
+use Rattle.walk.specs.Openings.{Inherited}
 use Rattle.walk.proofs.Rules.{extends-self, extends-on, opens-fits, opens-extends}
-use Rattle.walk.proofs.Openings.{Inherited, steps-keep}
+use Rattle.walk.proofs.Openings.{steps-keep}
 use Rattle.walk.proofs.children.Laws.{Grown, old, left, right, child-out, Imaged, imaged, child-walked, walked-fits}
 
 -- ---- variables beyond xn

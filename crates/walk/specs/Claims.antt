@@ -259,14 +259,13 @@ NoneBelow n terms j = (s : List Mono) → Wide s → QuadraticList n (system (re
 -- what done says, and its bytes
 pub record Planned (n cap limit : ℕ) (terms : List ℕ) (size order count steps : ℕ) (bytes : List ℕ) : Type 0 where
   pub accepted : Accepted n cap limit terms
-  pub sets : Finds
-  -- the smallest quadratic sets, all of them, found in the walk's steps, within the limit and the room
-  pub finished : Finished bare n terms cap limit (size / setBytes) order steps sets
+  -- the sets found at the level of this order are the smallest quadratic sets, all of them, found in the walk's steps, within the limit and the room
+  pub finished : Finished bare n terms cap limit (size / setBytes) order steps (setsAt n terms order)
   -- of all lists of monomials: no quadratic one is smaller, and each of that many members, put in order, is listed
   pub none-below : NoneBelow n terms order
-  pub all : (s : List Mono) → Wide s → QuadraticList n (system (records terms)) s → length s ≡ order → arrangeBy same before s ∈ sets
-  pub counted : count ≡ length sets
+  pub all : (s : List Mono) → Wide s → QuadraticList n (system (records terms)) s → length s ≡ order → arrangeBy same before s ∈ setsAt n terms order
+  pub counted : count ≡ length (setsAt n terms order)
   -- record number i holds set number i; behind them are zeros
-  pub written : (i : ℕ) → i < count → take setBytes (drop (setBytes * i) bytes) ≡ setRecord (getD sets i [])
+  pub written : (i : ℕ) → i < count → take setBytes (drop (setBytes * i) bytes) ≡ setRecord (getD (setsAt n terms order) i [])
   pub rest : (k : ℕ) → setBytes * count ≤ k → getD bytes k 0 ≡ 0
   pub long : length bytes ≡ size

@@ -3,6 +3,7 @@ use mathlib.Core.Path.{_≡_}
 use mathlib.Core.Bool.{true, false}
 use mathlib.Core.List.{List, [], _∷_}
 use Prim.Native.Nat.{ℕ}
+use lib.Dec.{T}
 use Rattle.monomial.specs.Lists.{gather}
 use Rattle.monomial.specs.Monomial.{Mono}
 use Rattle.monomial.specs.Divisors.{pairs}
@@ -39,3 +40,13 @@ module _ (r : Rules) (n : ℕ) (fs : List (Poly Mono)) (k : ℕ) where
     pub by : Mono × Mono
     pub parted : Parted of by
     pub is : t ≡ child n of by
+
+-- each child that the walk opens keeps P of its set
+abbrev pub Inherited : Rules → ℕ → List (Poly Mono) → ℕ → (List Mono → Type 0) → Type 0
+Inherited r n fs k P = (s : List Mono) (m : Mono) (p : Mono × Mono) → P s → m ∈ missing n fs s → p ∈ pairs m → T (opens r n k s p) → P (child n s p)
+
+-- what is claimed of a step: the set that it opens keeps P, and it is found exactly where it has no nonsquares
+abbrev pub StepHolds : ℕ → List (Poly Mono) → (List Mono → Type 0) → Step → Type 0
+StepHolds n fs P (found t) = P t × (missing n fs t ≡ [])
+StepHolds n fs P (other (opening t)) = P t × (missing n fs t ≡ [] → ⊥)
+StepHolds n fs P (other pair) = Unit {0}

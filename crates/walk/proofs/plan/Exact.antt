@@ -233,7 +233,6 @@ module _ (n cap limit : ℕ) (terms : List ℕ) (size : ℕ) where
   pub plan-finds : (o c k : ℕ) (bytes : List ℕ) → outcome (Done o c k) bytes ≡ planned n cap limit terms size → Planned n cap limit terms size o c k bytes
   plan-finds o c k bytes e = record {
     accepted = a;
-    sets = l;
     finished = f;
     none-below = λ s w q. f .sets .none-smaller s w (bare-extends s) q;
     all = λ s w q h. f .sets .all s w (bare-extends s) q h;

@@ -16,9 +16,9 @@ use Rattle.wiring.specs.declared.reply.Reply.the-variants.{Done, Setting, Lengt
 use Rattle.wiring.specs.Claims.{listIn}
 use Rattle.wiring.proofs.answers.Exact.{check-exact}
 use Rattle.wiring.proofs.answers.Wired.{list-most, wire-exact}
-use Rattle.walk.specs.Walk.{Finds, bare}
+use Rattle.walk.specs.Walk.{bare}
 use Rattle.walk.specs.Plan.{planned}
-use Rattle.walk.specs.Claims.{Listed, Planned}
+use Rattle.walk.specs.Claims.{Listed, Planned, setsAt}
 use Rattle.walk.proofs.plan.Exact.{plan-finds, listed-checks, listed-wires}
 
 module _ (n cap limit : ℕ) (terms : List ℕ) (size : ℕ) where
@@ -26,30 +26,26 @@ module _ (n cap limit : ℕ) (terms : List ℕ) (size : ℕ) where
     abbrev found : Planned n cap limit terms size o c k bytes
     found = plan-finds n cap limit terms size o c k bytes e
 
-    -- the sets, in their order
-    abbrev pub sets-of : Finds
-    sets-of = plan-finds n cap limit terms size o c k bytes e .sets
-
     pub records-fit : setBytes * c ≤ size
     records-fit = omega (arith, found .finished .roomy, found .counted)
 
     module _ (i : ℕ) (h : i < c) where
       -- record number i is that of set number i
-      pub record-at : take setBytes (drop (setBytes * i) bytes) ≡ setRecord (getD sets-of i [])
+      pub record-at : take setBytes (drop (setBytes * i) bytes) ≡ setRecord (getD (setsAt n terms o) i [])
       record-at = found .written i h
 
-      pub record-listed : Listed bare n terms o (getD sets-of i [])
-      record-listed = found .finished .sets .each (getD sets-of i []) (at-in sets-of i [] (rw (← found .counted) h))
+      pub record-listed : Listed bare n terms o (getD (setsAt n terms o) i [])
+      record-listed = found .finished .sets .each (getD (setsAt n terms o) i []) (at-in (setsAt n terms o) i [] (rw (← found .counted) h))
 
       -- wired into so many bytes, or more, it is done: its list, then zeros
       pub record-wired : (room : ℕ) → wiresBytes ≤ room
-          → outcome (Done o (length (listIn n terms (setRecord (getD sets-of i [])))) 0)
-          (wireList (listIn n terms (setRecord (getD sets-of i [])))
-          ++ replicate (room - wireBytes * length (listIn n terms (setRecord (getD sets-of i [])))) 0)
+          → outcome (Done o (length (listIn n terms (setRecord (getD (setsAt n terms o) i [])))) 0)
+          (wireList (listIn n terms (setRecord (getD (setsAt n terms o) i [])))
+          ++ replicate (room - wireBytes * length (listIn n terms (setRecord (getD (setsAt n terms o) i [])))) 0)
           ≡ wired n terms (take setBytes (drop (setBytes * i) bytes)) room
       record-wired room q =
-          let set : List ℕ = setRecord (getD sets-of i []) in
-          let checks = listed-checks n cap limit terms size (found .accepted) o (getD sets-of i []) record-listed in
+          let set : List ℕ = setRecord (getD (setsAt n terms o) i []) in
+          let checks = listed-checks n cap limit terms size (found .accepted) o (getD (setsAt n terms o) i []) record-listed in
           let says = check-exact n terms set (Done o 0 0) .0 checks in
           let most = list-most n terms set (says .0) in
           let done : Reply = Done o (length (listIn n terms set)) 0 in
@@ -60,7 +56,7 @@ module _ (n cap limit : ℕ) (terms : List ℕ) (size : ℕ) where
           → outcome r left ≡ wired n terms (take setBytes (drop (setBytes * i) bytes)) room
           → r ≡ Done o (length (listIn n terms (take setBytes (drop (setBytes * i) bytes)))) 0
       record-wires room q r left w =
-          let set = getD sets-of i [] in
+          let set = getD (setsAt n terms o) i [] in
           rw record-at (listed-wires n cap limit terms size (found .accepted) o set record-listed room q r left (rw record-at at w))
 
   -- no reply counts more sets than the buffer holds
