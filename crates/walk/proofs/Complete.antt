@@ -28,7 +28,7 @@ use Rattle.wiring.proofs.quadratic.Laws.{Factors, inV2-in, inV2-out, unmet-in, 
 use Rattle.wiring.proofs.quadratic.Definition1.{no-members}
 use Rattle.wiring.proofs.signals.Laws.{base-in, signals-cases}
 use Rattle.walk.specs.Walk.{Rules, child, found, ends, opened}
-use Rattle.walk.specs.Openings.{Parted}
+use Rattle.walk.specs.Openings.{Branch}
 use Rattle.walk.specs.Claims.{Orderly, Extends, Sparing, Reached}
 use Rattle.walk.proofs.Rules.{extends-self, extends-on, extends-lower, extends-upper, opens-is, goes-on}
 use Rattle.walk.proofs.Openings.{below-in, find-in}
@@ -135,7 +135,7 @@ module _ (r : Rules) (o : Orderly r) (n : ℕ) (fs : List (Poly Mono)) (spares :
           let own : Extends r s c = extends-lower r s c t ext up (w .within) in
           let x : Reached r n fs k t d c = ih c ac (extends-upper r s c t ext up (w .within)) (omega arith) in
           let on : ends r n k s (m ∷ l) ≡ false = not-closed r n fs spares k s t (m ∷ l) a at wide ext q ht e (omega arith) in
-          let parted : Parted r n fs k s (w .pair) =
+          let parted : Branch r n fs k s (w .pair) =
           record { first = m; others = l; are = e; on = on; listed = w .listed; taken = opens-is r n k s (w .pair) own (omega arith) } in
           record {
             set = x .set;

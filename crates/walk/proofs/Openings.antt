@@ -20,7 +20,7 @@ use Rattle.wiring.specs.Choice.{chosen}
 use Rattle.wiring.specs.Signals.{signals}
 use Rattle.wiring.specs.Answers.{missing}
 use Rattle.walk.specs.Walk.{Finds, Rules, child, pair, opening, Step, found, other, opens, ends, tried, triedAll, opened, level}
-use Rattle.walk.specs.Openings.{openedBy, openings, Parted, ChildOf, Inherited, StepHolds}
+use Rattle.walk.specs.Openings.{openedBy, openings, Branch, ChildOf, Inherited, StepHolds}
 use Rattle.walk.specs.Claims.{Orderly}
 use Rattle.walk.proofs.Rules.{tries-in, tries-out, opens-fits}
 use Rattle.walk.proofs.Steps.{opened-found, opened-ends, opened-split, tried-open, tried-shut, level-opens, level-out}
@@ -31,7 +31,7 @@ only : {A : Type 0} {x y : A} → x ∈ (y ∷ []) → x ≡ y
 only h = ⊎-elim (λ e. e) (λ j. absurd (List·Memᴰ·not-nil j)) (List·Memᴰ·cases-cons h)
 
 module _ (r : Rules) (n : ℕ) (fs : List (Poly Mono)) (k : ℕ) where
-  parted-gap : (s : List Mono) (p : Mono × Mono) (q : Parted r n fs k s p) → chosen (q .first) (q .others) ∈ missing n fs s
+  parted-gap : (s : List Mono) (p : Mono × Mono) (q : Branch r n fs k s p) → chosen (q .first) (q .others) ∈ missing n fs s
   parted-gap s p q = subst (λ l. chosen (q .first) (q .others) ∈ l) (sym (q .are)) (chosen-in (q .first) (q .others))
 
   -- a set without nonsquares is found
@@ -43,7 +43,7 @@ module _ (r : Rules) (n : ℕ) (fs : List (Poly Mono)) (k : ℕ) where
     own-find : missing n fs s ≡ [] → x ≡ found s → From d s x
     own : (m : Mono) (l : List Mono) → missing n fs s ≡ m ∷ l → x ≡ other (opening s) → From d s x
     own-pair : x ≡ other pair → From d s x
-    below : (p : Mono × Mono) → Parted r n fs k s p → x ∈ opened r n fs k d (child n s p) → From d s x
+    below : (p : Mono × Mono) → Branch r n fs k s p → x ∈ opened r n fs k d (child n s p) → From d s x
 
 module _ (r : Rules) (o : Orderly r) (n : ℕ) (fs : List (Poly Mono)) (k : ℕ) where
   tried-from : (d : ℕ) (s : List Mono) (x : Step) (m : Mono) (l : List Mono) (p : Mono × Mono) → missing n fs s ≡ m ∷ l → ends r n k s (m ∷ l) ≡ false
@@ -74,7 +74,7 @@ module _ (r : Rules) (o : Orderly r) (n : ℕ) (fs : List (Poly Mono)) (k : ℕ)
       go (m ∷ l) e = split m l e (test (ends r n k s (m ∷ l)))
 
   -- and the steps below a child that is opened are steps of the set
-  pub below-in : (d : ℕ) (s : List Mono) (p : Mono × Mono) (x : Step) → Parted r n fs k s p → x ∈ opened r n fs k d (child n s p)
+  pub below-in : (d : ℕ) (s : List Mono) (p : Mono × Mono) (x : Step) → Branch r n fs k s p → x ∈ opened r n fs k d (child n s p)
       → x ∈ opened r n fs k (suc d) s
   below-in d s p x q h =
       let m : Mono = chosen (q .first) (q .others) in
@@ -127,7 +127,7 @@ module _ (r : Rules) (o : Orderly r) (n : ℕ) (fs : List (Poly Mono)) (k : ℕ)
       go (m ∷ l) e = split m l e (test (ends r n k s (m ∷ l)))
 
   -- what is opened below a child that is opened is opened
-  below-opened : (d : ℕ) (s : List Mono) (p : Mono × Mono) → Parted r n fs k s p
+  below-opened : (d : ℕ) (s : List Mono) (p : Mono × Mono) → Branch r n fs k s p
       → openings (opened r n fs k d (child n s p)) ⊆ openings (opened r n fs k (suc d) s)
   below-opened d s p q t h =
       let es : List Step = opened r n fs k d (child n s p) in
@@ -137,7 +137,7 @@ module _ (r : Rules) (o : Orderly r) (n : ℕ) (fs : List (Poly Mono)) (k : ℕ)
   -- a set that is opened with s is s, or is opened below a child
   record Deeper (d : ℕ) (s t : List Mono) : Type 0 where
     by : Mono × Mono
-    parted : Parted r n fs k s by
+    parted : Branch r n fs k s by
     inside : t ∈ openings (opened r n fs k d (child n s by))
 
   opening-from : (d : ℕ) (s t : List Mono) → t ∈ openings (opened r n fs k (suc d) s) → (t ≡ s) ⊎ Deeper d s t
@@ -175,7 +175,7 @@ module _ (r : Rules) (o : Orderly r) (n : ℕ) (fs : List (Poly Mono)) (k : ℕ)
           (child-of-more (openings (opened r n fs k d c)) (openings (opened r n fs k (suc d) s)) t (below-opened d s (x .by) (x .parted)))
 
   -- a bound on the depth that is large enough for s is large enough for a child, less one
-  module _ (d : ℕ) (s : List Mono) (a : Ascending before s) (deep : k < length s + suc d) (p : Mono × Mono) (q : Parted r n fs k s p) where
+  module _ (d : ℕ) (s : List Mono) (a : Ascending before s) (deep : k < length s + suc d) (p : Mono × Mono) (q : Branch r n fs k s p) where
     child-deep : k < length (child n s p) + d
     child-deep = let l : length s < length (child n s p) = split-longer n fs s (chosen (q .first) (q .others)) a (parted-gap r n fs k s p q) p (q .listed) in omega arith
 
@@ -185,7 +185,7 @@ module _ (r : Rules) (o : Orderly r) (n : ℕ) (fs : List (Poly Mono)) (k : ℕ)
         below-opened d s p q (child n s p) (self-opened d (child n s p) (omega (arith, child-deep)))
 
   opened-in : (d : ℕ) (s : List Mono) → Ascending before s → k < length s + d → (t : List Mono) (p : Mono × Mono)
-      → t ∈ openings (opened r n fs k d s) → Parted r n fs k t p → child n t p ∈ openings (opened r n fs k d s)
+      → t ∈ openings (opened r n fs k d s) → Branch r n fs k t p → child n t p ∈ openings (opened r n fs k d s)
   opened-in zero s a deep t p h q = absurd (none-opened s t h)
   opened-in (suc d) s a deep t p h q =
       ⊎-elim

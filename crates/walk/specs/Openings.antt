@@ -25,7 +25,7 @@ openings es = gather openedBy es
 
 module _ (r : Rules) (n : ℕ) (fs : List (Poly Mono)) (k : ℕ) where
   -- the set s goes on at level k, and p is a pair of its chosen nonsquare whose child is opened
-  pub record Parted (s : List Mono) (p : Mono × Mono) : Type 0 where
+  pub record Branch (s : List Mono) (p : Mono × Mono) : Type 0 where
     pub first : Mono
     pub others : List Mono
     pub are : missing n fs s ≡ first ∷ others
@@ -38,7 +38,7 @@ module _ (r : Rules) (n : ℕ) (fs : List (Poly Mono)) (k : ℕ) where
     pub of : List Mono
     pub of-in : of ∈ sets
     pub by : Mono × Mono
-    pub parted : Parted of by
+    pub parted : Branch of by
     pub is : t ≡ child n of by
 
 -- each child that the walk opens keeps P of its set

@@ -126,7 +126,7 @@ module _ (n : ℕ) (terms set : List ℕ) where
   record-right e = rw e
 
   -- ---- what a reply of done says
-  pub record Accepted : Type 0 where
+  pub record Readable : Type 0 where
     pub count : T (countRight n)
     pub measured : T (lengthRight terms)
     pub long : length set ≡ setBytes
@@ -150,7 +150,7 @@ module _ (n : ℕ) (terms set : List ℕ) where
   unless-done true r rest o c k n e = (tt, e)
   unless-done false r rest o c k n e = absurd (n e)
 
-  pub accepted : (o c k : ℕ) → verdict n terms set ≡ Done o c k → Accepted × (o ≡ length (setOf set))
+  pub accepted : (o c k : ℕ) → verdict n terms set ≡ Done o c k → Readable × (o ≡ length (setOf set))
   unfolding verdict
   accepted o c k e =
       let a = unless-done (countRight n) Setting _ o c k (λ q. let z : _≡_ {A = ℕ} 0 1 = cc in omega arith) e in
@@ -203,12 +203,12 @@ pub code-is : (five : List ℕ) (r : Reply) → five ≡ inOrder (numbers r) →
 code-is five r e = ap (λ (l : List ℕ). getD l 0 0) e
 
 -- where its code is 0, everything is accepted
-pub done-accepted : (n : ℕ) (terms set : List ℕ) (r : Reply) → numbers r ≡ checked n terms set → numbers r .code ≡ 0 → Accepted n terms set
+pub done-accepted : (n : ℕ) (terms set : List ℕ) (r : Reply) → numbers r ≡ checked n terms set → numbers r .code ≡ 0 → Readable n terms set
 done-accepted n terms set r e k =
     let d : IsDone r = code-done r k in
     accepted n terms set (d .order) (d .count) (d .steps) (is-verdict n terms set r e ∙ d .is) .0
 
-pub wirable : (n : ℕ) (terms bytes out : List ℕ) (size : ℕ) (r : SetRead) → Accepted n terms bytes → SetReads n bytes r → out ≡ replicate size 0 → length out ≡ size
+pub wirable : (n : ℕ) (terms bytes out : List ℕ) (size : ℕ) (r : SetRead) → Readable n terms bytes → SetReads n bytes r → out ≡ replicate size 0 → length out ≡ size
     → Wirable n terms (r .set) out
 wirable n terms bytes out size r a s e l = record {
   clean = clean-widens n (records terms) (count-few n count) (a .clean);
@@ -226,7 +226,7 @@ wirable n terms bytes out size r a s e l = record {
     held = s .holds (s .right ∙ T→is (setRight n bytes) (a .right))
 
 -- the list of the set that was read is the list of the set that was given
-pub listed-as : (n : ℕ) (terms bytes : List ℕ) (size size' : ℕ) (r : SetRead) → Accepted n terms bytes → SetReads n bytes r → size' ≡ size
+pub listed-as : (n : ℕ) (terms bytes : List ℕ) (size size' : ℕ) (r : SetRead) → Readable n terms bytes → SetReads n bytes r → size' ≡ size
     → listed (length (monomialsOf (r .set))) (wires n (system (records terms)) (monomialsOf (r .set))) size' ≡ listed (length (setOf bytes))
     (wires n (system (records terms)) (setOf bytes)) size
 listed-as n terms bytes size size' r a s e =

@@ -32,17 +32,17 @@ no-members (x ∷ l) n = absurd (n x here)
 
 module _ {M : Type 0} (k : Kind M) (o : Order (k .same) (k .before)) (v : List M) where
   -- ---- a list of products has no monomial outside V2
-  pub record Listed (l : List (Product M)) (m : M) : Type 0 where
+  pub record Factored (l : List (Product M)) (m : M) : Type 0 where
     pub entry : Product M
     pub member : entry ∈ l
     pub is : k .mul (entry .a) (entry .b) ≡ m
 
-  listed : (l : List (Product M)) (m : M) → m ∈ monos (multiplied k v l) → Listed l m
+  listed : (l : List (Product M)) (m : M) → m ∈ monos (multiplied k v l) → Factored l m
   unfolding multiplied
   listed [] m h = absurd (List·Memᴰ·not-nil h)
   listed (r ∷ l) m h = ⊎-elim (λ e. record { entry = r; member = here; is = sym e }) (λ n. later (listed l m n)) (List·Memᴰ·cases-cons h)
     where
-      later : Listed l m → Listed (r ∷ l) m
+      later : Factored l m → Factored (r ∷ l) m
       later q = record { entry = q .entry; member = there (q .member); is = q .is }
 
   pub linked-met : (p : Poly M) → Linked k v p → (m : M) → m ∈ support k p → T (inV2 k v m)
@@ -51,7 +51,7 @@ module _ {M : Type 0} (k : Kind M) (o : Order (k .same) (k .before)) (v : List M
       nonzero : coeff k (multiplied k v (l .list)) m ≡ pos 0 → ⊥
       nonzero e = support-out k o p m h .1 (sym (l .equal m) ∙ e)
 
-      q : Listed (l .list) m
+      q : Factored (l .list) m
       q = listed (l .list) m (coeff-listed k o (multiplied k v (l .list)) m nonzero)
 
       both : (q .entry .a ∈ v) × (q .entry .b ∈ v)

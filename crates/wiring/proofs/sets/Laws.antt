@@ -95,14 +95,14 @@ ascending-short (x ∷ []) h = refl
 ascending-short (x ∷ y ∷ l) h = let z : ⊥ = omega arith in absurd z
 
 -- a loop that compares neighbours, and has come to place i, from 1
-pub record Climbing (l : List Mono) (i : ℕ) : Type 0 where
+pub record Rising (l : List Mono) (i : ℕ) : Type 0 where
   pub low : 1 ≤ i
   pub rest : ascending (drop (i - 1) l) ≡ ascending l
 
-pub climbing-start : (l : List Mono) → Climbing l 1
+pub climbing-start : (l : List Mono) → Rising l 1
 climbing-start l = record { low = omega arith; rest = refl }
 
-module _ {l : List Mono} {i : ℕ} (c : Climbing l i) where
+module _ {l : List Mono} {i : ℕ} (c : Rising l i) where
   turn : i < length l → before (getD l (i - 1) []) (getD l i []) && ascending (drop i l) ≡ ascending l
   turn h =
       let back : suc (i - 1) ≡ i = omega (arith, c .low) in
@@ -115,7 +115,7 @@ module _ {l : List Mono} {i : ℕ} (c : Climbing l i) where
   pub climbing-fails : i < length l → before (getD l (i - 1) []) (getD l i []) ≡ false → false ≡ ascending l
   climbing-fails h e = rw e at (turn h)
 
-  pub climbing-on : i < length l → before (getD l (i - 1) []) (getD l i []) ≡ true → Climbing l (i + 1)
+  pub climbing-on : i < length l → before (getD l (i - 1) []) (getD l i []) ≡ true → Rising l (i + 1)
   climbing-on h e =
       let back : i + 1 - 1 ≡ i = omega arith in
       record { low = omega arith; rest = rw back (rw e at (turn h)) }
@@ -126,7 +126,7 @@ module _ {l : List Mono} {i : ℕ} (c : Climbing l i) where
 -- the same for the first len places of a record, each by its bytes
 pub record Neighbouring (bytes : List ℕ) (len i : ℕ) : Type 0 where
   pub few : len ≤ cards
-  pub climbing : Climbing (take len (places bytes)) i
+  pub climbing : Rising (take len (places bytes)) i
 
 pub neighbouring-start : (bytes : List ℕ) (len : ℕ) → len ≤ cards → Neighbouring bytes len 1
 neighbouring-start bytes len h = record { few = h; climbing = climbing-start (take len (places bytes)) }

@@ -321,12 +321,12 @@ module _ {t : List Mono} {bytes : List ℕ} {at : ℕ} where
   laying-within {left} w = omega (arith, w .reached, length-append (w .done) left, ap length (w .whole))
 
 -- ---- two loops that write V2 of the first len places of u into bytes: the outer one has come to the row of a, the inner one to the place of b in it
-pub record Rows (len : ℕ) (u : List Monomial) (bytes : List ℕ) (at a : ℕ) : Type 0 where
+pub record RowsLaid (len : ℕ) (u : List Monomial) (bytes : List ℕ) (at a : ℕ) : Type 0 where
   pub source : len ≤ length u
   pub few : len ≤ mostSignals
   pub laying : Laying (products plain (front len u)) bytes at (products plain (drop a (front len u)))
 
-pub record Row (len : ℕ) (u : List Monomial) (bytes : List ℕ) (at a b : ℕ) : Type 0 where
+pub record RowLaid (len : ℕ) (u : List Monomial) (bytes : List ℕ) (at a b : ℕ) : Type 0 where
   pub source : len ≤ length u
   pub few : len ≤ mostSignals
   pub laying : Laying (products plain (front len u)) bytes at (map (mul (entry u a)) (drop b (front len u)) ++ products plain (drop (a + 1) (front len u)))
@@ -335,15 +335,15 @@ pub record Row (len : ℕ) (u : List Monomial) (bytes : List ℕ) (at a b : ℕ)
 rows-few : (len : ℕ) (u : List Monomial) → len ≤ mostSignals → len ≤ length u → length (products plain (front len u)) ≤ mostProducts
 rows-few len u h k = products-room plain mostSignals (front len u) (omega (arith, front-length len u k))
 
-pub rows-start : (len : ℕ) (u : List Monomial) (bytes : List ℕ) → len ≤ mostSignals → length u ≡ mostSignals → tableBytes ≤ length bytes → Fitting 127 (front len u) → Rows len u bytes 0 0
+pub rows-start : (len : ℕ) (u : List Monomial) (bytes : List ℕ) → len ≤ mostSignals → length u ≡ mostSignals → tableBytes ≤ length bytes → Fitting 127 (front len u) → RowsLaid len u bytes 0 0
 rows-start len u bytes h k l f =
     let v = front len u in
     let source : len ≤ length u = omega arith in
     let wide : Wide (products plain v) = products-wide plain v (λ m. length m ≡ width) (λ x y p q. pointwise-length _+_ x y (p ∙ sym q) ∙ p) (λ x i. f x i .0) in
     record { source = source; few = h; laying = laying-start (products plain v) bytes wide (omega (arith, rows-few len u h source)) }
 
-module _ {len : ℕ} {u : List Monomial} {bytes : List ℕ} {at a : ℕ} (r : Rows len u bytes at a) where
-  pub rows-in : a < len → Row len u bytes at a a
+module _ {len : ℕ} {u : List Monomial} {bytes : List ℕ} {at a : ℕ} (r : RowsLaid len u bytes at a) where
+  pub rows-in : a < len → RowLaid len u bytes at a a
   unfolding products
   rows-in h =
       let v = front len u in
@@ -357,7 +357,7 @@ module _ {len : ℕ} {u : List Monomial} {bytes : List ℕ} {at a : ℕ} (r : Ro
   pub rows-within : at ≤ tableBytes
   rows-within = omega (arith, laying-within (r .laying), rows-few len u (r .few) (r .source))
 
-module _ {len : ℕ} {u : List Monomial} {bytes : List ℕ} {at a b : ℕ} (r : Row len u bytes at a b) where
+module _ {len : ℕ} {u : List Monomial} {bytes : List ℕ} {at a b : ℕ} (r : RowLaid len u bytes at a b) where
   -- a product is left to be written
   left : b < len
       → Laying (products plain (front len u)) bytes at
@@ -370,10 +370,10 @@ module _ {len : ℕ} {u : List Monomial} {bytes : List ℕ} {at a b : ℕ} (r : 
   pub row-within : at ≤ tableBytes
   row-within = omega (arith, laying-within (r .laying), rows-few len u (r .few) (r .source))
 
-  pub row-put : (x : Mono) → b < len → x ≡ mul (entry u a) (entry u b) → (now : List ℕ) → now ≡ paste bytes at x width → Row len u now (at + width) a (b + 1)
+  pub row-put : (x : Mono) → b < len → x ≡ mul (entry u a) (entry u b) → (now : List ℕ) → now ≡ paste bytes at x width → RowLaid len u now (at + width) a (b + 1)
   row-put x h e now w = rw w (record { source = r .source; few = r .few; laying = laying-put (left h) x e })
 
-  pub row-out : len ≤ b → Rows len u bytes at (a + 1)
+  pub row-out : len ≤ b → RowsLaid len u bytes at (a + 1)
   row-out h =
       record {
         source = r .source;

@@ -172,19 +172,19 @@ exponents-everywhere most n m t i = go (test (ltb i (length m)))
     go (failed e) = let z : getD m i 0 ≡ 0 = List·getD-eq-default m 0 {n = i} (ltb-false i (length m) e) in record { small = omega arith; zero = λ h. z }
 
 -- a loop that checks them, and has come to place i
-pub record Fitting (w most n : ℕ) (m : Mono) (i : ℕ) : Type 0 where
+pub record FittingSoFar (w most n : ℕ) (m : Mono) (i : ℕ) : Type 0 where
   pub within : i ≤ w
   pub long : length m ≡ w
   pub fits : (k : ℕ) → k < i → Fit most n (getD m k 0) k
 
-pub fitting-start : (w most n : ℕ) (m : Mono) → length m ≡ w → Fitting w most n m 0
+pub fitting-start : (w most n : ℕ) (m : Mono) → length m ≡ w → FittingSoFar w most n m 0
 fitting-start w most n m l = record { within = omega arith; long = l; fits = λ k h. absurd (omega arith) }
 
-module _ {w most n i : ℕ} {m : Mono} (f : Fitting w most n m i) where
+module _ {w most n i : ℕ} {m : Mono} (f : FittingSoFar w most n m i) where
   pub fitting-fails : i < w → (Fit most n (getD m i 0) i → ⊥) → false ≡ exponentsRight most n m
   fitting-fails h x = sym (nT→is (exponentsRight most n m) (λ t. x (exponents-out most n m t i (rw (f .long) h))))
 
-  pub fitting-on : i < w → Fit most n (getD m i 0) i → Fitting w most n m (i + 1)
+  pub fitting-on : i < w → Fit most n (getD m i 0) i → FittingSoFar w most n m (i + 1)
   fitting-on h x = record { within = omega arith; long = f .long; fits = λ k l. pick k l (test (eqb k i)) }
     where
       pick : (k : ℕ) → k < i + 1 → Tested (eqb k i) → Fit most n (getD m k 0) k

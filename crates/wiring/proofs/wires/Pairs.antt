@@ -34,14 +34,14 @@ module _ (v : List Mono) (m : Mono) where
   beside x y = same (mul x y) m
 
   -- the outer loop has come to a
-  abbrev pub Rowing : ℕ → Type 0
-  Rowing a = Placing (factor plain v m) v a
+  abbrev pub PairRow : ℕ → Type 0
+  PairRow a = Placing (factor plain v m) v a
 
   beside-factor : (x y : Mono) (j : ℕ) → j < length v → T (beside x (getD v j [])) → T (factor plain v m x)
   unfolding factor
   beside-factor x y j h t = any-in (beside x) (at-in v j [] h) t
 
-  module _ (a : ℕ) (h : a < length v) (o : Rowing a) where
+  module _ (a : ℕ) (h : a < length v) (o : PairRow a) where
     -- a pair of a and an earlier b would be one of b and a
     earlier : (j : ℕ) → j < a → T (beside (getD v a []) (getD v j [])) → ⊥
     earlier j k t =
@@ -53,7 +53,7 @@ module _ (v : List Mono) (m : Mono) where
     row-start = placing-from (beside (getD v a [])) [] v a (omega arith) earlier
 
     -- the inner loop ends without a pair
-    pub row-ends : (b : ℕ) → Placing (beside (getD v a [])) v b → length v ≤ b → Rowing (a + 1)
+    pub row-ends : (b : ℕ) → Placing (beside (getD v a [])) v b → length v ≤ b → PairRow (a + 1)
     unfolding factor
     row-ends b i k =
         let e : place (beside (getD v a [])) v ≡ length v = placing-ends (beside (getD v a [])) i k in
@@ -75,7 +75,7 @@ module _ (v : List Mono) (m : Mono) where
           ∙ ap (λ (n : ℕ). place (λ y. same (mul (getD v n []) y) m) v) pair-first
 
   -- a product in V2 is found before the outer loop ends
-  pub pair-there : (a : ℕ) → Rowing a → length v ≤ a → T (inV2 plain v m) → ⊥
+  pub pair-there : (a : ℕ) → PairRow a → length v ≤ a → T (inV2 plain v m) → ⊥
   unfolding inV2
   pair-there a o h t =
       let e : place (factor plain v m) v ≡ length v = placing-ends (factor plain v m) o h in

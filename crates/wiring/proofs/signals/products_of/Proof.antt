@@ -1,21 +1,21 @@
--- `products_of` meets its contract: the outer loop writes the table row by row (`Rows`), the inner one a row (`Row`). Assumes nothing.
+-- `products_of` meets its contract: the outer loop writes the table row by row (`RowsLaid`), the inner one a row (`RowLaid`). Assumes nothing.
 use mathlib.Core.Path.{_≡_, refl, _∙_}
 use Prim.Native.Nat.{_-_}
 use native.Mathlib.Omega.{arith}
 use lib.ListN.{length}
-use Rattle.wiring.proofs.signals.Laws.{array-length, Rows, rows-start, rows-in, rows-end, rows-within, Row, row-room, row-within, row-put, row-out, row-fits}
+use Rattle.wiring.proofs.signals.Laws.{array-length, RowsLaid, rows-start, rows-in, rows-end, rows-within, RowLaid, row-room, row-within, row-put, row-out, row-fits}
 use borrow.Author.Needs.{needs}
 use Rattle.wiring.proofs.signals.products_of.Statement.{statement}
 use Rattle.wiring.proofs.signals.products_of.Tie as tie
 
 abbrev Inv-loop2 : tie.InvT-loop2
-Inv-loop2 table₀ v len at₀ a x b₀ table at b = (length table ≡ length table₀) × Row len (v .m) table at a b
+Inv-loop2 table₀ v len at₀ a x b₀ table at b = (length table ≡ length table₀) × RowLaid len (v .m) table at a b
 
 abbrev μ-loop2 : tie.MeasureT-loop2
 μ-loop2 table₀ v len at₀ a x b₀ table at b = len - b
 
 abbrev Inv-loop : tie.InvT-loop
-Inv-loop table₀ v len at₀ a₀ table at a = (length table ≡ length table₀) × Rows len (v .m) table at a
+Inv-loop table₀ v len at₀ a₀ table at a = (length table ≡ length table₀) × RowsLaid len (v .m) table at a
 
 abbrev μ-loop : tie.MeasureT-loop
 μ-loop table₀ v len at₀ a₀ table at a = len - a

@@ -1,15 +1,15 @@
--- `terms::exponents_right` meets its contract: the loop checks the exponents one by one (`Fitting`). Assumes nothing.
+-- `terms::exponents_right` meets its contract: the loop checks the exponents one by one (`FittingSoFar`). Assumes nothing.
 use mathlib.Core.Logic.{⊎-elim}
 use Prim.Native.Nat.{_-_}
 use native.Mathlib.Omega.{arith}
-use Rattle.wiring.proofs.terms.Laws.{Fitting, fitting-start, fitting-fails, fitting-on, fitting-ends}
+use Rattle.wiring.proofs.terms.Laws.{FittingSoFar, fitting-start, fitting-fails, fitting-on, fitting-ends}
 use borrow.Author.Needs.{needs}
 use Rattle.monomial.specs.Monomial.{width}
 use Rattle.wiring.proofs.terms.exponents_right.Statement.{statement}
 use Rattle.wiring.proofs.terms.exponents_right.Tie as tie
 
 abbrev Inv-loop : tie.InvT-loop
-Inv-loop most n e i₀ i = Fitting width most n e i
+Inv-loop most n e i₀ i = FittingSoFar width most n e i
 
 abbrev μ-loop : tie.MeasureT-loop
 μ-loop most n e i₀ i = width - i

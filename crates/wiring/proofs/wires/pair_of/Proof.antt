@@ -1,4 +1,4 @@
--- `pair_of` meets its contract: both loops look for the first that passes (`Rowing` outside, `Placing` inside). Assumes nothing.
+-- `pair_of` meets its contract: both loops look for the first that passes (`PairRow` outside, `Placing` inside). Assumes nothing.
 use mathlib.Core.Path.{_≡_, refl, sym, ap, ap₂, _∙_}
 use mathlib.Core.List.{[]}
 use Prim.Native.Nat.{ℕ, _-_, _<_, _≤_}
@@ -13,19 +13,19 @@ use Rattle.wiring.specs.Panel.{mostSignals}
 use Rattle.wiring.specs.declared.signals.Signals.{Signals}
 use Rattle.wiring.specs.Signals.{signalsOf}
 use Rattle.wiring.proofs.signals.Laws.{array-length, front-length, front-at, product-of-two}
-use Rattle.wiring.proofs.wires.Pairs.{beside, Rowing, row-start, row-ends, pair-first, pair-second, pair-there}
+use Rattle.wiring.proofs.wires.Pairs.{beside, PairRow, row-start, row-ends, pair-first, pair-second, pair-there}
 use Rattle.wiring.proofs.wires.pair_of.Statement.{statement}
 use Rattle.wiring.proofs.wires.pair_of.Tie as tie
 
 abbrev Inv-loop : tie.InvT-loop
 Inv-loop m v len r₀ a x b₀ r b =
-    (len ≡ v .len) × ((a < len) × ((x .e ≡ getD (signalsOf v) a []) × (Rowing (signalsOf v) (m .e) a × Placing (beside (signalsOf v) (m .e) (getD (signalsOf v) a [])) (signalsOf v) b)))
+    (len ≡ v .len) × ((a < len) × ((x .e ≡ getD (signalsOf v) a []) × (PairRow (signalsOf v) (m .e) a × Placing (beside (signalsOf v) (m .e) (getD (signalsOf v) a [])) (signalsOf v) b)))
 
 abbrev μ-loop : tie.MeasureT-loop
 μ-loop m v len r₀ a x b₀ r b = len - b
 
 abbrev Inv-found : tie.InvT-found
-Inv-found m v len r₀ a₀ r a = (len ≡ v .len) × Rowing (signalsOf v) (m .e) a
+Inv-found m v len r₀ a₀ r a = (len ≡ v .len) × PairRow (signalsOf v) (m .e) a
 
 abbrev μ-found : tie.MeasureT-found
 μ-found m v len r₀ a₀ r a = len - a
