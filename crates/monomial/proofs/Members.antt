@@ -164,6 +164,10 @@ unfolding gather
 gather-same f g [] e = refl
 gather-same f g (x ∷ l) e = ap₂ _++_ (e x here) (gather-same f g l (λ y h. e y (there h)))
 
+pub map-same : {A B : Type 0} (f g : A → B) (l : List A) → ((x : A) → x ∈ l → f x ≡ g x) → map f l ≡ map g l
+map-same f g [] e = refl
+map-same f g (x ∷ l) e = ap₂ _∷_ (e x here) (map-same f g l (λ y h. e y (there h)))
+
 -- ---- map, place by place
 pub map-at : {A B : Type 0} (f : A → B) (l : List A) (i : ℕ) (a : A) (b : B) → i < length l → getD (map f l) i b ≡ f (getD l i a)
 map-at f [] i a b h = let z : ⊥ = omega arith in absurd z

@@ -1,16 +1,16 @@
 -- A caller that prepares once, asks for line 0, 1, .. and stops at the first that is none has written the lines of the
 -- report, all of them and nothing else. Assumes nothing.
-use mathlib.Core.Path.{_≡_, sym, _∙_}
-use mathlib.Core.List.{List, [], map}
+use mathlib.Core.Path.{_≡_, _∙_}
+use mathlib.Core.List.{List, map}
 use Prim.Native.Nat.{ℕ, _≤_, _<_}
 use native.Mathlib.Omega.{arith}
 use borrow.Author.Tests.{leb-true, leb-false}
 use lib.Dec.{leb}
-use lib.ListN.{length, getD, take, length-map}
-use lib.Seq.{ext-getD}
+use lib.ListN.{length, take}
 use Rattle.monomial.specs.Lists.{below}
 use Rattle.monomial.proofs.Tests.{Tested, passed, failed, test}
-use Rattle.monomial.proofs.Counting.{below-length, below-at}
+use Rattle.monomial.proofs.Counting.{below-out}
+use Rattle.monomial.proofs.Members.{map-same}
 use Rattle.lines.specs.Text.{Stands}
 use Rattle.report.specs.declared.prepare.Settings.{Settings}
 use Rattle.report.specs.declared.prepare.Prepared.{Prepared}
@@ -18,17 +18,6 @@ use Rattle.report.specs.Prepare.{Results, resultsIn, Prepares}
 use Rattle.report.specs.Report.{linesOf, report, lineAt}
 use Rattle.report.proofs.prepare.Exact.{prepared-lines}
 use Rattle.report.proofs.line.Exact.{line-none, all-lines}
-
--- two lists made of the numbers below n are one, where what is made of each is
-alike : {A : Type 0} (f g : ℕ → A) (d : A) (n : ℕ) → ((k : ℕ) → k < n → f k ≡ g k) → map f (below n) ≡ map g (below n)
-alike f g d n h =
-    let long : (e : ℕ → _) → length (map e (below n)) ≡ n = λ e. length-map (below n) e ∙ below-length n in
-    ext-getD d (map f (below n)) (map g (below n)) (long f ∙ sym (long g)) one
-  where
-    one : (i : ℕ) → i < length (map f (below n)) → getD (map f (below n)) i d ≡ getD (map g (below n)) i d
-    one i k =
-        let low : i < n = omega (arith, length-map (below n) f, below-length n) in
-        below-at f n i d low ∙ h i low ∙ sym (below-at g n i d low)
 
 -- line number k as it was told: its length, and the lent line before and after; and the number at which none was told
 module _ (r : Results) (ends : ℕ → ℕ) (before line : ℕ → List ℕ) (stop : ℕ)
@@ -49,7 +38,8 @@ module _ (r : Results) (ends : ℕ → ℕ) (before line : ℕ → List ℕ) (st
 
   pub lines-written : map (λ k. take (ends k) (line k)) (below stop) ≡ linesOf r
   lines-written =
-      alike (λ k. take (ends k) (line k)) (lineAt (linesOf r)) [] stop (λ k h. told k (omega arith) .1 .front) ∙ rw all-told (all-lines (linesOf r))
+      map-same (λ k. take (ends k) (line k)) (lineAt (linesOf r)) (below stop) (λ k h. let low : k < stop = below-out stop k h in told k (omega arith) .1 .front)
+      ∙ rw all-told (all-lines (linesOf r))
 
 -- the bytes that were told, one line behind the other
 pub report-written : (s : Settings) (terms : List ℕ) {p : Prepared} {sets after wires : List ℕ} → Prepares s terms p sets after wires

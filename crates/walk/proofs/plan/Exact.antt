@@ -3,19 +3,19 @@
 use mathlib.Core.Path.{_≡_, refl, sym, ap, _∙_, subst}
 use mathlib.Core.Logic.{_↔_}
 use mathlib.Core.Bool.{true, false}
-use mathlib.Core.List.{List, [], _∷_, _++_, append-assoc}
-use Prim.Native.Nat.{ℕ, zero, suc, _+_, _*_, _-_, _/_, _≤_, _<_}
+use mathlib.Core.List.{List, [], _++_}
+use Prim.Native.Nat.{ℕ, suc, _+_, _*_, _-_, _/_, _≤_, _<_}
 use native.Mathlib.Omega.{arith}
 use borrow.Author.Tests.{le-leb, ne-eqb, eqb-true, eqb-false}
 use lib.Dec.{T, eqb, leb→le}
 use lib.ListN.{length, getD, take, drop, replicate, length-append, length-replicate}
-use lib.Seq.{take-at, drop-append-add, getD-append-add}
-use Rattle.monomial.specs.Lists.{gather}
+use lib.Seq.{getD-append-add}
 use Rattle.monomial.specs.Monomial.{Mono, width}
 use Rattle.monomial.specs.Order.{same}
 use Rattle.monomial.specs.Claims.{_∈_, empty}
 use Rattle.monomial.proofs.Tests.{Tested, passed, failed, test, T→is, nT→is, is→T, is→nT, and-l, and-r}
-use Rattle.monomial.proofs.Members.{here, there, fill-at}
+use Rattle.monomial.proofs.Members.{fill-at}
+use Rattle.monomial.proofs.Strips.{strip-length, strip-at}
 use Rattle.wiring.specs.Panel.{cards, setBytes, wiresBytes, mostSteps}
 use Rattle.wiring.specs.Poly.{Poly, plain}
 use Rattle.wiring.specs.Quadratic.{Quadratic}
@@ -209,22 +209,13 @@ module _ (n cap limit : ℕ) (terms : List ℕ) (size : ℕ) where
 -- ---- done: what the bytes say
 -- the records of sets of six exponents, one behind the other
 sets-length : (l : Finds) → ((s : List Mono) → s ∈ l → length (setRecord s) ≡ setBytes) → length (setsBytes l) ≡ setBytes * length l
-unfolding setsBytes gather
-sets-length [] h = refl
-sets-length (s ∷ l) h =
-    let own : length (setRecord s) ≡ setBytes = h s here in
-    let ih : length (setsBytes l) ≡ setBytes * length l = sets-length l (λ x m. h x (there m)) in
-    length-append (setRecord s) (setsBytes l) ∙ omega arith
+unfolding setsBytes
+sets-length l h = strip-length setRecord setBytes l h
 
 sets-at : (l : Finds) (tail : List ℕ) → ((s : List Mono) → s ∈ l → length (setRecord s) ≡ setBytes) → (i : ℕ) → i < length l
     → take setBytes (drop (setBytes * i) (setsBytes l ++ tail)) ≡ setRecord (getD l i [])
-unfolding setsBytes gather
-sets-at [] tail h i k = let z : ⊥ = omega arith in absurd z
-sets-at (s ∷ l) tail h zero k = ap (take setBytes) (append-assoc (setRecord s) (setsBytes l) tail) ∙ take-at (setRecord s) (setsBytes l ++ tail) setBytes (h s here)
-sets-at (s ∷ l) tail h (suc i) k =
-    let skip : setBytes * suc i ≡ length (setRecord s) + setBytes * i = omega (arith, h s here) in
-    rw (append-assoc (setRecord s) (setsBytes l) tail, skip, drop-append-add (setRecord s) (setsBytes l ++ tail) (setBytes * i))
-    (sets-at l tail (λ x m. h x (there m)) i (omega arith))
+unfolding setsBytes
+sets-at l tail h i k = strip-at setRecord setBytes l h tail i [] k
 
 module _ (n cap limit : ℕ) (terms : List ℕ) (size : ℕ) where
   clean-of : Accepted n cap limit terms → fault n (records terms) ≡ Clean

@@ -1,17 +1,18 @@
 -- What a wiring list says as a whole, and that the bytes of its records say the same: the rows of all left variables by their numbers, each of
 -- them its derivative. One list does so. Assumes nothing.
-use mathlib.Core.Path.{_≡_, refl, sym, ap, _∙_}
-use mathlib.Core.List.{List, [], _∷_, _++_, append-assoc}
-use Prim.Native.Nat.{ℕ, zero, suc, _+_, _*_, _-_, _≤_, _<_}
+use mathlib.Core.Path.{_≡_, refl, sym, _∙_}
+use mathlib.Core.List.{List, _++_}
+use Prim.Native.Nat.{ℕ, _+_, _*_, _-_, _≤_, _<_}
 use native.Mathlib.Omega.{arith}
 use lib.IntN.{natAbs}
 use lib.ListN.{length, getD, take, drop, replicate}
-use lib.Seq.{take-at, drop-append-add, getD-append-add}
+use lib.Seq.{getD-append-add}
 use Rattle.monomial.specs.Lists.{gather, below}
 use Rattle.monomial.specs.Product.{AtMost}
 use Rattle.monomial.proofs.Members.{gather-same, fill-at}
 use Rattle.monomial.proofs.Counting.{below-out}
 use Rattle.monomial.proofs.product.Laws.{atMost-at}
+use Rattle.monomial.proofs.Strips.{strip-at}
 use Rattle.wiring.specs.Panel.{wireBytes}
 use Rattle.wiring.specs.Poly.{Kind, Poly}
 use Rattle.wiring.specs.Wires.{Wire, signal, row, wiring, wireRecord, wireList, Met}
@@ -53,13 +54,9 @@ wire-decodes x l a b c = record {
     small = (omega arith, (omega arith, (omega arith, (omega arith, (omega arith, (omega arith, (omega arith, (omega arith, tt))))))))
 
 -- ---- a buffer that begins with the list
-pub list-at : (list : List Wire) (tail : List ℕ) (j : ℕ) (none : Wire) → j < length list → take wireBytes (drop (wireBytes * j) (wireList list ++ tail)) ≡ wireRecord (getD list j none)
-unfolding gather
-list-at [] tail j none h = let z : ⊥ = omega arith in absurd z
-list-at (x ∷ l) tail zero none h = ap (take wireBytes) (append-assoc (wireRecord x) (wireList l) tail) ∙ take-at (wireRecord x) (wireList l ++ tail) wireBytes (record-length x)
-list-at (x ∷ l) tail (suc j) none h =
-    let skip : wireBytes * suc j ≡ length (wireRecord x) + wireBytes * j = omega (arith, record-length x) in
-    rw (append-assoc (wireRecord x) (wireList l) tail, skip, drop-append-add (wireRecord x) (wireList l ++ tail) (wireBytes * j)) (list-at l tail j none (omega arith))
+pub list-at : (list : List Wire) (tail : List ℕ) (j : ℕ) (none : Wire) → j < length list
+    → take wireBytes (drop (wireBytes * j) (wireList list ++ tail)) ≡ wireRecord (getD list j none)
+list-at list tail j none h = strip-at wireRecord wireBytes list (λ w k. record-length w) tail j none h
 
 pub list-rest : (list : List Wire) (m k : ℕ) → wireBytes * length list ≤ k → getD (wireList list ++ replicate m 0) k 0 ≡ 0
 list-rest list m k h =

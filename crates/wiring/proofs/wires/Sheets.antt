@@ -18,6 +18,7 @@ use Rattle.monomial.proofs.Members.{keep-no, keep-all, gather-append}
 use Rattle.monomial.proofs.order.Laws.{mono-order, not-both}
 use Rattle.monomial.proofs.order.Ascending.{head-first, tail-asc}
 use Rattle.monomial.proofs.Counting.{at-in}
+use Rattle.monomial.proofs.Strips.{strip-length}
 use Rattle.wiring.specs.Panel.{wireBytes}
 use Rattle.wiring.specs.Poly.{Poly, plain, coeff, support}
 use Rattle.wiring.specs.Quadratic.{inV2}
@@ -32,11 +33,7 @@ unfolding wireRecord
 record-length w = refl
 
 pub list-length : (l : List Wire) → length (wireList l) ≡ wireBytes * length l
-unfolding gather
-list-length [] = omega arith
-list-length (w ∷ l) =
-    let ih : length (wireList l) ≡ wireBytes * length l = list-length l in
-    length-append (wireRecord w) (wireList l) ∙ omega (arith, record-length w)
+list-length l = strip-length wireRecord wireBytes l (λ w h. record-length w)
 
 abbrev zeros : ℕ → List ℕ
 zeros n = replicate n 0
