@@ -66,15 +66,14 @@ returns-3 c =
     λ finds taken s.
     let at-move-up = c .before .before .before .before .before .before in
     let at-place-of = at-move-up .before .before in
-    let at-is-listed = at-place-of .before .before .before .before in
+    let at-if1 = at-place-of .before .before .before in
+    let at-is-listed = at-if1 .before in
     let at-record-of = at-is-listed .before .before in
     let start = at-record-of .before .before in
     let x = monomialsOf (start .args .set) in
     let ok = start .pre .0 in
     let own = at-record-of .record-of .ensures in
-    let new = sym
-    (at-is-listed .is-listed .ensures finds x s ok own) ∙ c
-    .before .before .before .before .before .before .before .before .before .before .before .if1 .left in
+    let new = sym (at-is-listed .is-listed .ensures finds x s ok own) ∙ at-if1 .if1 .left in
     let place = at-place-of .place-of .ensures in
     let p = at-place-of .place-of .result in
     let move = at-move-up .move-up in

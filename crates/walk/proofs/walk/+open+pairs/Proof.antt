@@ -151,24 +151,30 @@ abbrev Offered : ℕ → Type 0
 Offered t = runner-lts.After-offer (runner-claims t) (runner-at t) runner.Post Inv-loop μ-loop
 
 module _ (t : ℕ) (c : Offered t) where
+  abbrev at-leads : runner-lts.After-leads (runner-claims t) (runner-at t) runner.Post Inv-loop μ-loop
+  at-leads = c .before .before .before .before .before
+
+  abbrev at-loop : runner-lts.At-loop (runner-claims t) (runner-at t) runner.Post Inv-loop μ-loop
+  at-loop = at-leads .before
+
   abbrev begun : runner-lts.Start (runner-claims t) (runner-at t) runner.Post Inv-loop μ-loop
-  begun = c .before .before .before .before .before .before .before .before .before .before
+  begun = at-loop .before .before .before .before
 
   -- the state and the buffer before the turn, the first of the pair, and the child
   abbrev reached : State
-  reached = c .before .before .before .before .before .before .loop .cur
+  reached = at-loop .loop .cur
 
   abbrev sheet : List ℕ
-  sheet = c .before .before .before .before .before .before .loop .out
+  sheet = at-loop .loop .out
 
   abbrev first : Mono
-  first = c .before .before .before .before .before .before .loop .a .e
+  first = at-loop .loop .a .e
 
   abbrev offspring : List Mono
   offspring = child (begun .args .f .n) (monomialsOf (begun .args .set)) (first, quo (begun .args .m .e) first)
 
   offered-lead : T (leads (begun .args .m .e) first)
-  offered-lead = is→T (leads (begun .args .m .e) first) (sym (c .before .before .before .before .before .leads .ensures) ∙ c .before .before .before .before .if1 .taken)
+  offered-lead = is→T (leads (begun .args .m .e) first) (sym (at-leads .leads .ensures) ∙ c .before .before .before .before .if1 .taken)
 
   offered-proper : begun .args .m .e ≡ one (length (begun .args .m .e)) → ⊥
   offered-proper =
@@ -179,7 +185,7 @@ module _ (t : ℕ) (c : Offered t) where
   offered-child =
       let a = begun .args in
       subst (λ (b : Mono). Child (a .f .level) (child (a .f .n) (monomialsOf (a .set)) (first, b)) (c .offer .result)) (c .before .over .ensures)
-      (c .offer .ensures (a .f .n) (c .before .before .before .before .before .before .before .signals-of .ensures .0))
+      (c .offer .ensures (a .f .n) (at-loop .before .signals-of .ensures .0))
 
   offered-opens : opens bare (begun .args .f .n) (begun .args .f .level) (monomialsOf (begun .args .set)) (first, quo (begun .args .m .e) first) ≡ c .offer .result .go
   offered-opens =
@@ -192,13 +198,13 @@ module _ (t : ℕ) (c : Offered t) where
     offered-more =
         let a = begun .args in
         child-more (a .f .n) (a .terms .now) (a .f .level) (a .set) (a .m .e) (a .st .count) (a .out .now) (begun .pre .1 .0) (begun .pre .1 .1)
-        first (c .before .before .before .before .before .before .loop .inv .divisor) offered-lead (c .offer .result) offered-child go
+        first (at-loop .loop .inv .divisor) offered-lead (c .offer .result) offered-child go
 
     offered-within : c .offer .result .set .len ≤ begun .args .f .level
     offered-within =
         let a = begun .args in
         child-within (a .f .n) (a .terms .now) (a .f .level) (a .set) (a .m .e) (a .st .count) (a .out .now) (begun .pre .1 .0) (begun .pre .1 .1)
-        first (c .before .before .before .before .before .before .loop .inv .divisor) offered-lead (c .offer .result) offered-child go
+        first (at-loop .loop .inv .divisor) offered-lead (c .offer .result) offered-child go
 
     -- what the opener told of it
     abbrev told-of : Turn → ℕ → List Mono → List ℕ → Type 0
@@ -212,7 +218,7 @@ module _ (t : ℕ) (c : Offered t) where
     offered-told turn turn' out' e f =
         let a = begun .args in
         told-as bare (a .f .n) (a .terms .now) (a .f .level) (a .f .limit) (reached .steps + 1) (reached .count) (c .offer .result) offspring (a .out .now) sheet out' turn turn'
-        (offered-child .is go) (c .before .before .before .before .before .before .loop .inv .long) e f
+        (offered-child .is go) (at-loop .loop .inv .long) e f
 
 runner-signals-of-requires : (t : ℕ) → runner-lts.Need-signals-of-requires (runner-claims t) (runner-at t) runner.Post Inv-loop μ-loop
 runner-signals-of-requires t c κs =
@@ -285,9 +291,8 @@ runner-enum-told t c = search needs
 runner-same-length-2 : (t : ℕ) → runner-lts.Need-same-length-2 (runner-claims t) (runner-at t) runner.Post Inv-loop μ-loop
 runner-same-length-2 t c =
     let at-open = c .before .before .before .before in
-    let at-11 = at-open .before .before .before .before .before .before .before in
-    at-open .«open» .kept .1 .0 ∙ at-11
-    .before .before .before .loop .inv .long
+    let at-loop = at-open .before .before .before .before .before .before .before .before .before .before in
+    at-open .«open» .kept .1 .0 ∙ at-loop .loop .inv .long
 
 runner-returns-2 : (t : ℕ) → runner-lts.Need-returns-2 (runner-claims t) (runner-at t) runner.Post Inv-loop μ-loop
 runner-returns-2 t c =
@@ -315,9 +320,8 @@ runner-enum-known-s-2 t c = search needs
 runner-same-length-3 : (t : ℕ) → runner-lts.Need-same-length-3 (runner-claims t) (runner-at t) runner.Post Inv-loop μ-loop
 runner-same-length-3 t c =
     let at-open = c .before .before .before .before .before in
-    let at-10 = at-open .before .before .before .before .before in
-    at-open .«open» .kept .1 .0 ∙ at-10
-    .before .before .before .before .before .loop .inv .long
+    let at-loop = at-open .before .before .before .before .before .before .before .before .before .before in
+    at-open .«open» .kept .1 .0 ∙ at-loop .loop .inv .long
 
 runner-returns-3 : (t : ℕ) → runner-lts.Need-returns-3 (runner-claims t) (runner-at t) runner.Post Inv-loop μ-loop
 runner-returns-3 t c =

@@ -127,8 +127,8 @@ loop-again c =
     let sum = c .before .before .before .before .total in
     let coefficient = toZ-ofZ w32 (sum .result) (sfits-of (sum .ok)) ∙ sum .ensures in
     let e : k .at + 1 - s .args .from ≡ k .at - s .args .from + 1 = omega arith in
-    let wire = wire-is (signalsOf v) (s .args .left) p (k .next .m .e) _ _ _ (c .before .before .before .before .before .pair-of .ensures .0)
-    (c .before .before .before .before .before .pair-of .ensures .1 .0) coefficient in
+    let pair = c .before .before .before .before .before .pair-of .ensures in
+    let wire = wire-is (signalsOf v) (s .args .left) p (k .next .m .e) _ _ _ (pair .0) (pair .1 .0) coefficient in
     let more = rowing-more (signalsOf v) (s .args .left) p (k .inv .1 .1) (support-asc plain mono-order p) _ (c .next-monomial2 .result)
     (c .before .before .before .before .before .before .before .before .before .loop-test .taken) wire (omega arith) (c .next-monomial2 .ensures) in
     (omega arith, (k .inv .1 .0, rw (e, c .before .before .before .put-record .ensures) more))
