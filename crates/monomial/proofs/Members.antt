@@ -146,6 +146,18 @@ keep-map f g (x ∷ l) = go (test (f (g x))) (keep-map f g l)
     go (passed e) ih = rw e (ap (_∷_ (g x)) ih)
     go (failed e) ih = rw e ih
 
+-- two tests in either order
+pub keep-swap : {A : Type 0} (f g : A → Bool) (l : List A) → keep f (keep g l) ≡ keep g (keep f l)
+unfolding keep
+keep-swap f g [] = refl
+keep-swap f g (x ∷ l) = go (test (f x)) (test (g x)) (keep-swap f g l)
+  where
+    go : Tested (f x) → Tested (g x) → keep f (keep g l) ≡ keep g (keep f l) → keep f (keep g (x ∷ l)) ≡ keep g (keep f (x ∷ l))
+    go (passed a) (passed b) ih = simp (a, b) (ap (_∷_ x) ih)
+    go (passed a) (failed b) ih = simp (a, b) ih
+    go (failed a) (passed b) ih = simp (a, b) ih
+    go (failed a) (failed b) ih = simp (a, b) ih
+
 pub keep-length : {A : Type 0} (f : A → Bool) (l : List A) → length (keep f l) ≤ length l
 unfolding keep
 keep-length f [] = omega arith

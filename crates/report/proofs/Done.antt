@@ -71,7 +71,7 @@ module _ (s : Settings) (terms : List ℕ) where
     records =
         let long : length bytes ≡ size = plan-length (s .n) (s .cap) (s .limit) terms size (Done o c k) bytes e in
         let fits : setBytes * c ≤ size = records-fit (s .n) (s .cap) (s .limit) terms size o c k bytes e in
-        let many : c ≡ length found = plan-finds (s .n) (s .cap) (s .limit) terms size o c k bytes e .counted in
+        let many : c ≡ length found = plan-finds (s .n) (s .cap) (s .limit) terms size o c k bytes e .laid .counted in
         slots-are setRecord found [] setBytes c bytes many (omega arith) (record-at (s .n) (s .cap) (s .limit) terms size o c k bytes e)
 
     -- the reply, a line for each smallest set, and then the wiring

@@ -37,7 +37,7 @@ use Rattle.walk.proofs.Runs.{distinct-asc, distinct-in, distinct-out}
 use Rattle.walk.proofs.Stops.{done-exact}
 
 module _ (n : ℕ) (fs : List (Poly Mono)) where
-  no-gap : (s : List Mono) → QuadraticList n fs s → missing n fs s ≡ []
+  pub no-gap : (s : List Mono) → QuadraticList n fs s → missing n fs s ≡ []
   no-gap s = definition1 plain mono-order (signals width n s) (derivative plain fs) .0
 
   pub gapless : (s : List Mono) → missing n fs s ≡ [] → QuadraticList n fs s
@@ -53,7 +53,7 @@ module _ (n : ℕ) (fs : List (Poly Mono)) where
   arranged-extends : (r : Rules) (s t : List Mono) → Extends r s t → Extends r s (arranged t)
   arranged-extends r s t e = record { holds = λ x h. arrange-in mono-order t (e .holds x h); may = λ x h. e .may x (arrange-out mono-order t h) }
 
-  arranged-quadratic : (s : List Mono) → QuadraticList n fs s → missing n fs (arranged s) ≡ []
+  pub arranged-quadratic : (s : List Mono) → QuadraticList n fs s → missing n fs (arranged s) ≡ []
   arranged-quadratic s q = same-members n fs s (arranged s) (λ x h. arrange-in mono-order s h) (λ x h. arrange-out mono-order s h) (no-gap s q)
 
 -- ---- rules that try every pair, close no set that is needed, and begin with an ascending set

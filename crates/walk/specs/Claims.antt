@@ -256,6 +256,14 @@ planLeaves n terms size r =
 abbrev pub NoneBelow : ℕ → List ℕ → ℕ → Type 0
 NoneBelow n terms j = (s : List Mono) → Wide s → QuadraticList n (system (records terms)) s → j ≤ length s
 
+-- a list of sets as it lies in a buffer of this size: record number i holds set number i; behind them are zeros
+pub record Laid (l : Finds) (count size : ℕ) (bytes : List ℕ) : Type 0 where
+  pub counted : count ≡ length l
+  pub fits : setBytes * count ≤ size
+  pub written : (i : ℕ) → i < count → take setBytes (drop (setBytes * i) bytes) ≡ setRecord (getD l i [])
+  pub rest : (k : ℕ) → setBytes * count ≤ k → getD bytes k 0 ≡ 0
+  pub long : length bytes ≡ size
+
 -- what done says, and its bytes
 pub record Planned (n cap limit : ℕ) (terms : List ℕ) (size order count steps : ℕ) (bytes : List ℕ) : Type 0 where
   pub accepted : Accepted n cap limit terms
@@ -264,8 +272,4 @@ pub record Planned (n cap limit : ℕ) (terms : List ℕ) (size order count step
   -- of all lists of monomials: no quadratic one is smaller, and each of that many members, put in order, is listed
   pub none-below : NoneBelow n terms order
   pub all : (s : List Mono) → Wide s → QuadraticList n (system (records terms)) s → length s ≡ order → arrangeBy same before s ∈ setsAt n terms order
-  pub counted : count ≡ length (setsAt n terms order)
-  -- record number i holds set number i; behind them are zeros
-  pub written : (i : ℕ) → i < count → take setBytes (drop (setBytes * i) bytes) ≡ setRecord (getD (setsAt n terms order) i [])
-  pub rest : (k : ℕ) → setBytes * count ≤ k → getD bytes k 0 ≡ 0
-  pub long : length bytes ≡ size
+  pub laid : Laid (setsAt n terms order) count size bytes

@@ -12,14 +12,15 @@ ghost use lib.Seq.{paste};
 ghost use Rattle.monomial.specs.Lists.{any, place};
 ghost use Rattle.monomial.specs.Monomial.{Mono};
 ghost use Rattle.monomial.specs.Order.{same, before, sameSet, beforeSet};
-ghost use Rattle.wiring.specs.Panel.{setBytes};
+ghost use Rattle.wiring.specs.Panel.{cards, setBytes};
 ghost use Rattle.wiring.specs.Sets.{monomialsOf, setRecord};
+ghost use Rattle.wiring.specs.Claims.{Wide};
 ghost use Rattle.walk.specs.Walk.{Finds, kept};
 ghost use Rattle.walk.specs.Listing.{Recorded, Shown, KeptAs};
 
 // The bytes of a set record.
-struct Record {
-    b: [u8; SET_BYTES],
+pub struct Record {
+    pub b: [u8; SET_BYTES],
 }
 
 // What keeping a find comes to: the new count, or no room.
@@ -29,8 +30,8 @@ pub enum Kept {
 }
 
 // The record of a set.
-fn record_of(set: Set) -> Record
-    requires { ⌜ Recorded (monomialsOf set) ⌝ }
+pub fn record_of(set: Set) -> Record
+    requires { ⌜ (length (monomialsOf set) ≤ cards) × Wide (monomialsOf set) ⌝ }
     ensures { λ r. ⌜ r .b ≡ setRecord (monomialsOf set) ⌝ }
 {
     let len = set.len;
@@ -129,7 +130,7 @@ fn move_up(out: &mut [u8], from: usize, to: usize)
 }
 
 // Writes a record over the bytes from at on.
-fn put(out: &mut [u8], at: usize, r: Record)
+pub fn put(out: &mut [u8], at: usize, r: Record)
     requires { ⌜ at + setBytes ≤ length (now out) ⌝ }
     ensures { λ _. ⌜ now (out .exit) ≡ paste (now (out .entry)) at (r .b) setBytes ⌝ }
 {

@@ -4,3 +4,4 @@ pub mod Exact
 pub mod Checked
 pub mod Limits
 pub mod Wired
+pub mod Recorded

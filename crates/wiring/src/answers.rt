@@ -34,7 +34,7 @@ pub fn count_right(n: u64) -> bool
 }
 
 // What is said of a set that keeps its rule.
-fn judge(n: usize, terms: &[u8], set: Set) -> Reply
+pub fn judge(n: usize, terms: &[u8], set: Set) -> Reply
     requires { ⌜ CleanTerms (now terms) × ((n ≤ width) × ((set .len ≤ cards) × Fitting setExponent (monomialsOf set))) ⌝ }
     ensures { λ r. ⌜ r ≡ judged n (system (records (now (terms .entry)))) (monomialsOf set) ⌝ }
 {

@@ -57,13 +57,13 @@ made-more s i wide few h =
     rw (record-is t, record-is (take (i + 1) s), free, at, next, left, all) (written ∙ sym (append-assoc (flat t) m (zeros rest)))
 
 module _ {s : List Mono} {b : List ℕ} {i : ℕ} (k : Making s b i) where
-  pub making-next : (m : Mono) → Recorded s → i < length s → m ≡ getD s i [] → Making s (paste b (width * i) m width) (i + 1)
-  making-next m r h e =
-      let six : length m ≡ width = ap length e ∙ r .wide (getD s i []) (at-in s i [] h) in
+  pub making-next : (m : Mono) → length s ≤ cards → Wide s → i < length s → m ≡ getD s i [] → Making s (paste b (width * i) m width) (i + 1)
+  making-next m few wide h e =
+      let six : length m ≡ width = ap length e ∙ wide (getD s i []) (at-in s i [] h) in
       record {
-        within = omega (arith, r .few);
-        long = length-paste b (width * i) m width (omega (arith, k .long, r .few)) (omega arith) ∙ k .long;
-        made = ap₂ (λ (u : List ℕ) (x : Mono). paste u (width * i) x width) (k .made) e ∙ made-more s i (r .wide) (r .few) h;
+        within = omega arith;
+        long = length-paste b (width * i) m width (omega (arith, k .long)) (omega arith) ∙ k .long;
+        made = ap₂ (λ (u : List ℕ) (x : Mono). paste u (width * i) x width) (k .made) e ∙ made-more s i wide few h;
       }
 
   pub making-end : length s ≤ i → b ≡ setRecord s

@@ -31,9 +31,9 @@ use Rattle.wiring.specs.declared.terms.Fault.the-variants.{Clean, Wrong, Repeat
 use Rattle.wiring.specs.Claims.{Measured, Breaks, Repeats, beyond, WellFormed, signalsIn, derivativeIn, Recordable, listIn}
 use Rattle.wiring.proofs.reply.Laws.{same-reply, code-done}
 use Rattle.wiring.proofs.terms.Exact.{length-exact, wrong-exact, repeated-exact, clean-exact}
-use Rattle.wiring.proofs.sets.Exact.{record-length, record-set, record-right, right-iff}
-use Rattle.wiring.proofs.answers.Exact.{count-in, count-out, check-exact}
-use Rattle.wiring.proofs.answers.Wired.{wire-enough}
+use Rattle.wiring.proofs.sets.Exact.{record-length}
+use Rattle.wiring.proofs.answers.Exact.{count-in, count-out}
+use Rattle.wiring.proofs.answers.Recorded.{recorded-checks, recorded-wires}
 use Rattle.walk.specs.Walk.{Finds, bare}
 use Rattle.walk.specs.Plan.{Ending, done, none, fullAt, spentAt, plan, setsBytes, said, settingsRight, planned}
 use Rattle.walk.specs.Claims.{Barren, Ends, Lacks, Fills, Spends, Fate, Listed, InRange, Accepted, setsAt, PlanSays, planLeaves, NoneBelow, Planned, Finished}
@@ -42,6 +42,7 @@ use Rattle.walk.proofs.Rules.{bare-orderly, bare-sparing, bare-extends}
 use Rattle.walk.proofs.children.Laws.{empty-walked}
 use Rattle.walk.proofs.Sound.{empty-proper}
 use Rattle.walk.proofs.Smallest.{none-smaller, plan-done}
+use Rattle.walk.proofs.listing.Laid.{sets-laid}
 
 -- ---- the settings
 range-out : (n cap limit : ℕ) → T (settingsRight n cap limit) → InRange n cap limit
@@ -207,16 +208,6 @@ module _ (n cap limit : ℕ) (terms : List ℕ) (size : ℕ) where
   plan-spends o k bytes e = none-below o (says-spent o k bytes .0 e .0 .1 .barren)
 
 -- ---- done: what the bytes say
--- the records of sets of six exponents, one behind the other
-sets-length : (l : Finds) → ((s : List Mono) → s ∈ l → length (setRecord s) ≡ setBytes) → length (setsBytes l) ≡ setBytes * length l
-unfolding setsBytes
-sets-length l h = strip-length setRecord setBytes l h
-
-sets-at : (l : Finds) (tail : List ℕ) → ((s : List Mono) → s ∈ l → length (setRecord s) ≡ setBytes) → (i : ℕ) → i < length l
-    → take setBytes (drop (setBytes * i) (setsBytes l ++ tail)) ≡ setRecord (getD l i [])
-unfolding setsBytes
-sets-at l tail h i k = strip-at setRecord setBytes l h tail i [] k
-
 module _ (n cap limit : ℕ) (terms : List ℕ) (size : ℕ) where
   clean-of : Accepted n cap limit terms → fault n (records terms) ≡ Clean
   clean-of a = clean-exact n (records terms) beyond .1 (a .flawless)
@@ -227,10 +218,8 @@ module _ (n cap limit : ℕ) (terms : List ℕ) (size : ℕ) where
     finished = f;
     none-below = λ s w q. f .sets .none-smaller s w (bare-extends s) q;
     all = λ s w q h. f .sets .all s w (bare-extends s) q h;
-    counted = counted;
-    written = λ i h. ap (λ (b : List ℕ). take setBytes (drop (setBytes * i) b)) left ∙ sets-at l tail long-of i (rw (← counted) h);
-    rest = behind;
-    long = ap length left ∙ length-append (setsBytes l) tail ∙ omega (arith, front, back, fits, counted);
+    laid = sets-laid (setsAt n terms o) c size bytes (λ s m. let r = f .sets .each s m .recordable in record-length s (r .few) (r .wide)) (says .0 .1)
+        (omega (arith, f .roomy, says .0 .1)) (says .1);
   }
     where
       says : PlanSays n cap limit terms size (Done o c k) × (bytes ≡ planLeaves n terms size (Done o c k))
@@ -239,42 +228,11 @@ module _ (n cap limit : ℕ) (terms : List ℕ) (size : ℕ) where
       a : Accepted n cap limit terms
       a = says .0 .0
 
-      l : Finds
-      l = setsAt n terms o
-
-      counted : c ≡ length (setsAt n terms o)
-      counted = says .0 .1
-
-      tail : List ℕ
-      tail = replicate (size - setBytes * c) 0
-
-      left : bytes ≡ setsBytes (setsAt n terms o) ++ replicate (size - setBytes * c) 0
-      left = says .1
-
       f : Finished bare n terms cap limit (size / setBytes) o k (setsAt n terms o)
       f =
-          let ending = done-exact bare n (system (records terms)) limit (size / setBytes) cap o k l .1 (says .0 .2) in
+          let ending = done-exact bare n (system (records terms)) limit (size / setBytes) cap o k (setsAt n terms o) .1 (says .0 .2) in
           plan-done bare bare-orderly empty-walked n (empty-proper n) terms (a .range .ranged .1) (clean-of a) (bare-sparing n (system (records terms)))
-          cap limit (size / setBytes) (a .range .capped) o k l ending
-
-      long-of : (s : List Mono) → s ∈ setsAt n terms o → length (setRecord s) ≡ setBytes
-      long-of s m = let r = f .sets .each s m .recordable in record-length s (r .few) (r .wide)
-
-      front : length (setsBytes (setsAt n terms o)) ≡ setBytes * length (setsAt n terms o)
-      front = sets-length l long-of
-
-      back : length {A = ℕ} (replicate (size - setBytes * c) 0) ≡ size - setBytes * c
-      back = length-replicate (size - setBytes * c) 0
-
-      fits : setBytes * length (setsAt n terms o) ≤ size
-      fits = omega (arith, f .roomy)
-
-      behind : (j : ℕ) → setBytes * c ≤ j → getD bytes j 0 ≡ 0
-      behind j h =
-          let b = setsBytes l in
-          let at : length b + (j - length b) ≡ j = omega (arith, front, counted) in
-          let from = getD-append-add b tail (j - length b) 0 ∙ fill-at 0 (size - setBytes * c) (j - length b) in
-          ap (λ (x : List ℕ). getD x j 0) left ∙ subst (λ (x : ℕ). getD (b ++ tail) x 0 ≡ 0) at from
+          cap limit (size / setBytes) (a .range .capped) o k (setsAt n terms o) ending
 
   -- the buffer keeps its length
   pub plan-length : (r : Reply) (bytes : List ℕ) → outcome r bytes ≡ planned n cap limit terms size → length bytes ≡ size
@@ -285,32 +243,18 @@ module _ (n cap limit : ℕ) (terms : List ℕ) (size : ℕ) where
       go (passed q) =
           let d = code-done r (eqb-true (numbers r .code) 0 q) in
           let same : outcome (Done (d .order) (d .count) (d .steps)) bytes ≡ planned n cap limit terms size = ap (λ (x : Reply). outcome x bytes) (sym (d .is)) ∙ e in
-          plan-finds (d .order) (d .count) (d .steps) bytes same .long
+          plan-finds (d .order) (d .count) (d .steps) bytes same .laid .long
 
 -- ---- a listed set can be handed to checking and wiring, and neither refuses it
 module _ (n cap limit : ℕ) (terms : List ℕ) (size : ℕ) (a : Accepted n cap limit terms) (o : ℕ) (s : List Mono) (l : Listed bare n terms o s) where
-  listed-formed : WellFormed n terms (setRecord s)
-  listed-formed =
-      let r : Recordable n s = l .recordable in
-      record {
-        ranged = a .range .ranged;
-        lengths = record { measured = a .measured; long = record-length s (r .few) (r .wide) };
-        flawless = a .flawless;
-        right = right-iff n (setRecord s) .0 (record-right n s r);
-      }
-
-  listed-quadratic : Quadratic plain (signalsIn n (setRecord s)) (derivativeIn terms)
-  listed-quadratic = subst (λ (x : List Mono). Quadratic plain (signals width n x) (derivativeIn terms)) (sym (record-set n s (l .recordable))) (l .quadratic)
-
-  listed-size : length (setOf (setRecord s)) ≡ o
-  listed-size = ap length (record-set n s (l .recordable)) ∙ l .size
-
   pub listed-checks : numbers (Done o 0 0) ≡ checked n terms (setRecord s)
-  listed-checks = check-exact n terms (setRecord s) (Done o 0 0) .1 (listed-formed, sym listed-size, refl, refl, listed-quadratic)
+  listed-checks =
+      ap (λ (x : ℕ). numbers (Done x 0 0)) (sym (l .size))
+      ∙ recorded-checks n terms (a .range .ranged) (a .measured) (a .flawless) s (l .recordable) (l .quadratic)
 
   -- into 1,792 bytes or more
   pub listed-wires : (room : ℕ) → wiresBytes ≤ room → (r : Reply) (bytes : List ℕ) → outcome r bytes ≡ wired n terms (setRecord s) room
       → r ≡ Done o (length (listIn n terms (setRecord s))) 0
   listed-wires room h r bytes e =
-      wire-enough n terms (setRecord s) room listed-formed listed-quadratic h r bytes e
-      ∙ ap (λ (x : ℕ). Done x (length (listIn n terms (setRecord s))) 0) listed-size
+      recorded-wires n terms (a .range .ranged) (a .measured) (a .flawless) s (l .recordable) (l .quadratic) room h r bytes e
+      ∙ ap (λ (x : ℕ). Done x (length (listIn n terms (setRecord s))) 0) (l .size)

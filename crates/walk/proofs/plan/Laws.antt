@@ -12,7 +12,7 @@ use Rattle.monomial.specs.Monomial.{Mono, width}
 use Rattle.monomial.specs.Claims.{empty}
 use Rattle.monomial.proofs.Tests.{is→T, T→is, and-l, and-r}
 use Rattle.wiring.specs.Panel.{cards, setBytes}
-use Rattle.wiring.specs.Reply.{Outcome, outcome}
+use Rattle.wiring.specs.Reply.{Outcome, outcome, refused}
 use Rattle.wiring.specs.Poly.{Poly}
 use Rattle.wiring.specs.Terms.{records, lengthRight, fault, system, CleanTerms}
 use Rattle.wiring.specs.Answers.{countRight}
@@ -25,11 +25,21 @@ use Rattle.walk.specs.declared.walk.State.{State}
 use Rattle.walk.specs.declared.walk.Turn.{Turn}
 use Rattle.walk.specs.declared.walk.Turn.the-variants.{Going, Spent, Full}
 use Rattle.walk.specs.Walk.{Finds, Rules, bare, opened, level, Run, ended, spent, full, run}
-use Rattle.walk.specs.Plan.{Ending, done, none, settled, levels, plan, setsBytes, said, settingsRight, planned}
+use Rattle.walk.specs.Plan.{Ending, done, none, fullAt, settled, levels, plan, setsBytes, said, settingsRight, planned}
 use Rattle.walk.specs.Listing.{Shown}
 use Rattle.walk.specs.Turns.{Ended, Tells}
 use Rattle.walk.proofs.Steps.{level-opens}
 use Rattle.walk.proofs.Begins.{plan-begins}
+
+-- ---- an ending as it is said
+pub said-done : (order steps : ℕ) (sets : Finds) (size : ℕ)
+    → outcome (reply.Done order (length sets) steps) (setsBytes sets ++ replicate (size - setBytes * length sets) 0) ≡ said (done order steps sets) size
+unfolding said
+said-done order steps sets size = refl
+
+pub said-full : (order steps size : ℕ) → refused (reply.Full order steps) size ≡ said (fullAt order steps) size
+unfolding said
+said-full order steps size = refl
 
 -- ---- a buffer without finds
 -- a buffer of zeros shows no set

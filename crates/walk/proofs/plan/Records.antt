@@ -1,6 +1,6 @@
 -- The records that a done plan leaves: they lie within the buffer, and each of them, handed to wiring, is wired.
 -- Assumes nothing.
-use mathlib.Core.Path.{_≡_, refl}
+use mathlib.Core.Path.{_≡_, sym, ap, _∙_}
 use mathlib.Core.List.{List, [], _++_}
 use Prim.Native.Nat.{ℕ, _*_, _-_, _≤_, _<_}
 use native.Mathlib.Omega.{arith}
@@ -14,12 +14,11 @@ use Rattle.wiring.specs.Answers.{wired}
 use Rattle.wiring.specs.declared.reply.Reply.{Reply}
 use Rattle.wiring.specs.declared.reply.Reply.the-variants.{Done, Setting, Length, Term, Twice, Nothing, Full, Spent, BadSet, NotQuadratic}
 use Rattle.wiring.specs.Claims.{listIn}
-use Rattle.wiring.proofs.answers.Exact.{check-exact}
-use Rattle.wiring.proofs.answers.Wired.{list-most, wire-exact}
+use Rattle.wiring.proofs.answers.Recorded.{recorded-wired}
 use Rattle.walk.specs.Walk.{bare}
 use Rattle.walk.specs.Plan.{planned}
 use Rattle.walk.specs.Claims.{Listed, Planned, setsAt}
-use Rattle.walk.proofs.plan.Exact.{plan-finds, listed-checks, listed-wires}
+use Rattle.walk.proofs.plan.Exact.{plan-finds, listed-wires}
 
 module _ (n cap limit : ℕ) (terms : List ℕ) (size : ℕ) where
   module _ (o c k : ℕ) (bytes : List ℕ) (e : outcome (Done o c k) bytes ≡ planned n cap limit terms size) where
@@ -27,15 +26,15 @@ module _ (n cap limit : ℕ) (terms : List ℕ) (size : ℕ) where
     found = plan-finds n cap limit terms size o c k bytes e
 
     pub records-fit : setBytes * c ≤ size
-    records-fit = omega (arith, found .finished .roomy, found .counted)
+    records-fit = found .laid .fits
 
     module _ (i : ℕ) (h : i < c) where
       -- record number i is that of set number i
       pub record-at : take setBytes (drop (setBytes * i) bytes) ≡ setRecord (getD (setsAt n terms o) i [])
-      record-at = found .written i h
+      record-at = found .laid .written i h
 
       pub record-listed : Listed bare n terms o (getD (setsAt n terms o) i [])
-      record-listed = found .finished .sets .each (getD (setsAt n terms o) i []) (at-in (setsAt n terms o) i [] (rw (← found .counted) h))
+      record-listed = found .finished .sets .each (getD (setsAt n terms o) i []) (at-in (setsAt n terms o) i [] (rw (← found .laid .counted) h))
 
       -- wired into so many bytes, or more, it is done: its list, then zeros
       pub record-wired : (room : ℕ) → wiresBytes ≤ room
@@ -44,12 +43,12 @@ module _ (n cap limit : ℕ) (terms : List ℕ) (size : ℕ) where
           ++ replicate (room - wireBytes * length (listIn n terms (setRecord (getD (setsAt n terms o) i [])))) 0)
           ≡ wired n terms (take setBytes (drop (setBytes * i) bytes)) room
       record-wired room q =
-          let set : List ℕ = setRecord (getD (setsAt n terms o) i []) in
-          let checks = listed-checks n cap limit terms size (found .accepted) o (getD (setsAt n terms o) i []) record-listed in
-          let says = check-exact n terms set (Done o 0 0) .0 checks in
-          let most = list-most n terms set (says .0) in
-          let done : Reply = Done o (length (listIn n terms set)) 0 in
-          rw record-at (wire-exact n terms set room done _ .1 ((says .0, says .4, says .1, refl, refl, omega arith), refl))
+          let l = record-listed in
+          let a = found .accepted in
+          let s = getD (setsAt n terms o) i [] in
+          let wired-so = recorded-wired n terms (a .range .ranged) (a .measured) (a .flawless) s (l .recordable) (l .quadratic) room q in
+          let list = listIn n terms (setRecord s) in
+          rw record-at (ap (λ (x : ℕ). outcome (Done x (length list) 0) (wireList list ++ replicate (room - wireBytes * length list) 0)) (sym (l .size)) ∙ wired-so)
 
       -- and so it is said
       pub record-wires : (room : ℕ) → wiresBytes ≤ room → (r : Reply) (left : List ℕ)

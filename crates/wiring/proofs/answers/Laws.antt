@@ -1,6 +1,6 @@
 -- Checking and wiring, step by step: what each test of the code says of the reply. Assumes nothing.
 use mathlib.Core.Path.{_≡_, refl, sym, ap, ap₂, _∙_, subst}
-use mathlib.Core.Bool.{Bool, true, false, _&&_}
+use mathlib.Core.Bool.{Bool, true, false, not, _&&_}
 use mathlib.Core.List.{List, [], _++_, List·Memᴰ·not-nil}
 use Prim.Native.Nat.{ℕ, _*_, _-_, _<_, _≤_}
 use native.Mathlib.Omega.{arith}
@@ -79,6 +79,16 @@ module _ (n : ℕ) (fs : List (Poly Mono)) (s : List Mono) where
       go : Tested (some (missing n fs s)) → o ≡ length s
       go (passed p) = let q : NotQuadratic (length s) (firstUnmet n fs s) ≡ Done o c k = rw p at e in let z : _≡_ {A = ℕ} 0 1 = cc in let y : ⊥ = omega arith in absurd y
       go (failed p) = let q : Done (length s) 0 0 ≡ Done o c k = rw p at e in cc
+
+  -- the code of the reply is 0 exactly where there is no nonsquare
+  pub judged-code : eqb (numbers (judged n fs s) .code) 0 ≡ not (some (missing n fs s))
+  unfolding judged
+  judged-code = go (test (some (missing n fs s)))
+    where
+      go : Tested (some (missing n fs s)) → eqb (numbers (unless (not (some (missing n fs s))) (NotQuadratic (length s) (firstUnmet n fs s)) (Done (length s) 0 0)) .code) 0
+          ≡ not (some (missing n fs s))
+      go (passed e) = rw e
+      go (failed e) = rw e
 
   -- every monomial of every derivative is then in V2
   pub none-met : missing n fs s ≡ [] → Met plain (signals width n s) (derivative plain fs)

@@ -11,14 +11,14 @@ use lib.ListN.{length, getD, take, drop, replicate, length-append, length-drop, 
 use lib.Seq.{length-take-le, take-suc, take-add, getD-append-add, getD-take, getD-drop, ext-getD}
 use Rattle.monomial.specs.Lists.{any, all, gather, place}
 use Rattle.monomial.specs.Monomial.{Mono, one, constants, width}
-use Rattle.monomial.specs.Order.{same}
-use Rattle.monomial.specs.Claims.{_∈_}
+use Rattle.monomial.specs.Order.{same, before}
+use Rattle.monomial.specs.Claims.{_∈_, _⊆_, Ascending}
 use Rattle.monomial.proofs.Tests.{Tested, passed, failed, test, T→is, nT→is, and-l, and-r, and-i}
 use Rattle.monomial.proofs.Members.{here, all-in, all-out, take-in, gather-append, fill-at}
 use Rattle.monomial.proofs.Counting.{at-in}
 use Rattle.monomial.proofs.Strips.{strip-length, strip-at}
 use Rattle.monomial.proofs.order.Laws.{mono-order}
-use Rattle.monomial.proofs.order.Ascending.{among-in, among-out}
+use Rattle.monomial.proofs.order.Ascending.{among-in, among-out, sub-length}
 use Rattle.wiring.specs.Panel.{cards, setBytes, setExponent}
 use Rattle.wiring.specs.Signals.{flat}
 use Rattle.wiring.specs.Terms.{exponentsRight}
@@ -187,6 +187,19 @@ module _ (n : ℕ) (s : List Mono) (r : Recordable n s) where
         zeros = λ k h. record-zeros s (r .few) (r .wide) k (rw size at h);
         permitted = subst (Permitted n) (sym record-set) (r .permitted);
       })
+
+  -- a part of it, in the same order, may stand in a record too
+  pub recordable-part : (t : List Mono) → Ascending before t → t ⊆ s → Recordable n t
+  recordable-part t up part = record {
+    few = omega (arith, r .few, sub-length mono-order t s up (r .permitted .ascends) part);
+    wide = λ m h. r .wide m (part m h);
+    permitted = record {
+      ascends = up;
+      new = λ m h. r .permitted .new m (part m h);
+      small = λ m h. r .permitted .small m (part m h);
+      within = λ m h. r .permitted .within m (part m h);
+    };
+  }
 
 -- the first k places, one behind the other, are the first 6 * k bytes
 bytes-used : (bytes : List ℕ) (k : ℕ) → k ≤ cards → flat (take k (places bytes)) ≡ take (width * k) bytes

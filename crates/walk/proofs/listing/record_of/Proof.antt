@@ -56,7 +56,7 @@ loop-again c =
     let k = at-loop .loop in
     let six : length (set .m) ≡ cards = search (needs, array-length) in
     let below = used-below (set .len) (set .m) (k .i) six (omega arith) (omega arith) in
-    let next = making-next (k .inv .1) _ (start .pre) below (used-at (set .len) (set .m) (k .i) six (omega arith) (omega arith)) in
+    let next = making-next (k .inv .1) _ (start .pre .0) (start .pre .1) below (used-at (set .len) (set .m) (k .i) six (omega arith) (omega arith)) in
     (refl, subst (λ b. Making (monomialsOf set) b (k .i + 1)) (sym (c .before .write .ensures)) next)
 
 returns-2 : tie.Need-returns-2 Inv-loop μ-loop

@@ -1,0 +1,3 @@
+-- Thinning: what the subsets that were met come to, what each reply says, and that it is the only one.
+pub mod Tallies
+pub mod Laws

@@ -1,0 +1,1 @@
+-- What is claimed of thinning. Assumes nothing.

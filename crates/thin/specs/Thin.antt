@@ -1,0 +1,44 @@
+-- Thinning, for all inputs: the reply and every byte of the buffer. Checks run as in checking; then 6. Assumes nothing.
+use mathlib.Core.Bool.{cond}
+use mathlib.Core.List.{List, [], _∷_}
+use Prim.Native.Nat.{ℕ, _/_, _^_, min}
+use lib.Dec.{eqb, leb}
+use lib.ListN.{length}
+use Rattle.monomial.specs.Lists.{keep}
+use Rattle.monomial.specs.Monomial.{Mono}
+use Rattle.wiring.specs.Panel.{setBytes}
+use Rattle.wiring.specs.Reply.{numbers, Outcome, refused}
+use Rattle.wiring.specs.Poly.{Poly}
+use Rattle.wiring.specs.Terms.{records, system}
+use Rattle.wiring.specs.Sets.{setOf}
+use Rattle.wiring.specs.Answers.{verdict}
+use Rattle.walk.specs.Walk.{Finds}
+use Rattle.walk.specs.Plan.{Ending, done, fullAt, said}
+use Rattle.thin.specs.Subsets.{subsets, isQuadratic}
+
+-- the least size of sets, where a bound is known
+unfoldable pub leastSize : ℕ → Finds → ℕ
+leastSize bound [] = bound
+leastSize bound (t ∷ l) = min (length t) (leastSize bound l)
+
+module _ (n : ℕ) (fs : List (Poly Mono)) (s : List Mono) where
+  -- the quadratic subsets, their least size, and those of that size
+  unfoldable pub quadraticOnes : Finds
+  quadraticOnes = keep (isQuadratic n fs) (subsets s)
+
+  unfoldable pub least : ℕ
+  least = leastSize (length s) quadraticOnes
+
+  unfoldable pub thinnest : Finds
+  thinnest = keep (λ t. eqb (length t) least) quadraticOnes
+
+  -- how thinning ends, with room for so many sets; each subset is a step
+  unfoldable pub thinning : ℕ → Ending
+  thinning room = cond (leb (length thinnest) room) (done least (2 ^ length s) thinnest) (fullAt least (2 ^ length s))
+
+-- where checking is done, the subsets of the set that was given
+unfoldable pub thinned : ℕ → List ℕ → List ℕ → ℕ → Outcome
+thinned n terms set size =
+    let checks = verdict n terms set in
+    let ends = said (thinning n (system (records terms)) (setOf set) (size / setBytes)) size in
+    cond (eqb (numbers checks .code) 0) ends (refused checks size)

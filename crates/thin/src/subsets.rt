@@ -1,0 +1,117 @@
+// The subsets of a set, each met once: every signal in turn is kept or dropped.
+use monomial::Monomial;
+use walk::listing;
+use wiring::answers;
+use wiring::buffer;
+use wiring::panel::SET_BYTES;
+use wiring::reply;
+use wiring::sets::Set;
+ghost use mathlib.Core.Path.{_≡_};
+ghost use mathlib.Core.List.{[], _∷_, _++_};
+ghost use Prim.Native.Nat.{_+_, _≤_, _<_};
+ghost use lib.ListN.{length};
+ghost use Rattle.wiring.specs.Panel.{cards};
+ghost use Rattle.wiring.specs.Terms.{records, system};
+ghost use Rattle.wiring.specs.Sets.{monomialsOf};
+ghost use Rattle.wiring.specs.Claims.{Wide};
+ghost use Rattle.walk.specs.Walk.{Finds};
+ghost use Rattle.thin.specs.Subsets.{isQuadratic, Begun, Meets, Ahead, Judgeable, undecided, Decidable};
+
+// What the subsets that were met come to: the least size of a quadratic one, how many of them have it, and how many subsets were met: the steps.
+pub struct Best {
+    pub order: usize,
+    pub count: usize,
+    pub steps: u64,
+}
+
+// Whether a set is quadratic.
+fn is_quadratic(n: usize, terms: &[u8], set: Set) -> bool
+    requires { ⌜ Judgeable n (now terms) set ⌝ }
+    ensures { λ r. ⌜ r ≡ isQuadratic n (system (records (now (terms .entry)))) (monomialsOf set) ⌝ }
+{
+    let five = reply::numbers(answers::judge(n, terms, set));
+    five[0] == 0
+}
+
+// Writes a set behind the first `count` of the list, where there is room. Without room it is only counted: a smaller set may yet begin the list anew.
+fn join(out: &mut [u8], count: usize, set: Set)
+    requires { ⌜ (length (monomialsOf set) ≤ cards) × Wide (monomialsOf set) ⌝ }
+    ensures { λ _. ⌜ ((l : Finds) → count ≡ length l → Begun l (now (out .entry)) → Begun (l ++ (monomialsOf set ∷ [])) (now (out .exit))) ⌝ }
+{
+    if count < out.len() / SET_BYTES {
+        listing::put(out, SET_BYTES * count, listing::record_of(set));
+    }
+}
+
+// Meets a subset: one that is quadratic is listed where none smaller was met before it.
+fn meet(n: usize, terms: &[u8], set: Set, out: &mut [u8], best: Best) -> Best
+    requires { ⌜ Judgeable n (now terms) set × Ahead best 1 ⌝ }
+    ensures { λ r. ⌜ Meets n (now (terms .entry)) (monomialsOf set ∷ []) best (now (out .entry)) r (now (out .exit)) ⌝ }
+{
+    let order = best.order;
+    let count = best.count;
+    let steps = best.steps + 1;
+    if !is_quadratic(n, terms, set) {
+        return Best {
+            order,
+            count,
+            steps,
+        };
+    }
+    let size = set.len;
+    if order < size {
+        return Best {
+            order,
+            count,
+            steps,
+        };
+    }
+    if size < order {
+        buffer::clear(out);
+        join(out, 0, set);
+        return Best {
+            order: size,
+            count: 1,
+            steps,
+        };
+    }
+    join(out, count, set);
+    Best {
+        order: size,
+        count: count + 1,
+        steps,
+    }
+}
+
+// The set with m behind its last signal.
+fn with_last(set: Set, m: Monomial) -> Set
+    requires { ⌜ set .len < cards ⌝ }
+    ensures { λ r. ⌜ (monomialsOf r ≡ monomialsOf set ++ (m .e ∷ [])) × (r .len ≡ set .len + 1) ⌝ }
+{
+    let at = set.len;
+    let mut next = set;
+    next.m[at] = m;
+    next.len = at + 1;
+    next
+}
+
+// Decides the signals of the given set from `at` on: each is kept, then dropped. So the subsets of one size come ascending.
+pub(crate) fn decide(
+    n: usize,
+    terms: &[u8],
+    given: Set,
+    at: usize,
+    kept: Set,
+    out: &mut [u8],
+    best: Best,
+) -> Best
+    requires { ⌜ Decidable n (now terms) given at kept × Ahead best (length (undecided given at kept)) ⌝ }
+    ensures { λ r. ⌜ Meets n (now (terms .entry)) (undecided given at kept) best (now (out .entry)) r (now (out .exit)) ⌝ }
+{
+    if given.len <= at {
+        return meet(n, terms, kept, out, best);
+    }
+    let m = given.m[at];
+    let with = decide(n, terms, given, at + 1, with_last(kept, m), out, best);
+    decide(n, terms, given, at + 1, kept, out, with)
+}

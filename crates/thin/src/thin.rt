@@ -1,0 +1,58 @@
+// Thinning: the operation on n, term records and a set record. It assumes nothing of its input.
+use super::subsets;
+use super::subsets::Best;
+use wiring::answers;
+use wiring::buffer;
+use wiring::panel::SET_BYTES;
+use wiring::reply;
+use wiring::reply::Reply;
+use wiring::sets;
+use wiring::sets::Set;
+ghost use mathlib.Core.Path.{_≡_};
+ghost use Prim.Native.Nat.{_/_};
+ghost use lib.ListN.{length};
+ghost use Rattle.wiring.specs.Panel.{setBytes};
+ghost use Rattle.wiring.specs.Reply.{outcome};
+ghost use Rattle.wiring.specs.Terms.{records, system};
+ghost use Rattle.wiring.specs.Sets.{monomialsOf};
+ghost use Rattle.wiring.specs.Answers.{Wirable};
+ghost use Rattle.walk.specs.Plan.{said};
+ghost use Rattle.thin.specs.Thin.{thinning, thinned};
+
+// Lists the smallest quadratic subsets of a quadratic set over zeros.
+fn thin_set(n: usize, terms: &[u8], set: Set, out: &mut [u8]) -> Reply
+    requires { ⌜ Wirable n (now terms) set (now out) ⌝ }
+    ensures { λ r. ⌜ outcome r (now (out .exit)) ≡ said (thinning n (system (records (now (terms .entry)))) (monomialsOf set) (length (now (out .entry)) / setBytes)) (length (now (out .entry))) ⌝ }
+{
+    let start = Best {
+        order: set.len,
+        count: 0,
+        steps: 0,
+    };
+    let best = subsets::decide(n, terms, set, 0, Set::EMPTY, out, start);
+    let order = best.order as u64;
+    let steps = best.steps;
+    if out.len() / SET_BYTES < best.count {
+        buffer::clear(out);
+        return Reply::Full { order, steps };
+    }
+    Reply::Done {
+        order,
+        count: best.count as u64,
+        steps,
+    }
+}
+
+// Thins: every smallest quadratic subset of the set that is given, ascending, then zeros; after a refusal only zeros.
+pub fn thin(n: u64, terms: &[u8], set: &[u8], out: &mut [u8]) -> Reply
+    ensures { λ r. ⌜ outcome r (now (out .exit)) ≡ thinned n (now (terms .entry)) (now (set .entry)) (length (now (out .entry))) ⌝ }
+{
+    buffer::clear(out);
+    let said = answers::check(n, terms, set);
+    let five = reply::numbers(said);
+    if five[0] != 0 {
+        return said;
+    }
+    let read = sets::read_set(n as usize, set);
+    thin_set(n as usize, terms, read.set, out)
+}

@@ -1,0 +1,58 @@
+-- A quadratic set that can stand in a record: its record is accepted by checking, and wired into a buffer that is large enough. Assumes nothing.
+use mathlib.Core.Path.{_≡_, refl, sym, ap, _∙_, subst}
+use mathlib.Core.List.{List, _++_}
+use Prim.Native.Nat.{ℕ, _*_, _-_, _≤_}
+use native.Mathlib.Omega.{arith}
+use lib.ListN.{length, replicate}
+use Rattle.monomial.specs.Monomial.{Mono, width}
+use Rattle.wiring.specs.Panel.{wireBytes, wiresBytes}
+use Rattle.wiring.specs.Reply.{numbers, outcome}
+use Rattle.wiring.specs.Poly.{plain}
+use Rattle.wiring.specs.Quadratic.{Quadratic}
+use Rattle.wiring.specs.Signals.{signals}
+use Rattle.wiring.specs.Terms.{records}
+use Rattle.wiring.specs.Sets.{setOf, setRecord}
+use Rattle.wiring.specs.Wires.{wireList}
+use Rattle.wiring.specs.Answers.{checked, wired}
+use Rattle.wiring.specs.declared.reply.Reply.{Reply}
+use Rattle.wiring.specs.declared.reply.Reply.the-variants.{Done}
+use Rattle.wiring.specs.Claims.{Measured, Flawless, beyond, Ranged, Recordable, WellFormed, signalsIn, derivativeIn, listIn}
+use Rattle.wiring.proofs.sets.Exact.{record-length, record-set, record-right, right-iff}
+use Rattle.wiring.proofs.answers.Exact.{check-exact}
+use Rattle.wiring.proofs.answers.Wired.{list-most, wire-exact, wire-enough}
+
+module _ (n : ℕ) (terms : List ℕ) (ranged : Ranged n) (measured : Measured terms) (flawless : Flawless n (records terms) beyond) where
+  module _ (s : List Mono) (r : Recordable n s) (q : Quadratic plain (signals width n s) (derivativeIn terms)) where
+    recorded-formed : WellFormed n terms (setRecord s)
+    recorded-formed = record {
+      ranged = ranged;
+      lengths = record { measured = measured; long = record-length s (r .few) (r .wide) };
+      flawless = flawless;
+      right = right-iff n (setRecord s) .0 (record-right n s r);
+    }
+
+    recorded-quadratic : Quadratic plain (signalsIn n (setRecord s)) (derivativeIn terms)
+    recorded-quadratic = subst (λ (x : List Mono). Quadratic plain (signals width n x) (derivativeIn terms)) (sym (record-set n s r)) q
+
+    recorded-size : length (setOf (setRecord s)) ≡ length s
+    recorded-size = ap length (record-set n s r)
+
+    pub recorded-checks : numbers (Done (length s) 0 0) ≡ checked n terms (setRecord s)
+    recorded-checks =
+        check-exact n terms (setRecord s) (Done (length s) 0 0) .1 (recorded-formed, sym recorded-size, refl, refl, recorded-quadratic)
+
+    module _ (room : ℕ) (enough : wiresBytes ≤ room) where
+      -- the list, then zeros
+      pub recorded-wired : let list = listIn n terms (setRecord s) in
+          outcome (Done (length s) (length list) 0) (wireList list ++ replicate (room - wireBytes * length list) 0) ≡ wired n terms (setRecord s) room
+      recorded-wired =
+          let done : Reply = Done (length s) (length (listIn n terms (setRecord s))) 0 in
+          let fits : wireBytes * length (listIn n terms (setRecord s)) ≤ room = omega (arith, list-most n terms (setRecord s) recorded-formed) in
+          wire-exact n terms (setRecord s) room done _ .1 ((recorded-formed, recorded-quadratic, sym recorded-size, refl, refl, fits), refl)
+
+      -- and so it is said
+      pub recorded-wires : (reply : Reply) (bytes : List ℕ) → outcome reply bytes ≡ wired n terms (setRecord s) room
+          → reply ≡ Done (length s) (length (listIn n terms (setRecord s))) 0
+      recorded-wires reply bytes e =
+          wire-enough n terms (setRecord s) room recorded-formed recorded-quadratic enough reply bytes e
+          ∙ ap (λ (x : ℕ). Done x (length (listIn n terms (setRecord s))) 0) recorded-size
