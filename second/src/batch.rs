@@ -5,13 +5,13 @@
 //!
 //! | bytes | meaning |
 //! |---|---|
-//! | 0 | operation: 1 plan, 2 check, 3 wire |
+//! | 0 | operation: 1 plan, 2 check, 3 wire, 4 thin |
 //! | 1 | length of the set |
 //! | 2-3 | length of the terms, at most 600 |
 //! | 4-7 | length of the answer buffer, at most 65,536 |
-//! | 8-15, 16-23, 24-31 | n, K, limit |
+//! | 8-15, 16-23, 24-31 | n, K, limit (the last two are planning's alone) |
 
-use crate::operations::{check, plan, wire};
+use crate::operations::{check, plan, thin, wire};
 use crate::reply::Reply;
 use std::fmt::Write;
 
@@ -26,22 +26,29 @@ const MOST_SHOWN_BYTES: usize = 72;
 /// shows in the answer.
 pub const UNTOUCHED: u8 = 165;
 
-/// The three operations by their numbers in a batch.
+/// The four operations by their numbers in a batch.
 #[derive(Clone, Copy, PartialEq, Eq, PartialOrd, Ord, Debug)]
 pub enum Operation {
     Plan = 1,
     Check = 2,
     Wire = 3,
+    Thin = 4,
 }
 
 impl Operation {
-    pub const ALL: [Operation; 3] = [Operation::Plan, Operation::Check, Operation::Wire];
+    pub const ALL: [Operation; 4] = [
+        Operation::Plan,
+        Operation::Check,
+        Operation::Wire,
+        Operation::Thin,
+    ];
 
     pub fn name(self) -> &'static str {
         match self {
             Operation::Plan => "plan",
             Operation::Check => "check",
             Operation::Wire => "wire",
+            Operation::Thin => "thin",
         }
     }
 }
@@ -91,6 +98,14 @@ impl Case {
         }
     }
 
+    pub fn thin(n: u64, terms: Vec<u8>, set: Vec<u8>, buffer: usize) -> Case {
+        Case {
+            operation: Operation::Thin,
+            buffer,
+            ..Case::check(n, terms, set)
+        }
+    }
+
     /// Appends the case to a batch.
     pub fn write(&self, batch: &mut Vec<u8>) {
         batch.push(self.operation as u8);
@@ -114,6 +129,7 @@ impl Case {
                 check(self.n, &self.terms, &self.set)
             }
             Operation::Wire => wire(self.n, &self.terms, &self.set, &mut buffer),
+            Operation::Thin => thin(self.n, &self.terms, &self.set, &mut buffer),
         };
         (reply, buffer)
     }
@@ -253,6 +269,7 @@ mod tests {
             Case::check(3, vec![5; 600], vec![9; 255]),
             Case::wire(6, vec![1; 12], vec![0; 36], 1_792),
             Case::check(0, vec![], vec![]),
+            Case::thin(2, vec![3; 24], vec![2; 36], 71),
         ]
     }
 
@@ -319,13 +336,19 @@ mod tests {
         assert_eq!(checked.line(), "0 0 0 0 0");
         let wired = Case::wire(1, vec![], vec![0; SET_BYTES], 0);
         assert_eq!(wired.line(), "0 0 0 0 0 -");
+        let thinned = Case::thin(1, vec![], vec![0; SET_BYTES], 37);
+        assert_eq!(thinned.line(), format!("0 0 1 1 0 {}", "00".repeat(37)));
+        let full = Case::thin(1, vec![], vec![0; SET_BYTES], 2);
+        assert_eq!(full.line(), "6 0 0 1 0 0000");
     }
 
     #[test]
     fn a_broken_case_ends_the_answers() {
         let good = write_batch(&[Case::check(1, vec![], vec![0; SET_BYTES])]);
         let mut unknown = good.clone();
-        unknown[0] = 4;
+        unknown[0] = Operation::ALL.len() as u8 + 1;
+        let mut none = good.clone();
+        none[0] = 0;
         let mut long_terms = good.clone();
         long_terms[2..4].copy_from_slice(&601_u16.to_le_bytes());
         long_terms.extend([0; 601]);
@@ -333,7 +356,7 @@ mod tests {
         long_buffer[4..8].copy_from_slice(&65_537_u32.to_le_bytes());
         let short_head = good[..31].to_vec();
         let short_set = good[..good.len() - 1].to_vec();
-        for broken in [unknown, long_terms, long_buffer] {
+        for broken in [unknown, none, long_terms, long_buffer] {
             let batch = [good.clone(), broken, good.clone()].concat();
             assert_eq!(lines(&batch), ["0 0 0 0 0", BROKEN_LINE]);
         }

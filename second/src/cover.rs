@@ -13,6 +13,8 @@ use crate::records::{
 };
 use crate::reply::{Reply, NAMES};
 use crate::system::{Set, System, Term};
+use crate::thin_cover::Thinning;
+use crate::thinning::thinned;
 use std::collections::{BTreeMap, BTreeSet};
 
 /// Counts and sets of numbers by name.
@@ -146,6 +148,7 @@ impl Cover {
             Operation::Check => self.number("check: sizes of quadratic sets", reply.order),
             Operation::Plan => self.planned(case, reply),
             Operation::Wire => self.wired(case, reply),
+            Operation::Thin => self.thinned(case, reply),
         }
         self.number(format!("{}: n of answers", case.operation.name()), case.n);
     }
@@ -226,6 +229,46 @@ impl Cover {
         }
     }
 
+    fn thinned(&mut self, case: &Case, reply: &Reply) {
+        let (system, set) = good_input(case).expect("neither code refuses the input");
+        let thinning = Thinning::of(&system, &set);
+        for name in thinning.names() {
+            self.count(format!("thin: {name}"));
+        }
+        let size = set.len();
+        self.number(format!("thin, size {size}: orders"), reply.order);
+        self.number("thin: counts of subsets", thinning.count() as u64);
+        self.number(
+            "thin: bytes of room that hold no set",
+            (case.buffer % SET_BYTES) as u64,
+        );
+        let tallest = |signals: &Set| signals.iter().flat_map(|m| m.0).max().unwrap_or(0);
+        self.number("thin: exponents of given sets", u64::from(tallest(&set)));
+        let kept = u64::from(tallest(&thinning.kept()));
+        self.number("thin: exponents of kept signals", kept);
+        match case.buffer.checked_sub(thinning.count() * SET_BYTES) {
+            Some(0) => self.count("thin: list exactly as long as the buffer"),
+            Some(1) => self.count("thin: buffer one byte longer"),
+            Some(_) => {}
+            None => self.too_long(case, &thinning),
+        }
+    }
+
+    fn too_long(&mut self, case: &Case, thinning: &Thinning) {
+        let needed = thinning.count() * SET_BYTES;
+        if case.buffer + 1 == needed {
+            self.count("thin: buffer one byte short");
+            if thinning.only_empty_is_left() {
+                self.count("thin: buffer one byte short for the empty set");
+            }
+        }
+        if case.buffer == 0 {
+            self.count("thin: full without a byte");
+        } else if case.buffer >= SET_BYTES {
+            self.count("thin: full with room for some");
+        }
+    }
+
     /// Which fault decides where a case has several.
     fn sequence(&mut self, case: &Case, reply: &Reply) {
         for other in all_faults(case) {
@@ -277,6 +320,14 @@ impl Cover {
         }
         text
     }
+}
+
+/// The report on some cases.
+#[cfg(test)]
+pub fn report_of(cases: &[Case]) -> String {
+    let mut cover = Cover::default();
+    cases.iter().for_each(|case| cover.add(case));
+    cover.report()
 }
 
 /// The kind of a broken field, finer than the rule it breaks.
@@ -352,6 +403,12 @@ fn all_faults(case: &Case) -> BTreeSet<u64> {
         if case.operation == Operation::Wire && records > case.buffer / WIRE_BYTES {
             codes.insert(6);
         }
+        if case.operation == Operation::Thin {
+            let list = thinned(&system, &set).map_or(0, |found| found.subsets.len());
+            if list > case.buffer / SET_BYTES {
+                codes.insert(6);
+            }
+        }
     }
     codes
 }
@@ -392,12 +449,6 @@ mod tests {
     use crate::records::write_terms;
     use crate::rows::set_of;
 
-    fn report(cases: &[Case]) -> String {
-        let mut cover = Cover::default();
-        cases.iter().for_each(|case| cover.add(case));
-        cover.report()
-    }
-
     #[test]
     fn numbers_are_written_as_runs() {
         let numbers = BTreeSet::from([1, 2, 3, 7, 9, 10]);
@@ -409,7 +460,7 @@ mod tests {
     fn limits_and_rooms_are_recognised() {
         let input = write_terms(&terms("x1' = x1^4 + x1^3"));
         let plan = |limit, room| Case::plan(1, USUAL_CAP, limit, room * SET_BYTES, input.clone());
-        let text = report(&[plan(23, 2), plan(22, 2), plan(24, 3), plan(90, 1)]);
+        let text = report_of(&[plan(23, 2), plan(22, 2), plan(24, 3), plan(90, 1)]);
         for line in [
             "plan: code 0 done: 2",
             "plan: code 0 exactly at the limit: 1",
@@ -424,11 +475,44 @@ mod tests {
     }
 
     #[test]
+    fn buffers_of_thinning_are_recognised() {
+        let input = write_terms(&terms("x1' = x1^4 + x1^3"));
+        let set = set_of(&["x1^2", "x1^3", "x1^4"]);
+        let thin = |buffer| Case::thin(1, input.clone(), set.clone(), buffer);
+        let text = report_of(&[thin(0), thin(36), thin(71), thin(72), thin(73), thin(99)]);
+        for line in [
+            "thin: code 0 done: 3",
+            "thin: code 6 full: 3",
+            "thin: full without a byte: 1",
+            "thin: full with room for some: 2",
+            "thin: buffer one byte short: 1",
+            "thin: list exactly as long as the buffer: 1",
+            "thin: buffer one byte longer: 1",
+            "thin: bytes of room that hold no set: 0-1 27 35 (4)",
+            "thin: counts of subsets: 2 (1)",
+            "thin: exponents of kept signals: 4 (1)",
+            "thin, size 3: orders: 2 (1)",
+        ] {
+            assert!(text.lines().any(|l| l == line), "{line} in\n{text}");
+        }
+        let empty = Case::thin(1, Vec::new(), set, 35);
+        assert!(report_of(&[empty]).contains("thin: buffer one byte short for the empty set: 1\n"));
+    }
+
+    #[test]
+    fn a_list_too_long_is_a_fault_after_the_set_is_judged() {
+        let input = write_terms(&terms("x1' = 1"));
+        let case = Case::thin(1, input, set_of(&["x1^4"]), 35);
+        assert_eq!(all_faults(&case), BTreeSet::from([6, 9]));
+        assert!(report_of(&[case]).contains("checks: 9 before 6: 1\n"));
+    }
+
+    #[test]
     fn every_fault_of_a_case_is_named() {
         let wrong = write_terms(&terms("x1' = x1^10"));
         let case = Case::check(1, wrong, set_of(&["x1"]));
         assert_eq!(all_faults(&case), BTreeSet::from([3, 8]));
-        assert!(report(&[case]).contains("checks: 3 before 8: 1\n"));
+        assert!(report_of(&[case]).contains("checks: 3 before 8: 1\n"));
     }
 
     #[test]

@@ -1,5 +1,5 @@
-//! The second program: the same answers as the planner's, from document 01
-//! alone. It is naive on purpose, so that it can be believed by reading it.
+//! The second program: the same answers as the planner's, from documents 01
+//! and 02 alone. It is naive on purpose, so that it can be believed by reading it.
 
 mod batch;
 mod cover;
@@ -17,6 +17,12 @@ mod rows;
 mod show;
 mod system;
 mod systems;
+mod thin_cover;
+mod thin_maker;
+mod thin_rows;
+#[cfg(test)]
+mod thin_worked;
+mod thinning;
 mod walk;
 mod wiring;
 #[cfg(test)]
@@ -31,6 +37,7 @@ usage: second program            term records in, document 01's lines out
        second answer             a batch in, one line of answer per case out
        second rows               the batch of fixed rows out
        second batch SEED COUNT   a random batch out
+       second stored             the stored batch out: the rows, then random cases
        second show [NUMBER]      a batch in, its cases (or one) written for a person
        second cover              a batch in, what it covers out
 ";
@@ -45,6 +52,7 @@ fn main() -> ExitCode {
             (Ok(seed), Ok(count)) => write_out(&write_batch(&maker::batch(seed, count))),
             _ => return usage(),
         },
+        ["stored"] => write_out(&write_batch(&maker::stored())),
         ["answer"] => read_batch().and_then(|batch| answer(&batch)),
         ["show"] => read_batch().and_then(|batch| show(&batch, None)),
         ["show", number] => match number.parse() {

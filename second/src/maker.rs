@@ -13,13 +13,47 @@ use crate::panel::{
 };
 use crate::random::Random;
 use crate::records::{read_set, write_places, write_set, write_terms};
+use crate::rows::rows;
 use crate::system::{Set, System};
 use crate::systems;
+use crate::thin_maker::THINNING;
+
+/// The random cases that are stored with the fixed rows.
+const STORED_SEED: u64 = 1;
+const STORED_COUNT: usize = 3_850;
+
+/// The batch that is stored: the fixed rows, then random cases.
+pub fn stored() -> Vec<Case> {
+    let mut cases = rows();
+    cases.extend(batch(STORED_SEED, STORED_COUNT));
+    cases
+}
+
+/// Each seventh case is one of thinning.
+const THINNING_EVERY: usize = 7;
 
 /// The first so many cases that a seed gives.
 pub fn batch(seed: u64, count: usize) -> Vec<Case> {
+    let share = count / THINNING_EVERY;
+    let mut thin = thinnings(seed, share).into_iter();
+    let mut other = first_cases(seed, &PLANNING, count - share).into_iter();
+    let case = |number: usize| match number.is_multiple_of(THINNING_EVERY) {
+        true => thin.next().expect("one of each seven"),
+        false => other.next().expect("six of each seven"),
+    };
+    (1..=count).map(case).collect()
+}
+
+/// The cases of thinning among them. Their random numbers are their own, so that
+/// the other operations have the same cases with them as they had without.
+pub fn thinnings(seed: u64, count: usize) -> Vec<Case> {
+    first_cases(!seed, &THINNING, count)
+}
+
+fn first_cases(seed: u64, mix: &'static Mix, count: usize) -> Vec<Case> {
     let mut maker = Maker {
         random: Random::from_seed(seed),
+        mix,
         cases: Vec::new(),
         deck: Vec::new(),
         fields: 0,
@@ -38,22 +72,34 @@ pub fn batch(seed: u64, count: usize) -> Vec<Case> {
 /// A kind of group: it adds one case or several.
 type Group = fn(&mut Maker);
 
-/// How often each kind of group comes in a hundred. With these shares some
-/// 3,500 cases go through every turn, and half of them are stories of a system
-/// or a set.
-const SHARES: [(usize, Group); 11] = [
-    (15, Maker::around_a_plan),
-    (8, Maker::around_a_set),
-    (5, Maker::random_set),
-    (3, Maker::cancelling_set),
-    (28, Maker::broken_field),
-    (13, Maker::repeated_record),
-    (4, Maker::wrong_and_repeated),
-    (5, Maker::bad_length),
-    (5, Maker::bad_setting),
-    (9, Maker::broken_set),
-    (5, Maker::several_faults),
-];
+/// What a run of cases is made of.
+pub struct Mix {
+    pub operations: &'static [Operation],
+    /// Those of the operations that are given a set.
+    pub given: &'static [Operation],
+    /// How often each kind of group comes in a hundred.
+    pub shares: &'static [(usize, Group)],
+}
+
+/// Planning, checking and wiring. With these shares some 3,500 cases go through
+/// every turn, and half of them are stories of a system or a set.
+const PLANNING: Mix = Mix {
+    operations: &[Operation::Plan, Operation::Check, Operation::Wire],
+    given: &[Operation::Check, Operation::Wire],
+    shares: &[
+        (15, Maker::around_a_plan),
+        (8, Maker::around_a_set),
+        (5, Maker::random_set),
+        (3, Maker::cancelling_set),
+        (28, Maker::broken_field),
+        (13, Maker::repeated_record),
+        (4, Maker::wrong_and_repeated),
+        (5, Maker::bad_length),
+        (5, Maker::bad_setting),
+        (9, Maker::broken_set),
+        (5, Maker::several_faults),
+    ],
+};
 
 /// Numbers of variables beyond the range; some fit it when cut to fewer bits.
 const BAD_N: [u64; 12] = [
@@ -103,9 +149,10 @@ const BAD_SET_LENGTHS: [usize; 8] = [
     255,
 ];
 
-struct Maker {
-    random: Random,
-    cases: Vec<Case>,
+pub struct Maker {
+    pub random: Random,
+    mix: &'static Mix,
+    pub cases: Vec<Case>,
     deck: Vec<Group>,
     fields: usize,
     repeats: usize,
@@ -124,8 +171,8 @@ impl Maker {
     /// Takes the next kind of group from a deck that holds each by its share.
     fn group(&mut self) {
         if self.deck.is_empty() {
-            for (share, group) in SHARES {
-                self.deck.extend(vec![group; share]);
+            for (share, group) in self.mix.shares {
+                self.deck.extend(vec![*group; *share]);
             }
             self.random.shuffle(&mut self.deck);
         }
@@ -276,7 +323,7 @@ impl Maker {
     }
 
     /// A set near a given one: without a member, with another, or changed.
-    fn another_set(&mut self, system: &System, given: &Set) -> Set {
+    pub fn another_set(&mut self, system: &System, given: &Set) -> Set {
         let mut members: Vec<Monomial> = given.iter().copied().collect();
         match self.random.below(3) {
             0 if !members.is_empty() => {
@@ -354,7 +401,7 @@ impl Maker {
 
     /// Any operation on these terms, with an ordinary rest.
     fn any_operation(&mut self, n: u64, terms: Vec<u8>) -> Case {
-        let operation = self.random.pick(&Operation::ALL);
+        let operation = self.random.pick(self.mix.operations);
         self.operation(operation, n, terms)
     }
 
@@ -370,6 +417,22 @@ impl Maker {
             }
             Operation::Check => Case::check(n, terms, set),
             Operation::Wire => Case::wire(n, terms, set, buffer),
+            Operation::Thin => Case::thin(n, terms, set, buffer),
+        }
+    }
+
+    /// The operation whose turn it is.
+    fn operation_by(&self, turn: usize) -> Operation {
+        self.mix.operations[turn % self.mix.operations.len()]
+    }
+
+    /// The operation on a given set whose turn it is.
+    fn given_by(&self, turn: usize, n: usize, terms: Vec<u8>, set: Vec<u8>, room: usize) -> Case {
+        let n = n as u64;
+        match self.mix.given[turn % self.mix.given.len()] {
+            Operation::Thin => Case::thin(n, terms, set, room),
+            Operation::Wire => Case::wire(n, terms, set, room),
+            _ => Case::check(n, terms, set),
         }
     }
 
@@ -386,7 +449,7 @@ impl Maker {
     }
 
     /// Code 3: every field at every place, and every place in every operation.
-    fn broken_field(&mut self) {
+    pub fn broken_field(&mut self) {
         let turn = turn(&mut self.fields);
         let place = turn % MOST_TERMS + 1;
         let field = FIELDS[turn % FIELDS.len()];
@@ -396,7 +459,7 @@ impl Maker {
         };
         let (n, mut terms) = self.run_to(place, most_variables);
         break_term(&mut self.random, &mut terms, n, place, field);
-        let case = self.operation(Operation::ALL[turn % Operation::ALL.len()], n as u64, terms);
+        let case = self.operation(self.operation_by(turn), n as u64, terms);
         self.cases.push(case);
     }
 
@@ -415,7 +478,7 @@ impl Maker {
 
     /// Code 4: every place after the first in every operation, with the same
     /// coefficient and with another.
-    fn repeated_record(&mut self) {
+    pub fn repeated_record(&mut self) {
         let turn = turn(&mut self.repeats);
         let place = turn % (MOST_TERMS - 1) + 2;
         let (n, mut terms) = self.run_with_repeat(place);
@@ -424,13 +487,13 @@ impl Maker {
             let coefficient = self.random.between(5, MOST_COEFFICIENT as usize - 10) as i32;
             terms[at].copy_from_slice(&coefficient.to_le_bytes());
         }
-        let case = self.operation(Operation::ALL[turn % Operation::ALL.len()], n as u64, terms);
+        let case = self.operation(self.operation_by(turn), n as u64, terms);
         self.cases.push(case);
     }
 
     /// A wrong field in the repeating record itself, before it or after it, or
     /// a second repeat: the first record with a fault decides.
-    fn wrong_and_repeated(&mut self) {
+    pub fn wrong_and_repeated(&mut self) {
         let place = self.random.between(2, MOST_TERMS);
         let (n, mut terms) = self.run_with_repeat(place);
         let field = self.random.pick(&FIELDS);
@@ -455,7 +518,7 @@ impl Maker {
     }
 
     /// Code 2: bytes that are no run of records, too many, or no set record.
-    fn bad_length(&mut self) {
+    pub fn bad_length(&mut self) {
         let turn = turn(&mut self.lengths);
         let n = self.random.between(2, VARIABLES);
         if turn.is_multiple_of(2) {
@@ -472,22 +535,22 @@ impl Maker {
             let length = BAD_SET_LENGTHS[turn / 2 % BAD_SET_LENGTHS.len()];
             let system = systems::any(&mut self.random);
             let terms = write_terms(&system.terms);
-            let case = if self.random.chance(50) {
-                Case::check(system.n as u64, terms, vec![0; length])
-            } else {
-                Case::wire(system.n as u64, terms, vec![0; length], 50)
-            };
+            let which = usize::from(!self.random.chance(50));
+            let case = self.given_by(which, system.n, terms, vec![0; length], 50);
             self.cases.push(case);
         }
     }
 
     /// Code 1: n, K or the limit out of range.
-    fn bad_setting(&mut self) {
+    pub fn bad_setting(&mut self) {
         let turn = turn(&mut self.settings);
         let n = self.random.between(1, VARIABLES);
         let count = self.random.below(3);
         let terms = write_terms(&systems::run(&mut self.random, n, count).terms);
-        let values = BAD_N.len() + BAD_CAP.len() + BAD_LIMIT.len();
+        let values = match self.mix.operations.contains(&Operation::Plan) {
+            true => BAD_N.len() + BAD_CAP.len() + BAD_LIMIT.len(),
+            false => BAD_N.len(),
+        };
         let mut at = turn % values;
         if at < BAD_N.len() {
             let case = self.any_operation(BAD_N[at], terms);
@@ -506,7 +569,7 @@ impl Maker {
     }
 
     /// Code 8, every way at every place of the record.
-    fn broken_set(&mut self) {
+    pub fn broken_set(&mut self) {
         let turn = turn(&mut self.sets);
         let way = WAYS[turn % WAYS.len()];
         let place = turn / WAYS.len() % CARDS;
@@ -519,15 +582,12 @@ impl Maker {
         let set = write_places(&members).to_vec();
         let buffer = self.random.below(100);
         let rounds = turn / (WAYS.len() * CARDS);
-        self.cases.push(if rounds.is_multiple_of(2) {
-            Case::check(n as u64, terms, set)
-        } else {
-            Case::wire(n as u64, terms, set, buffer)
-        });
+        let case = self.given_by(rounds, n, terms, set, buffer);
+        self.cases.push(case);
     }
 
     /// Several faults in one case: which of them decides is the checks' order.
-    fn several_faults(&mut self) {
+    pub fn several_faults(&mut self) {
         let n = self.random.between(2, VARIABLES);
         let count = self.random.between(3, 6);
         let mut terms = write_terms(&systems::run(&mut self.random, n, count).terms);
@@ -578,6 +638,9 @@ impl Maker {
 mod tests {
     use super::*;
     use crate::batch::write_batch;
+    use crate::cover::report_of;
+    use crate::reply::NAMES;
+    use std::sync::OnceLock;
 
     #[test]
     fn a_seed_gives_one_batch() {
@@ -590,6 +653,105 @@ mod tests {
     fn a_longer_batch_begins_with_the_shorter() {
         let long = batch(3, 300);
         assert_eq!(batch(3, 100), long[..100]);
+    }
+
+    #[test]
+    fn thinning_has_its_own_places_and_changes_no_other_case() {
+        let cases = batch(5, 210);
+        let is_thin = |case: &&Case| case.operation == Operation::Thin;
+        for (index, case) in cases.iter().enumerate() {
+            assert_eq!(is_thin(&case), (index + 1) % THINNING_EVERY == 0);
+        }
+        let others: Vec<Case> = cases.into_iter().filter(|c| !is_thin(&c)).collect();
+        assert_eq!(others, first_cases(5, &PLANNING, 180));
+    }
+
+    /// What the stored cases of thinning cover, without the long walks of the
+    /// rest.
+    fn stored_cover() -> &'static str {
+        static REPORT: OnceLock<String> = OnceLock::new();
+        REPORT.get_or_init(|| {
+            let mut cases = rows();
+            cases.retain(|case| case.operation == Operation::Thin);
+            cases.extend(thinnings(STORED_SEED, STORED_COUNT / THINNING_EVERY));
+            report_of(&cases)
+        })
+    }
+
+    #[test]
+    fn what_is_stored_of_thinning_covers_its_codes_and_places() {
+        let report = stored_cover();
+        let mut missing = vec![
+            "thin: places of code 3: 1-32 (32)".to_string(),
+            "thin: places of code 4: 2-32 (31)".to_string(),
+            "thin: n of answers: 1-6 (6)".to_string(),
+        ];
+        for size in 0..=CARDS {
+            let orders = match size {
+                0 => "0 (1)".to_string(),
+                _ => format!("0-{size} ({})", size + 1),
+            };
+            missing.push(format!("thin, size {size}: orders: {orders}"));
+            for n in 1..=VARIABLES {
+                let places = match n + size {
+                    1 => "1 (1)".to_string(),
+                    most => format!("1-{most} ({most})"),
+                };
+                missing.push(format!("code 9, n {n}, size {size}: places: {places}"));
+            }
+        }
+        missing.retain(|line| !report.lines().any(|l| l == line));
+        assert!(missing.is_empty(), "{missing:?} not in\n{report}");
+    }
+
+    /// Counts that would show if a kind of thinning got lost.
+    #[test]
+    fn what_is_stored_of_thinning_covers_its_kinds() {
+        let report = stored_cover();
+        let count = |name: &str| -> usize {
+            let lines = report.lines();
+            let counts = lines.filter_map(|line| line.strip_prefix(name)?.strip_prefix(": "));
+            counts.map(|count| count.parse::<usize>().unwrap()).sum()
+        };
+        for name in [
+            "checks: 1 before 2",
+            "checks: 2 before 3",
+            "checks: 3 before 8",
+            "checks: 4 before 8",
+            "checks: 9 before 6",
+            "code 8: 1 before a monomial",
+            "code 8: equal neighbours",
+            "code 8: exponent above 54",
+            "code 8: exponent beyond xn",
+            "code 8: not ascending",
+            "code 8: single variable",
+            "thin: a member's derivative cancels",
+            "thin: a quadratic subset of a subset that is not",
+            "thin: a size between has no quadratic subset",
+            "thin: a smaller subset after a larger, dropping first",
+            "thin: a smaller subset after a larger, dropping first, from the last signal",
+            "thin: a smaller subset after a larger, keeping first",
+            "thin: a smaller subset after a larger, keeping first, from the last signal",
+            "thin: a subset that can lose nothing is not smallest",
+            "thin: buffer one byte longer",
+            "thin: buffer one byte short",
+            "thin: buffer one byte short for the empty set",
+            "thin: everything can go",
+            "thin: full with room for some",
+            "thin: full without a byte",
+            "thin: list exactly as long as the buffer",
+            "thin: nothing can go",
+            "thin: several subsets are left",
+            "thin: signals can go together and none alone",
+            "thin: some signals can go",
+        ] {
+            assert!(count(name) >= 2, "{name} in\n{report}");
+        }
+        for code in [0, 1, 2, 3, 4, 6, 8, 9] {
+            let name = format!("thin: code {code} {}", NAMES[code]);
+            assert!(count(&name) >= 30, "{name} in\n{report}");
+        }
+        assert!(report.contains("\nthin: counts of subsets: 1-12 (12)\n"));
     }
 
     #[test]

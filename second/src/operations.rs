@@ -1,12 +1,15 @@
-//! The three operations, with the checks in their sequence
-//! (document 01, What the box says).
+//! The four operations, with the checks in their sequence
+//! (document 01, What the box says; document 02, [1]).
 
+use crate::monomial::Monomial;
 use crate::panel::{MOST_CAP, MOST_LIMIT, MOST_N, SET_BYTES, WIRE_BYTES};
 use crate::records::{read_set, read_terms, terms_have_a_length, write_places, write_wire};
 use crate::reply::Reply;
 use crate::system::{Set, System};
+use crate::thinning::thinned;
 use crate::walk::{walk, End};
 use crate::wiring::wiring;
+use std::collections::BTreeSet;
 
 /// Code 1 as far as it is about n.
 pub fn n_is_in_range(n: u64) -> bool {
@@ -44,9 +47,7 @@ pub fn plan(n: u64, cap: u64, limit: u64, terms: &[u8], answer: &mut [u8]) -> Re
         End::Spent => (7, order, 0),
     };
     if code == 0 {
-        for (place, set) in answer.chunks_mut(SET_BYTES).zip(&walked.finds) {
-            place.copy_from_slice(&write_places(set));
-        }
+        list_sets(&walked.finds, answer);
     }
     Reply {
         code,
@@ -57,7 +58,14 @@ pub fn plan(n: u64, cap: u64, limit: u64, terms: &[u8], answer: &mut [u8]) -> Re
     }
 }
 
-/// What checking and wiring share: the system and the set, or the refusal.
+/// Writes the sets ascending from the buffer's first byte, which has room.
+fn list_sets(sets: &BTreeSet<Vec<Monomial>>, answer: &mut [u8]) {
+    for (place, set) in answer.chunks_mut(SET_BYTES).zip(sets) {
+        place.copy_from_slice(&write_places(set));
+    }
+}
+
+/// What checking, wiring and thinning share: the system and the set, or the refusal.
 fn given(n: u64, terms: &[u8], set: &[u8]) -> Result<(System, Set), Reply> {
     if !n_is_in_range(n) {
         return Err(Reply::bare(1));
@@ -115,11 +123,33 @@ pub fn wire(n: u64, terms: &[u8], set: &[u8], answer: &mut [u8]) -> Reply {
     }
 }
 
+/// Thinning. Whatever the code, every byte of the answer is written.
+pub fn thin(n: u64, terms: &[u8], set: &[u8], answer: &mut [u8]) -> Reply {
+    answer.fill(0);
+    let (system, set) = match given(n, terms, set) {
+        Ok(given) => given,
+        Err(refusal) => return refusal,
+    };
+    let thinned = thinned(&system, &set).expect("the given set is a subset of itself");
+    let reply = Reply {
+        order: thinned.order as u64,
+        steps: thinned.steps,
+        ..Reply::default()
+    };
+    if thinned.subsets.len() > answer.len() / SET_BYTES {
+        return Reply { code: 6, ..reply };
+    }
+    list_sets(&thinned.subsets, answer);
+    Reply {
+        count: thinned.subsets.len() as u64,
+        ..reply
+    }
+}
+
 #[cfg(test)]
 mod tests {
     use super::*;
     use crate::batch::UNTOUCHED;
-    use crate::monomial::Monomial;
     use crate::panel::{CARDS, MOST_WIRES_BYTES, VARIABLES};
     use crate::random::Random;
     use crate::records::{read_wires, set_places, write_set, write_terms};
@@ -212,6 +242,86 @@ mod tests {
             assert_eq!((full.code, full.order, full.count), (6, reply.order, 0));
             assert!(full.steps <= reply.steps);
             assert!(tight.iter().all(|&byte| byte == 0));
+        }
+    }
+
+    /// As many of the found sets together as the cards hold.
+    fn together(system: &System, reply: &Reply, sets: &[u8]) -> (Set, BTreeSet<Set>) {
+        let records = sets.chunks(SET_BYTES).take(reply.count as usize);
+        let found: BTreeSet<Set> = records
+            .map(|record| read_set(system.n, record).unwrap())
+            .collect();
+        let mut given = Set::new();
+        for set in &found {
+            let both: Set = given.union(set).copied().collect();
+            if both.len() <= CARDS {
+                given = both;
+            }
+        }
+        let inside = |set: &Set| set.is_subset(&given);
+        let inside = found.into_iter().filter(inside).collect();
+        (given, inside)
+    }
+
+    /// Planning lists all smallest sets there are, so that the smallest subsets
+    /// of some of them together are those that lie inside.
+    #[test]
+    fn thinning_found_sets_gives_back_those_inside() {
+        let mut several = 0;
+        for (system, reply, sets) in planned(16) {
+            let (given, inside) = together(&system, &reply, &sets);
+            let mut answer = vec![UNTOUCHED; 30 * SET_BYTES];
+            let terms = write_terms(&system.terms);
+            let thinned = thin(system.n as u64, &terms, &write_set(&given), &mut answer);
+            let (count, steps) = (inside.len() as u64, 1 << given.len());
+            assert_eq!(thinned.numbers(), [0, reply.order, count, steps, 0]);
+            let mut expected: Vec<u8> = inside.iter().flat_map(write_set).collect();
+            expected.resize(answer.len(), 0);
+            assert!(answer == expected);
+            several += usize::from(count > 1);
+        }
+        assert!(several > 5);
+    }
+
+    /// Every subset, reached by taking one signal away at a time, with checking's
+    /// verdict on it.
+    fn verdicts(system: &System, given: &Set) -> BTreeMap<Set, bool> {
+        let terms = write_terms(&system.terms);
+        let mut verdicts = BTreeMap::new();
+        let mut open = vec![given.clone()];
+        while let Some(subset) = open.pop() {
+            for signal in &subset {
+                let mut rest = subset.clone();
+                rest.remove(signal);
+                open.push(rest);
+            }
+            let checked = check(system.n as u64, &terms, &write_set(&subset));
+            verdicts.insert(subset, checked.code == 0);
+        }
+        verdicts
+    }
+
+    #[test]
+    fn no_smaller_subset_is_quadratic_and_none_as_small_is_left_out() {
+        let mut random = Random::from_seed(17);
+        for _ in 0..40 {
+            let (system, given) = systems::closed(&mut random);
+            let verdicts = verdicts(&system, &given);
+            let quadratic = |subset: &&Set| verdicts[*subset];
+            let sizes = verdicts.keys().filter(quadratic).map(Set::len);
+            let order = sizes.min().unwrap();
+            let smallest = verdicts
+                .keys()
+                .filter(|s| s.len() == order)
+                .filter(quadratic);
+            let expected: Vec<u8> = smallest.flat_map(write_set).collect();
+            let mut answer = vec![UNTOUCHED; expected.len()];
+            let terms = write_terms(&system.terms);
+            let thinned = thin(system.n as u64, &terms, &write_set(&given), &mut answer);
+            let count = expected.len() / SET_BYTES;
+            let numbers = [0, order, count, verdicts.len(), 0].map(|number| number as u64);
+            assert_eq!(thinned.numbers(), numbers);
+            assert_eq!(answer, expected);
         }
     }
 

@@ -1,5 +1,6 @@
 //! The fixed rows: document 01's worked sums, both sides of each limit, every
-//! place of code 9, and larger systems from documents 000 and 001.
+//! place of code 9, and larger systems from documents 000 and 001. Those of
+//! thinning come after them.
 
 use crate::batch::{Case, MOST_CASE_BUFFER};
 use crate::monomial::Monomial;
@@ -12,6 +13,7 @@ use crate::panel::{
 use crate::records::{write_places, write_set, write_terms};
 use crate::system::{Set, Term};
 use crate::systems::power;
+use crate::thin_rows;
 
 /// The buffers of a row that names none.
 const ROOM: usize = USUAL_ROOM * SET_BYTES;
@@ -46,6 +48,24 @@ pub fn rows() -> Vec<Case> {
     rows.places_of_code_9();
     rows.larger();
     rows.families();
+    rows.cases.extend(thin_rows::rows());
+    rows.cases
+}
+
+/// The rows on what is refused before a set is judged, and on what is just not.
+pub fn given_rows() -> Vec<Case> {
+    let mut rows = Rows { cases: Vec::new() };
+    rows.settings();
+    rows.lengths();
+    rows.set_rules();
+    rows.sequence_of_checks();
+    rows.cases
+}
+
+/// The rows on every place of code 9.
+pub fn places_of_code_9() -> Vec<Case> {
+    let mut rows = Rows { cases: Vec::new() };
+    rows.places_of_code_9();
     rows.cases
 }
 
@@ -61,7 +81,7 @@ fn places_of(names: &[&str]) -> Vec<u8> {
     write_places(&members).to_vec()
 }
 
-fn bytes_of(text: &str) -> Vec<u8> {
+pub fn bytes_of(text: &str) -> Vec<u8> {
     write_terms(&terms(text))
 }
 
@@ -160,7 +180,7 @@ fn own_variable_times_signals() -> String {
 }
 
 /// All exponents up to 2 in two variables: the products reach up to 4.
-const BOX_OF_TWO: [&str; 6] = ["x2^2", "x1 x2", "x1 x2^2", "x1^2", "x1^2 x2", "x1^2 x2^2"];
+pub const BOX_OF_TWO: [&str; 6] = ["x2^2", "x1 x2", "x1 x2^2", "x1^2", "x1^2 x2", "x1^2 x2^2"];
 
 /// Every term that the box leaves quadratic: 3 in its own variable, 2 in the
 /// other.

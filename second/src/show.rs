@@ -45,6 +45,11 @@ fn heading(case: &Case) -> String {
             case.buffer,
             case.buffer / WIRE_BYTES
         ),
+        Operation::Thin => format!(
+            "{name}, n = {n}, buffer {} bytes ({} sets)",
+            case.buffer,
+            case.buffer / SET_BYTES
+        ),
     }
 }
 
@@ -102,6 +107,13 @@ fn set_text(record: &[u8]) -> String {
     write_members(&places)
 }
 
+/// The sets that the buffer holds, each after a word of what it is.
+fn listed(word: &str, buffer: &[u8], count: usize) -> Vec<String> {
+    let records = buffer.chunks(SET_BYTES).take(count);
+    let line = |record| format!("  {word} {}", set_text(record));
+    records.map(line).collect()
+}
+
 /// The sets or the wiring that the buffer holds.
 fn answer_lines(case: &Case, reply: &Reply, buffer: &[u8]) -> Vec<String> {
     if reply.code != 0 {
@@ -109,11 +121,8 @@ fn answer_lines(case: &Case, reply: &Reply, buffer: &[u8]) -> Vec<String> {
     }
     let count = reply.count as usize;
     match case.operation {
-        Operation::Plan => buffer
-            .chunks(SET_BYTES)
-            .take(count)
-            .map(|record| format!("  found {}", set_text(record)))
-            .collect(),
+        Operation::Plan => listed("found", buffer, count),
+        Operation::Thin => listed("kept", buffer, count),
         Operation::Check => Vec::new(),
         Operation::Wire => read_wires(buffer)
             .iter()
@@ -156,6 +165,24 @@ case 1: wire, n = 1, buffer 9 bytes (1 records)
   line 0 0 1 0 0 01010100ffffffff00
 ";
         assert_eq!(block(1, &Case::wire(1, input, set_of(&[]), 9)), expected);
+    }
+
+    #[test]
+    fn a_thinning_is_shown() {
+        let input = write_terms(&terms("x1' = x1^3"));
+        let expected = format!(
+            "\
+case 3: thin, n = 1, buffer 37 bytes (1 sets)
+  x1' = x1^3
+  set {{x1^2, x1^4}}
+  code 0 done: order 1, count 1, steps 4, place 0
+  kept {{x1^2}}
+  line 0 1 1 4 0 02{}
+",
+            "00".repeat(36)
+        );
+        let set = set_of(&["x1^2", "x1^4"]);
+        assert_eq!(block(3, &Case::thin(1, input, set, 37)), expected);
     }
 
     #[test]

@@ -2,7 +2,9 @@
 //! differently, and random sets to go with them.
 
 use crate::monomial::Monomial;
-use crate::panel::{MOST_COEFFICIENT, MOST_EXPONENT, MOST_SET_EXPONENT, MOST_TERMS, VARIABLES};
+use crate::panel::{
+    CARDS, MOST_COEFFICIENT, MOST_EXPONENT, MOST_SET_EXPONENT, MOST_TERMS, VARIABLES,
+};
 use crate::random::Random;
 use crate::system::{Set, System, Term};
 
@@ -386,10 +388,68 @@ pub fn decided_by_cancelling(random: &mut Random) -> (System, Set) {
     (draft.finish(random), set)
 }
 
+/// Variables that feed each other in a ring, and now and then one that takes a
+/// power of an unfed one.
+fn ring(random: &mut Random) -> System {
+    let n = random.between(2, VARIABLES);
+    let fed = random.between(2, 3).min(n);
+    let mut draft = Draft::of(n);
+    for equation in 1..=fed {
+        let next = Monomial::variable(equation % fed + 1);
+        draft.add(equation, next, coefficient(random));
+        if random.chance(20) {
+            let other = Monomial::variable(random.between(1, fed));
+            draft.add(equation, other, coefficient(random));
+        }
+    }
+    if fed < n && random.chance(40) {
+        let exponent = random.between(3, 4);
+        let taken = (0..exponent).fold(Monomial::ONE, |m, _| m.times(Monomial::variable(n)));
+        draft.add(random.between(1, n - 1), taken, coefficient(random));
+    }
+    draft.finish(random)
+}
+
+/// A system, and one or two signals with whatever the derivatives call for. In a
+/// ring signals may need each other, so that none can go alone.
+pub fn closed(random: &mut Random) -> (System, Set) {
+    loop {
+        let system = match random.below(3) {
+            0 => any(random),
+            _ => ring(random),
+        };
+        let mut set = Set::new();
+        for _ in 0..random.between(1, 2) {
+            let degree = random.pick(&[2, 3, 3, 3, 4]);
+            set.insert(product(random, system.n, degree));
+        }
+        if let Some(closed) = close(random, &system, set) {
+            return (system, closed);
+        }
+    }
+}
+
+/// Adds a nonsquare, or the part of it that one variable leaves, until there is
+/// none; nothing where the cards do not suffice.
+fn close(random: &mut Random, system: &System, mut set: Set) -> Option<Set> {
+    while let Some(nonsquare) = system.nonsquares(&set).pop_first() {
+        let in_use = |i: &usize| nonsquare.0[i - 1] > 0;
+        let divisors: Vec<usize> = (1..=system.n).filter(in_use).collect();
+        let added = match random.chance(40) {
+            true => nonsquare.over(Monomial::variable(random.pick(&divisors))),
+            false => nonsquare,
+        };
+        set.insert(added);
+        if set.len() > CARDS || added.0.iter().any(|&e| e > MOST_SET_EXPONENT) {
+            return None;
+        }
+    }
+    Some(set)
+}
+
 #[cfg(test)]
 mod tests {
     use super::*;
-    use crate::panel::CARDS;
     use crate::records::{read_terms, set_faults, write_set, write_terms};
 
     #[test]
@@ -427,6 +487,18 @@ mod tests {
                     assert_eq!(system.first_not_quadratic(&set), None);
                 }
             }
+        }
+    }
+
+    #[test]
+    fn a_closed_set_is_quadratic() {
+        let mut random = Random::from_seed(8);
+        for _ in 0..300 {
+            let (system, set) = closed(&mut random);
+            let read = read_terms(system.n, &write_terms(&system.terms));
+            assert!(set_faults(system.n, &write_set(&set)).is_empty());
+            assert_eq!(system.first_not_quadratic(&set), None);
+            assert_eq!(read, Ok(system));
         }
     }
 
