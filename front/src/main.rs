@@ -1,4 +1,5 @@
-//! The front door: plans a patch from typed equations. The planning itself is done by the proved program.
+//! The front door: plans a patch from typed equations, or thins a given set. The planning and thinning itself is done
+//! by the proved program.
 
 mod algebra;
 mod asking;
@@ -14,9 +15,10 @@ use std::io::{IsTerminal, Write};
 use std::process::ExitCode;
 use std::time::Instant;
 
-use asking::answer::{Answer, Reply, DONE, FULL, NONE, SPENT, TERM};
+use asking::answer::{Answer, DONE, FULL, NONE, SET, SPENT, TERM};
 use asking::climb;
 use asking::planner::{Planner, RUNNER};
+use drawing::sheet::Heading;
 use drawing::{sheet, svg};
 use patch::Patch;
 use saying::help::help;
@@ -58,21 +60,21 @@ fn run() -> u8 {
             Err(why) => return not_understood(&sources, &Fault::nowhere(why), &options),
         }
     }
-    match parser::parse(&sources).and_then(|typed| System::of(&typed)) {
-        Ok(system) => plan(&sources, &system, &options),
+    let typed = match options.thin.take() {
+        None => parser::parse(&sources),
+        Some(text) => {
+            sources.push(Source { file: None, text });
+            parser::parse_with_set(&sources)
+        }
+    };
+    match typed.and_then(|typed| System::of(&typed)) {
+        Ok(system) => answer(&sources, &system, &options),
         Err(fault) => not_understood(&sources, &fault, &options),
     }
 }
 
-fn plan(sources: &[Source], system: &System, options: &Options) -> u8 {
-    let answer = match system.records() {
-        Ok(records) => ask(system, &records, &options.settings),
-        // What fits no record is refused here, as the planner refuses a record.
-        Err(place) => {
-            Ok(Answer { reply: Reply { code: TERM, place: place as u64, ..Reply::default() }, ..Answer::default() })
-        }
-    };
-    let answer = match answer {
+fn answer(sources: &[Source], system: &System, options: &Options) -> u8 {
+    let answer = match ask(system, &options.settings) {
         Ok(answer) => answer,
         Err(why) if options.json => return print(FAILED, &export::error(sources, &Fault::nowhere(why))),
         Err(why) => return stop(FAILED, &format!("plan: {why}.\n")),
@@ -104,18 +106,35 @@ fn draw(report: &Report, file: &str) -> Drawn {
     let Some(patch) = report.patch else {
         return Drawn::NoSet(file.into());
     };
-    let drawing = sheet::draw(patch, &report.equations(), &report.which_set());
+    let heading = Heading { equations: report.equations(), given: report.given_text(), which: report.which_set() };
+    let drawing = sheet::draw(patch, &heading);
     match std::fs::write(file, svg::svg(&drawing)) {
         Ok(()) => Drawn::In(file.into()),
         Err(why) => Drawn::Failed(file.into(), why.to_string()),
     }
 }
 
-fn ask(system: &System, records: &[Record], settings: &Settings) -> Result<Answer, String> {
+/// Asks for the thinning of the given set; where there is none, for a plan. What fits no record is refused here, as the
+/// planner refuses a record.
+fn ask(system: &System, settings: &Settings) -> Result<Answer, String> {
+    let records = match system.records() {
+        Ok(records) => records,
+        Err(place) => return Ok(Answer::refused(TERM, place)),
+    };
     let runner =
         std::env::var(RUNNER).map_err(|_| format!("{RUNNER} does not say how to run the planner; use ./plan"))?;
     let terms = records.iter().flat_map(Record::bytes).collect();
     let planner = Planner { runner, n: system.names.len(), terms };
+    match &system.given {
+        None => plan(&planner, settings),
+        Some(given) => match given.set() {
+            Some(set) => planner.thin(&set, settings.which),
+            None => Ok(Answer::refused(SET, 0)),
+        },
+    }
+}
+
+fn plan(planner: &Planner, settings: &Settings) -> Result<Answer, String> {
     let began = Instant::now();
     let watch = std::cell::RefCell::new(Watch::new(std::io::stderr(), std::io::stderr().is_terminal()));
     let mut known = String::new();

@@ -18,6 +18,10 @@ pub const EXPONENTS_AT: usize = 2;
 pub const COEFFICIENT_AT: usize = EXPONENTS_AT + VARIABLES;
 pub const TERM_BYTES: usize = COEFFICIENT_AT + std::mem::size_of::<i32>();
 
+/// A set record: the exponents of each new signal, and the highest power of a variable in one.
+pub const SET_BYTES: usize = CARDS as usize * VARIABLES;
+pub const SET_POWER: u128 = CARDS as u128 * POWER;
+
 /// Steps of a search: at most, and where none are typed.
 pub const STEPS: u64 = 1_000_000_000;
 pub const USUAL_STEPS: u64 = 1_000_000;

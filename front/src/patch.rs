@@ -28,8 +28,8 @@ impl Patch {
         let n = system.names.len();
         let mut signals = vec!["1".to_string()];
         signals.extend(system.names.iter().cloned());
-        signals.extend((1..=set.len()).map(|i| format!("w{}", system.wired + i)));
-        let new = set.iter().map(|m| algebra::monomial(&system.names, m)).collect();
+        signals.extend((1..=set.len()).map(|i| system.new_name(i)));
+        let new = system.set(set);
         let rows = (1..signals.len())
             .filter(|&s| n < s || system.used[s - 1])
             .map(|s| Row { signal: s, wires: answer.wires.iter().filter(|w| w.left == s).copied().collect() })
@@ -78,12 +78,12 @@ impl Patch {
 #[cfg(test)]
 pub mod tests {
     use super::*;
-    use crate::asking::answer::{read, tests::EXAMPLE};
+    use crate::asking::answer::{planned, tests::EXAMPLE};
     use crate::typed::system::tests::system;
 
     pub fn patch(text: &str, written: &str) -> Patch {
         let system = system(text);
-        Patch::of(&system, &read(system.names.len(), written).unwrap(), 1).unwrap()
+        Patch::of(&system, &planned(system.names.len(), written).unwrap(), 1).unwrap()
     }
 
     pub fn example() -> Patch {
@@ -144,7 +144,7 @@ pub mod tests {
     #[test]
     fn no_such_set() {
         let system = system("x' = x^4 + x^3");
-        let answer = read(1, EXAMPLE).unwrap();
+        let answer = planned(1, EXAMPLE).unwrap();
         assert_eq!(Patch::of(&system, &answer, 3), None);
         assert_eq!(Patch::of(&system, &answer, 0), None);
     }

@@ -1,23 +1,40 @@
 //! Recorded answers of the proved program, for tests.
 
-use crate::asking::answer::{read, Answer};
+use crate::asking::answer::{planned, thinned, Answer};
 use crate::patch::Patch;
+use crate::typed::given;
 use crate::typed::settings::Settings;
 use crate::typed::system::{tests::system, Record, System};
 
 const RECORDED: &str = include_str!("../tests/recorded");
 
-/// What the program answered. The call must be one that a case of front/tests/cases makes.
-pub fn answer(system: &System, settings: &Settings) -> Answer {
-    let terms: Vec<u8> = system.records().unwrap().iter().flat_map(Record::bytes).collect();
-    let hex: String = terms.iter().map(|byte| format!("{byte:02x}")).collect();
-    let Settings { cards, steps, sets, which } = settings;
-    let n = system.names.len();
-    let call = format!("ask {n} {} {} {} {which} [{hex}]", cards.digits(), steps.digits(), sets.digits());
+/// What the program wrote. The call must be one that a case of front/tests/cases makes.
+fn written(words: &str, input: &[u8]) -> String {
+    let hex: String = input.iter().map(|byte| format!("{byte:02x}")).collect();
+    let call = format!("ask {words} [{hex}]");
     let mut lines = RECORDED.lines();
     assert!(lines.by_ref().any(|line| line == call), "not recorded: {call}");
-    let text: String = lines.take_while(|line| !line.starts_with("ask ")).map(|line| format!("{line}\n")).collect();
-    read(n, &text).unwrap()
+    lines.take_while(|line| !line.starts_with("ask ")).map(|line| format!("{line}\n")).collect()
+}
+
+fn terms(system: &System) -> Vec<u8> {
+    system.records().unwrap().iter().flat_map(Record::bytes).collect()
+}
+
+/// The plan for a system.
+pub fn plan(system: &System, settings: &Settings) -> Answer {
+    let Settings { cards, steps, sets, which } = settings;
+    let n = system.names.len();
+    let words = format!("{n} {} {} {} {which}", cards.digits(), steps.digits(), sets.digits());
+    planned(n, &written(&words, &terms(system))).unwrap()
+}
+
+/// The thinning of the set that is given with a system.
+pub fn thinning(system: &System, which: u64) -> Answer {
+    let n = system.names.len();
+    let set = system.given.as_ref().unwrap().set().unwrap();
+    let input = [&given::record(&set)[..], &terms(system)].concat();
+    thinned(n, &set, &written(&format!("{n} {which}"), &input)).unwrap()
 }
 
 /// Systems of many kinds with the patch of their first set.
@@ -36,7 +53,7 @@ pub fn patches() -> Vec<(System, Patch)> {
     .into_iter()
     .map(|(text, cards)| {
         let system = system(text);
-        let answer = answer(&system, &Settings { cards: cards.into(), ..Settings::default() });
+        let answer = plan(&system, &Settings { cards: cards.into(), ..Settings::default() });
         let patch = Patch::of(&system, &answer, 1).unwrap();
         (system, patch)
     })

@@ -6,7 +6,9 @@ use std::sync::mpsc::{channel, RecvTimeoutError};
 use std::thread;
 use std::time::Duration;
 
+use crate::algebra::Exponents;
 use crate::asking::answer::{self, Answer};
+use crate::typed::given;
 use crate::typed::settings::Settings;
 
 /// The variable that names the script which runs a proved program by its name. The command `plan` sets it.
@@ -24,18 +26,27 @@ impl Planner {
     pub fn ask(&self, settings: &Settings, tick: impl FnMut()) -> Result<Answer, String> {
         let Settings { cards, steps, sets, which } = settings;
         let (n, which) = (self.n.to_string(), which.to_string());
-        let text = self.run(&[&n, cards.digits(), steps.digits(), sets.digits(), &which], tick)?;
-        answer::read(self.n, &text).map_err(|why| format!("the planner's answer cannot be read ({why})"))
+        let words = [&n, cards.digits(), steps.digits(), sets.digits(), &which];
+        let text = self.run(&words, &self.terms, tick)?;
+        answer::planned(self.n, &text).map_err(unreadable)
     }
 
-    fn run(&self, arguments: &[&str], mut tick: impl FnMut()) -> Result<String, String> {
+    /// Asks for the smallest subsets of a set that will do, and for the wiring of subset `which`. There are so few
+    /// subsets that it is over at once.
+    pub fn thin(&self, set: &[Exponents], which: u64) -> Result<Answer, String> {
+        let input = [&given::record(set)[..], &self.terms].concat();
+        let text = self.run(&[&self.n.to_string(), &which.to_string()], &input, || ())?;
+        answer::thinned(self.n, set, &text).map_err(unreadable)
+    }
+
+    fn run(&self, arguments: &[&str], input: &[u8], mut tick: impl FnMut()) -> Result<String, String> {
         let mut command = Command::new(&self.runner);
         command.arg("asked").args(arguments).stdin(Stdio::piped()).stdout(Stdio::piped());
         leash(&mut command);
         let mut child = command.spawn().map_err(|why| format!("{} cannot be run: {why}", self.runner))?;
         // The program stops reading once it knows that there are too many terms, so a failed write says nothing.
-        if let Some(mut input) = child.stdin.take() {
-            let _ = input.write_all(&self.terms);
+        if let Some(mut stream) = child.stdin.take() {
+            let _ = stream.write_all(input);
         }
         let mut output = child.stdout.take().ok_or("the planner has no output")?;
         let (send, receive) = channel();
@@ -45,7 +56,7 @@ impl Planner {
         });
         let text = loop {
             match receive.recv_timeout(Duration::from_secs(1)) {
-                Ok(text) => break text.map_err(|why| format!("the planner's answer cannot be read ({why})"))?,
+                Ok(text) => break text.map_err(unreadable)?,
                 Err(RecvTimeoutError::Timeout) => tick(),
                 Err(RecvTimeoutError::Disconnected) => return Err("the planner's answer was lost".into()),
             }
@@ -58,6 +69,10 @@ impl Planner {
             Err(format!("the planner was stopped before it answered ({status})"))
         }
     }
+}
+
+fn unreadable(why: impl std::fmt::Display) -> String {
+    format!("the planner's answer cannot be read ({why})")
 }
 
 /// Ends the program together with this one, so that a search of hours is not left behind by a command that was ended.
@@ -86,20 +101,24 @@ mod tests {
     use super::*;
     use crate::panel::TERM_BYTES;
 
-    fn ask(runner: &str) -> Result<Answer, String> {
+    /// Why there is neither a plan nor a thinned set.
+    fn faults(runner: &str) -> [String; 2] {
         let planner = Planner { runner: runner.into(), n: 1, terms: vec![0; TERM_BYTES * 9000] };
-        planner.ask(&Settings::default(), || ())
+        let set = [[2, 0, 0, 0, 0, 0]];
+        [planner.ask(&Settings::default(), || ()).unwrap_err(), planner.thin(&set, 1).unwrap_err()]
     }
 
     #[test]
     fn a_program_that_is_not_there() {
-        assert!(ask("/nowhere/run-program").unwrap_err().contains("cannot be run"));
+        assert!(faults("/nowhere/run-program").iter().all(|why| why.contains("cannot be run")));
     }
 
     #[test]
     fn a_program_that_fails_or_says_something_else() {
-        assert!(ask("/bin/false").unwrap_err().contains("stopped before it answered"));
-        assert!(ask("/bin/echo").unwrap_err().contains("cannot be read"), "echo writes its arguments");
-        assert!(ask("/bin/true").unwrap_err().contains("cannot be read"), "true writes nothing");
+        assert!(faults("/bin/false").iter().all(|why| why.contains("stopped before it answered")));
+        for silent in ["/bin/echo", "/bin/true"] {
+            let faults = faults(silent);
+            assert!(faults.iter().all(|why| why.contains("cannot be read")), "{silent}: {faults:?}");
+        }
     }
 }

@@ -80,11 +80,30 @@ const LEGEND: [&str; 4] = [
     "A new signal starts at the value under its name; where the others start is free.",
 ];
 
-/// Draws the patch under its heading. `equations` are the typed ones, `which` says which set this is.
-pub fn draw(patch: &Patch, equations: &[String], which: &str) -> Drawing {
-    let mut drawing = sheet(patch, equations, which, TALL[0]);
+/// What stands over a patch: the typed equations, the given set where one was thinned, and which set this is.
+pub struct Heading {
+    pub equations: Vec<String>,
+    pub given: Option<String>,
+    pub which: String,
+}
+
+impl Heading {
+    /// Its lines, none of them too wide, each text broken where it is read as broken.
+    fn lines(&self) -> Vec<String> {
+        let equations = self.equations.iter().map(|text| (text, &[" + ", " - "][..]));
+        let given = self.given.as_ref().map(|text| format!("Given set: {text}"));
+        let given = given.iter().map(|text| (text, &[" "][..]));
+        let which = std::iter::once((&self.which, &[" w", " and"][..]));
+        let texts = equations.chain(given).chain(which);
+        texts.flat_map(|(text, separators)| lines(text, separators, SIZE, WIDE)).collect()
+    }
+}
+
+/// Draws the patch under its heading.
+pub fn draw(patch: &Patch, heading: &Heading) -> Drawing {
+    let mut drawing = sheet(patch, heading, TALL[0]);
     for tall in TALL {
-        drawing = sheet(patch, equations, which, tall);
+        drawing = sheet(patch, heading, tall);
         if 2 * drawing.width <= 3 * drawing.height {
             break;
         }
@@ -92,14 +111,11 @@ pub fn draw(patch: &Patch, equations: &[String], which: &str) -> Drawing {
     drawing
 }
 
-fn sheet(patch: &Patch, equations: &[String], which: &str, tall: i32) -> Drawing {
+fn sheet(patch: &Patch, heading: &Heading, tall: i32) -> Drawing {
     let mut parts = Vec::new();
-    let mut heading = vec![("Patch".to_string(), TITLE, true)];
-    for equation in equations {
-        heading.extend(lines(equation, &[" + ", " - "], SIZE, WIDE).into_iter().map(|line| (line, SIZE, false)));
-    }
-    heading.extend(lines(which, &[" w", " and"], SIZE, WIDE).into_iter().map(|line| (line, SIZE, false)));
-    let (mut right, top) = write(&heading, MARGIN, MARGIN, "what this is a patch of", &mut parts);
+    let mut texts = vec![("Patch".to_string(), TITLE, true)];
+    texts.extend(heading.lines().into_iter().map(|line| (line, SIZE, false)));
+    let (mut right, top) = write(&texts, MARGIN, MARGIN, "what this is a patch of", &mut parts);
     let top = top + LINE;
 
     let (multipliers, integrators) = (multipliers(patch), integrators(patch));
@@ -159,8 +175,12 @@ pub mod tests {
         recorded::patches()
             .into_iter()
             .map(|(system, patch)| {
-                let equations = system.equations(&system.records().unwrap());
-                let drawing = draw(&patch, &equations, "Set 1 of the 2 smallest sets: w1 = x^2, w2 = x^3");
+                let heading = Heading {
+                    equations: system.equations(&system.records().unwrap()),
+                    given: None,
+                    which: "Set 1 of the 2 smallest sets: w1 = x^2, w2 = x^3".into(),
+                };
+                let drawing = draw(&patch, &heading);
                 (patch, drawing)
             })
             .collect()
@@ -172,6 +192,18 @@ pub mod tests {
 
     fn titles<'a>(drawing: &'a Drawing, name: &str) -> Vec<&'a str> {
         drawing.parts.iter().filter(|part| part.name == name).map(|part| part.title.as_str()).collect()
+    }
+
+    #[test]
+    fn no_line_of_the_heading_is_too_wide() {
+        let monomial = "x1^54*x2^54*x3^54*x4^54";
+        let given = [monomial; 6].join(", ");
+        let heading = |given| Heading { equations: vec!["x' = x".into()], given, which: "Nothing".into() };
+        assert_eq!(heading(None).lines(), ["x' = x", "Nothing"]);
+        let lines = heading(Some(given.clone())).lines();
+        assert!(3 < lines.len() && lines.iter().all(|line| width(line, SIZE, false) <= WIDE), "{lines:?}");
+        let words = |lines: &[String]| lines.join(" ").split_whitespace().map(String::from).collect::<Vec<_>>();
+        assert_eq!(words(&lines[1..lines.len() - 1]), words(&["Given set:".into(), given]));
     }
 
     #[test]

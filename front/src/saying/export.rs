@@ -4,6 +4,7 @@ use crate::algebra::Exponents;
 use crate::patch::Patch;
 use crate::saying::json::Json;
 use crate::saying::report::Report;
+use crate::typed::given::Given;
 use crate::typed::settings::Count;
 use crate::typed::system::Record;
 use crate::typed::text::{place, Fault, Source, Span};
@@ -13,8 +14,9 @@ pub fn answer(report: &Report) -> String {
     let reply = &report.answer.reply;
     let said = report.said();
     let places = said.places.iter().map(|&(_, span)| location(report.sources, span));
-    let sets = (0..report.answer.sets.len()).map(|i| set(report, i));
-    Json::Object(vec![
+    let sets = Json::List((0..report.answer.sets.len()).map(|i| set(report, i)).collect());
+    let mut fields = vec![
+        ("operation", operation(report).into()),
         ("code", whole(reply.code)),
         ("name", reply.name().map_or(Json::Null, Json::from)),
         ("order", whole(reply.order)),
@@ -26,11 +28,16 @@ pub fn answer(report: &Report) -> String {
         ("notes", Json::list(report.notes().into_iter().chain(report.no_such_set()))),
         ("settings", settings(report)),
         ("system", system(report)),
-        ("sets", Json::List(sets.collect())),
+    ];
+    match &report.system.given {
+        None => fields.push(("sets", sets)),
+        Some(set) => fields.extend([("given", given(report, set)), ("subsets", sets)]),
+    }
+    fields.extend([
         ("wiring", report.patch.map_or(Json::Null, |patch| wiring(report, patch))),
         ("drawing", report.drawn.words().map_or(Json::Null, Json::from)),
-    ])
-    .written()
+    ]);
+    Json::Object(fields).written()
 }
 
 /// No answer, and why.
@@ -43,14 +50,25 @@ fn whole(number: u64) -> Json {
     i64::try_from(number).map_or(Json::Text(number.to_string()), Json::Number)
 }
 
+fn operation(report: &Report) -> &'static str {
+    match report.system.given {
+        Some(_) => "thinning",
+        None => "planning",
+    }
+}
+
+/// Those that were sent: of a given set all subsets are judged, and nothing is limited.
 fn settings(report: &Report) -> Json {
     let count = |c: &Count| c.value().map_or(Json::from(c.digits()), whole);
-    Json::Object(vec![
-        ("n", whole(report.system.names.len() as u64)),
-        ("cards", count(&report.settings.cards)),
-        ("steps", count(&report.settings.steps)),
-        ("sets", count(&report.settings.sets)),
-    ])
+    let mut fields = vec![("n", whole(report.system.names.len() as u64))];
+    if report.system.given.is_none() {
+        fields.extend([
+            ("cards", count(&report.settings.cards)),
+            ("steps", count(&report.settings.steps)),
+            ("sets", count(&report.settings.sets)),
+        ]);
+    }
+    Json::Object(fields)
 }
 
 fn system(report: &Report) -> Json {
@@ -69,18 +87,31 @@ fn system(report: &Report) -> Json {
     ])
 }
 
+fn signals(report: &Report, set: &[Exponents]) -> Vec<(&'static str, Json)> {
+    vec![
+        ("signals", Json::list(report.system.set(set))),
+        ("exponents", Json::List(set.iter().map(exponents).collect())),
+    ]
+}
+
+/// The given set as it was sent, ascending; nothing where it fits no record.
+fn given(report: &Report, given: &Given) -> Json {
+    given.set().map_or(Json::Null, |set| Json::Object(signals(report, &set)))
+}
+
 fn set(report: &Report, number: usize) -> Json {
-    Json::Object(vec![
-        ("signals", Json::list(report.set(number))),
-        ("exponents", Json::List(report.answer.sets[number].iter().map(exponents).collect())),
-    ])
+    let mut fields = signals(report, &report.answer.sets[number]);
+    if report.system.given.is_some() {
+        fields.push(("can_go", Json::list(report.can_go(number))));
+    }
+    Json::Object(fields)
 }
 
 fn wiring(report: &Report, patch: &Patch) -> Json {
     let wires = report.answer.wires.iter();
     let records = wires.map(|w| Json::list([w.left as i64, w.a as i64, w.b as i64, w.coefficient.into()]));
     Json::Object(vec![
-        ("set", whole(report.settings.which)),
+        (report.thing(), whole(report.settings.which)),
         ("signals", Json::list(patch.signals.iter().cloned())),
         ("records", Json::List(records.collect())),
         ("equations", Json::list(patch.equations())),

@@ -8,11 +8,13 @@ pub fn help() -> String {
     let (sets, usual_sets) = (grouped(SETS), grouped(USUAL_SETS));
     format!(
         "\
-Plans a patch: finds all smallest sets of new signals that make a polynomial system quadratic, and wires one.
+Plans a patch: finds all smallest sets of new signals that make a polynomial system quadratic, and wires one. Or thins
+a given set: tells which of its signals can go.
 
   ./plan \"x' = x^4 + x^3\"
   ./plan \"x' = x^2*y\" \"y' = -x*y^2\" --svg patch.svg
   ./plan system.txt --cards 3 --steps 1000000000
+  ./plan \"x' = x^4 + x^3\" --thin \"x^2, x^3, x^4\"
 
 An argument with = in it is one equation or several, separated by commas, semicolons or lines; any other is the name
 of a file that holds them (- is standard input). In a file, # hides the rest of its line.
@@ -24,6 +26,7 @@ space; sums are written multiplied out. A variable without an equation never cha
   --steps N      steps of the search, at most: 1 to {steps} ({usual_steps})
   --sets N       sets that there is room for: 0 to {sets} ({usual_sets})
   --set N        wires the N-th set of the list (1)
+  --thin SET     thins a set: up to {CARDS} products of powers, with commas between them (\"\" is the empty set)
   --svg FILE     draws the patch of that set
   --json         writes all of it for other programs
   --file FILE    reads equations from a file, whatever its name
@@ -33,8 +36,11 @@ A new signal is a product of powers of the variables. The word \"smallest\" is p
 ended; short of that the words say how far it got. A search of more than a second tells on standard error what it has
 shown so far; it may be stopped at any time.
 
-Exit status: 0 all smallest sets are listed; 1 none up to --cards, or stopped by --steps or --sets; 2 the input was
-refused or not understood; 3 something could not be built, run or written.
+With --thin every subset of the given set is judged and no other set is searched, so \"smallest\" is said of its subsets
+alone; --cards, --steps and --sets do not go with it.
+
+Exit status: 0 all smallest sets, or subsets of the given set, are listed; 1 none up to --cards, or stopped by --steps
+or --sets; 2 the input was refused or not understood; 3 something could not be built, run or written.
 "
     )
 }

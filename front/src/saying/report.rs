@@ -1,7 +1,6 @@
 //! The whole answer, for a person.
 
-use crate::algebra;
-use crate::asking::answer::{Answer, DONE, TWICE};
+use crate::asking::answer::{Answer, DONE, SET, TWICE};
 use crate::patch::Patch;
 use crate::saying::numbers::{counted, grouped};
 use crate::saying::words::{said, Said};
@@ -42,17 +41,23 @@ impl Report<'_> {
         said(&self.answer.reply, self.settings, self.system, self.sources)
     }
 
+    /// What is listed.
+    pub fn thing(&self) -> &'static str {
+        match self.system.given {
+            Some(_) => "subset",
+            None => "set",
+        }
+    }
+
     /// What is taken for granted about the typed text.
     pub fn notes(&self) -> Vec<String> {
         let mut notes = Vec::new();
-        match self.system.unfed()[..] {
-            [] => {}
-            [name] => notes.push(format!("{name} has no equation: it is taken as a variable that never changes.")),
-            ref names => {
-                let names = names.join(", ");
-                notes.push(format!("{names} have no equations: they are taken as variables that never change."));
-            }
-        }
+        notes.extend(constant(&self.system.unfed(), "has no equation", "have no equations"));
+        notes.extend(constant(
+            &self.system.only_given(),
+            "stands in the given set alone",
+            "stand in the given set alone",
+        ));
         if !self.system.namings.is_empty() {
             let names = self.system.namings.join(", ");
             notes.push(format!("{names}: taken as variables of their own; the lines that name them are not used."));
@@ -67,17 +72,39 @@ impl Report<'_> {
 
     /// The signals of a set, from 0.
     pub fn set(&self, number: usize) -> Vec<String> {
-        self.answer.sets[number].iter().map(|m| algebra::monomial(&self.system.names, m)).collect()
+        self.system.set(&self.answer.sets[number])
     }
 
-    /// Which set the patch is of, and what its signals are. Said of a whole search alone, as a patch is.
+    /// The signals of the given set, ascending; nothing where none was given or it fits no record.
+    fn given(&self) -> Option<Vec<String>> {
+        Some(self.system.set(&self.system.given.as_ref()?.set()?))
+    }
+
+    /// The signals of the given set that a subset, from 0, leaves out.
+    pub fn can_go(&self, number: usize) -> Vec<String> {
+        let kept = self.set(number);
+        self.given().unwrap_or_default().into_iter().filter(|signal| !kept.contains(signal)).collect()
+    }
+
+    /// The given set in words.
+    pub fn given_text(&self) -> Option<String> {
+        self.given().map(|given| if given.is_empty() { "empty".into() } else { given.join(", ") })
+    }
+
+    /// Which set the patch is of, and what its signals are. Said of a whole search alone, as a patch is; where a set
+    /// was thinned, of its subsets alone.
     pub fn which_set(&self) -> String {
         let Some(patch) = self.patch.filter(|patch| !patch.new.is_empty()) else {
             return "Nothing needs to be added.".into();
         };
-        let set = match self.answer.reply.count {
-            1 => "The smallest set".to_string(),
-            count => format!("Set {} of the {} smallest sets", self.settings.which, grouped(count)),
+        let (which, count) = (self.settings.which, self.answer.reply.count);
+        let set = match (&self.system.given, count) {
+            (None, 1) => "The smallest set".to_string(),
+            (None, count) => format!("Set {which} of the {} smallest sets", grouped(count)),
+            (Some(_), 1) => "The smallest subset of the given set that will do".to_string(),
+            (Some(_), count) => {
+                format!("Subset {which} of the {} smallest subsets of the given set that will do", grouped(count))
+            }
         };
         format!("{set}: {}", patch.equations()[..patch.new.len()].join(", "))
     }
@@ -86,16 +113,23 @@ impl Report<'_> {
     pub fn no_such_set(&self) -> Option<String> {
         let (which, count) = (self.settings.which, self.answer.reply.count);
         let missing = self.answer.reply.code == DONE && self.patch.is_none();
-        missing.then(|| format!("There is no set {which}: the list has {}.", counted(count, "set")))
+        let thing = self.thing();
+        missing.then(|| format!("There is no {thing} {which}: the list has {}.", counted(count, thing)))
+    }
+
+    /// After code 1 to 4 there is no system that was planned, and after 8 no set that was judged.
+    fn was_taken(&self) -> bool {
+        let code = self.answer.reply.code;
+        code == DONE || TWICE < code && code != SET
     }
 
     pub fn for_a_person(&self) -> String {
         let mut out = String::new();
         let said = self.said();
-        // After code 1 to 4 there is no system that was planned.
-        if self.answer.reply.code == DONE || TWICE < self.answer.reply.code {
-            for equation in self.equations() {
-                out += &format!("  {equation}\n");
+        if self.was_taken() {
+            let given = self.given_text().map(|text| format!("given set: {text}"));
+            for line in self.equations().into_iter().chain(given) {
+                out += &format!("  {line}\n");
             }
             for note in self.notes() {
                 out += &format!("{note}\n");
@@ -110,15 +144,22 @@ impl Report<'_> {
             out += &point(self.sources, span);
         }
         let count = self.answer.sets.len();
+        let thing = self.thing();
         if 0 < self.answer.reply.order {
             for number in 0..count {
-                out += &format!("  set {}: {}\n", number + 1, self.set(number).join(", "));
+                out += &format!("  {thing} {}: {}", number + 1, self.set(number).join(", "));
+                out += &match self.can_go(number)[..] {
+                    [] => "\n".to_string(),
+                    ref spare => format!("; {} can go\n", spare.join(", ")),
+                };
             }
         }
         if let Some(patch) = self.patch {
-            out += &match self.answer.reply.order {
-                0 => "\nWired:\n".to_string(),
-                _ => format!("\nSet {} wired:\n", self.settings.which),
+            let which = self.settings.which;
+            out += &match (self.answer.reply.order, &self.system.given) {
+                (0, _) => "\nWired:\n".to_string(),
+                (_, None) => format!("\nSet {which} wired:\n"),
+                (_, Some(_)) => format!("\nSubset {which} wired:\n"),
             };
             for equation in patch.equations() {
                 out += &format!("  {equation}\n");
@@ -127,12 +168,22 @@ impl Report<'_> {
         if let Some(words) = self.no_such_set() {
             out += &format!("\n{words}\n");
         } else if 1 < count {
-            out += &format!("\n--set N wires another set, 1 to {count}; it searches anew.\n");
+            let anew = if self.system.given.is_some() { "judges them" } else { "searches" };
+            out += &format!("\n--set N wires another {thing}, 1 to {count}; it {anew} anew.\n");
         }
         if let Some(words) = self.drawn.words() {
             out += &format!("\n{words}\n");
         }
         out
+    }
+}
+
+/// Says of variables why they are taken as constant; `has` of one, `have` of several.
+fn constant(names: &[&str], has: &str, have: &str) -> Option<String> {
+    match names {
+        [] => None,
+        [name] => Some(format!("{name} {has}: it is taken as a variable that never changes.")),
+        names => Some(format!("{} {have}: they are taken as variables that never change.", names.join(", "))),
     }
 }
 
@@ -148,32 +199,43 @@ pub fn not_understood(sources: &[Source], fault: &Fault) -> String {
 #[cfg(test)]
 mod tests {
     use super::*;
-    use crate::asking::answer::{read, Reply};
-    use crate::typed::system::tests::system;
+    use crate::asking::answer::{planned, Reply, FULL, NOT_QUADRATIC, OF_THINNING};
+    use crate::recorded;
+    use crate::saying::export;
+    use crate::typed::system::tests::{sources_with_set, system, with_set};
+
+    /// What is said of an answer about a system, where set `which` is asked to be wired.
+    fn report<T>(
+        sources: &[Source],
+        system: &System,
+        answer: &Answer,
+        which: u64,
+        said: impl FnOnce(&Report) -> T,
+    ) -> T {
+        let settings = Settings { which, ..Settings::default() };
+        let patch = Patch::of(system, answer, which);
+        let drawn = Drawn::NotAsked;
+        said(&Report { sources, system, settings: &settings, answer, patch: patch.as_ref(), drawn })
+    }
 
     /// What is printed for a text and an answer, and whether set `which` is wired.
     fn printed(text: &str, answer: &Answer, which: u64) -> String {
         let sources = [Source { file: None, text: text.into() }];
-        let system = system(text);
-        let settings = Settings { which, ..Settings::default() };
-        let patch = Patch::of(&system, answer, which);
-        let report = Report {
-            sources: &sources,
-            system: &system,
-            settings: &settings,
-            answer,
-            patch: patch.as_ref(),
-            drawn: Drawn::NotAsked,
-        };
-        report.for_a_person()
+        report(&sources, &system(text), answer, which, |report| report.for_a_person())
+    }
+
+    /// The same where a set is thinned.
+    fn printed_of_set(text: &str, set: &str, answer: &Answer, which: u64) -> String {
+        let sources = sources_with_set(text, set);
+        report(&sources, &with_set(text, set), answer, which, |report| report.for_a_person())
     }
 
     #[test]
     fn a_variable_without_an_equation_is_said_to_be_taken_as_constant() {
-        let answer = read(2, "0 1 1 8 0\n1.1.0.0.0.0\n1 1 3 1\n3 3 3 1\n").unwrap();
+        let answer = planned(2, "0 1 1 8 0\n1.1.0.0.0.0\n1 1 3 1\n3 3 3 1\n").unwrap();
         let text = printed("x' = x^2 y", &answer, 1);
         assert!(text.contains("y has no equation: it is taken as a variable that never changes.\n"), "{text}");
-        let answer = read(3, "0 0 1 1 0\n\n1 2 3 1\n").unwrap();
+        let answer = planned(3, "0 0 1 1 0\n\n1 2 3 1\n").unwrap();
         let text = printed("x' = y z", &answer, 1);
         assert!(text.contains("y, z have no equations: they are taken as variables that never change.\n"), "{text}");
         assert!(!printed("x' = 0*x", &Answer::default(), 1).contains("no equation"));
@@ -190,9 +252,96 @@ mod tests {
 
     #[test]
     fn a_set_that_is_not_there_is_not_wired() {
-        let answer = read(1, crate::asking::answer::tests::EXAMPLE).unwrap();
+        let answer = planned(1, crate::asking::answer::tests::EXAMPLE).unwrap();
         let text = printed("x' = x^4 + x^3", &answer, 3);
         assert!(text.ends_with("\nThere is no set 3: the list has 2 sets.\n"), "{text}");
         assert!(!text.contains("wired:"), "{text}");
+    }
+
+    /// Systems with sets of many kinds: several smallest subsets, one, the whole set, the empty one.
+    const THINNED: [(&str, &str); 7] = [
+        ("x' = x^4 + x^3", "x^2, x^3, x^4"),
+        ("x' = x^4 + x^3", "x^2, x^3, x^4, x^5, x^6, x^7"),
+        ("x' = x^3", "x^2, x^4, x*y, z^2"),
+        ("x' = x^4 + x^3", "x^3, x^4"),
+        ("x' = x", "x^2, x^3"),
+        ("x' = x^2", ""),
+        ("x1' = x1^2 x2, x2' = -x1 x2^2", "x1 x2^2, x1 x2, x1^2 x2"),
+    ];
+
+    #[test]
+    fn what_can_go_is_what_a_subset_leaves_out() {
+        let mut gone = 0;
+        for (text, set) in THINNED {
+            let system = with_set(text, set);
+            let answer = recorded::thinning(&system, 1);
+            let given = system.set(&system.given.as_ref().unwrap().set().unwrap());
+            report(&[], &system, &answer, 1, |report| {
+                for number in 0..answer.sets.len() {
+                    let mut both = [report.set(number), report.can_go(number)].concat();
+                    gone += report.can_go(number).len();
+                    both.sort_by_key(|signal| given.iter().position(|other| other == signal));
+                    assert_eq!(both, given);
+                }
+            });
+        }
+        assert!(0 < gone);
+        let (text, set) = THINNED[0];
+        let printed = printed_of_set(text, set, &recorded::thinning(&with_set(text, set), 1), 1);
+        assert!(
+            printed.contains("\n  subset 1: x^2, x^3; x^4 can go\n  subset 2: x^3, x^4; x^2 can go\n"),
+            "{printed}"
+        );
+        assert!(printed.contains("\nSubset 1 wired:\n  w1 = x^2\n"), "{printed}");
+    }
+
+    #[test]
+    fn smallest_is_said_of_subsets_of_the_given_set_alone() {
+        let mut heard = 0;
+        for (text, set) in THINNED {
+            let (sources, system) = (sources_with_set(text, set), with_set(text, set));
+            let answer = recorded::thinning(&system, 1);
+            let all = |report: &Report| [report.for_a_person(), export::answer(report), report.which_set()];
+            for said in report(&sources, &system, &answer, 1, all) {
+                for (at, word) in said.match_indices("smallest") {
+                    heard += 1;
+                    assert!(said[at..].starts_with("smallest subset"), "{said}");
+                    let around = &said[at.saturating_sub(30)..said.len().min(at + word.len() + 30)];
+                    assert!(around.contains("the given set"), "{around}");
+                }
+            }
+        }
+        assert!(0 < heard);
+    }
+
+    #[test]
+    fn a_variable_of_the_given_set_alone_is_said_to_be_taken_as_constant() {
+        let (text, set) = THINNED[2];
+        let printed = printed_of_set(text, set, &recorded::thinning(&with_set(text, set), 1), 1);
+        let note = "\ny, z stand in the given set alone: they are taken as variables that never change.\n";
+        assert!(printed.contains(note), "{printed}");
+        assert!(!printed.contains("y'") && !printed.contains("z'"), "nothing of the patch rests on them: {printed}");
+        let one = printed_of_set("x' = x^4", "x^2, y^2", &Answer::refused(NOT_QUADRATIC, 3), 1);
+        assert!(one.contains("\ny stands in the given set alone: it is taken as a variable that"), "{one}");
+    }
+
+    #[test]
+    fn a_refused_set_is_neither_shown_as_taken_nor_wired() {
+        let printed = printed_of_set("x' = x^3", "x^2, x", &Answer::refused(SET, 0), 1);
+        assert!(printed.starts_with("Refused: signal 2"), "{printed}");
+        for code in OF_THINNING.into_iter().filter(|&code| code != DONE) {
+            let reply = Reply { code, order: 2, count: 0, steps: 4, place: 1 };
+            let printed = printed_of_set("x' = x^3", "x^2, x", &Answer { reply, ..Answer::default() }, 1);
+            assert_eq!(printed.contains("given set: "), matches!(code, FULL | NOT_QUADRATIC), "{printed}");
+            assert!(!printed.contains("subset 1") && !printed.contains("wired:"), "{printed}");
+        }
+    }
+
+    #[test]
+    fn a_subset_that_is_not_there_is_not_wired() {
+        let (text, set) = THINNED[0];
+        let printed = printed_of_set(text, set, &recorded::thinning(&with_set(text, set), 3), 3);
+        assert!(printed.ends_with("\nThere is no subset 3: the list has 2 subsets.\n"), "{printed}");
+        assert!(!printed.contains("wired:"), "{printed}");
     }
 }

@@ -1,13 +1,14 @@
-//! Why a term fits no record: the rule of the box that it breaks.
+//! Why a term or a new signal fits no record: the rule of the box that it breaks.
 
-use crate::panel::{COEFFICIENT, POWER};
+use crate::panel::{COEFFICIENT, POWER, SET_POWER};
 use crate::saying::numbers::grouped;
-use crate::typed::system::Term;
+use crate::typed::given::Signal;
+use crate::typed::system::{Powers, Term};
 
 /// Which rule of a record the term breaks. `names` are the variables of its system.
 pub fn broken(term: &Term, names: &[String]) -> Option<String> {
-    if let Some((name, &power)) = names.iter().zip(&term.powers).find(|(_, &power)| POWER < power) {
-        return Some(format!("the power of {name} is {}, and the box takes 0 to {POWER}", shown(power)));
+    if let Some(power) = power(&term.powers, names, POWER) {
+        return Some(power);
     }
     if term.size == 0 {
         return Some("its coefficient is 0; leave the term out".into());
@@ -18,6 +19,20 @@ pub fn broken(term: &Term, names: &[String]) -> Option<String> {
         return Some(format!("its coefficient is {sign}{size}, and the box takes -{most} to {most}"));
     }
     None
+}
+
+/// Which rule of a set record the signal breaks by itself.
+pub fn broken_signal(signal: &Signal, names: &[String]) -> Option<String> {
+    power(&signal.powers, names, SET_POWER).or_else(|| match signal.powers.iter().sum() {
+        0u128 => Some("it is 1, and no new signal; leave it out".into()),
+        1 => Some("it is a variable, and no new signal; leave it out".into()),
+        _ => None,
+    })
+}
+
+fn power(powers: &Powers, names: &[String], most: u128) -> Option<String> {
+    let (name, &power) = names.iter().zip(powers).find(|(_, &power)| most < power)?;
+    Some(format!("the power of {name} is {}, and the box takes 0 to {most}", shown(power)))
 }
 
 /// A number that was too large to hold stands at the largest that fits.
@@ -31,7 +46,7 @@ fn shown(number: u128) -> String {
 #[cfg(test)]
 mod tests {
     use super::*;
-    use crate::typed::system::tests::system;
+    use crate::typed::system::tests::{system, with_set};
 
     #[test]
     fn the_broken_rule() {
@@ -48,5 +63,24 @@ mod tests {
             rule("x' = -1000001*x").unwrap(),
             "its coefficient is -1,000,001, and the box takes -1,000,000 to 1,000,000"
         );
+    }
+
+    #[test]
+    fn the_broken_rule_of_a_signal() {
+        let rule = |text: &str| {
+            let system = with_set("x' = y", text);
+            broken_signal(&system.given.as_ref().unwrap().signals[0], &system.names)
+        };
+        assert_eq!(rule("x^54*y^54"), None);
+        assert_eq!(rule("x*y"), None);
+        assert_eq!(rule("x^2"), None);
+        assert_eq!(rule("x*y^55").unwrap(), "the power of y is 55, and the box takes 0 to 54");
+        let long = "9".repeat(60);
+        assert_eq!(
+            rule(&format!("x^{long}*y^{long}")).unwrap(),
+            "the power of x is too long to show, and the box takes 0 to 54"
+        );
+        assert_eq!(rule("x^0*y^0").unwrap(), "it is 1, and no new signal; leave it out");
+        assert_eq!(rule("x^0*y").unwrap(), "it is a variable, and no new signal; leave it out");
     }
 }

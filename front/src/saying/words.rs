@@ -1,13 +1,13 @@
-//! The words for a reply. "Smallest" is said after code 0 alone: only then has the whole search ended. Short of that
-//! the words say how far the search got, and nothing of what it met on its way.
+//! The words for a reply. Of a plan "smallest" is said after code 0 alone: only then has the whole search ended. Short
+//! of that the words say how far the search got, and nothing of what it met on its way.
 
 use crate::asking::answer::{Reply, DONE, FULL, LENGTH, NONE, SETTING, SPENT, TERM, TWICE};
 use crate::panel::{CARDS, SETS, STEPS, TERMS};
 use crate::saying::numbers::{counted, grouped};
-use crate::saying::rule;
+use crate::saying::{rule, thinned};
 use crate::typed::settings::Settings;
 use crate::typed::system::System;
-use crate::typed::text::{short, Source, Span};
+use crate::typed::text::{short, text_of, Source, Span};
 
 /// What is said of a reply, in lines, and the places in the typed text that it is about, each with words of its own.
 #[derive(Debug, PartialEq)]
@@ -16,7 +16,19 @@ pub struct Said {
     pub places: Vec<(&'static str, Span)>,
 }
 
-fn signals(number: u64) -> String {
+impl From<String> for Said {
+    fn from(words: String) -> Said {
+        Said { words, places: Vec::new() }
+    }
+}
+
+/// What is said of the place that another repeats.
+pub const REPEATED: &str = "It repeats this one:";
+
+/// Why a system needs no new signals.
+pub const QUADRATIC: &str = "each term is a product of at most two variables";
+
+pub fn signals(number: u64) -> String {
     counted(number, "new signal")
 }
 
@@ -41,7 +53,6 @@ fn stopped(reply: &Reply) -> String {
 pub fn said(reply: &Reply, settings: &Settings, system: &System, sources: &[Source]) -> Said {
     let mut places = Vec::new();
     let words = match reply.code {
-        DONE => done(reply),
         SETTING => setting(settings),
         LENGTH => {
             if let Some(first) = system.terms.get(TERMS) {
@@ -56,9 +67,9 @@ pub fn said(reply: &Reply, settings: &Settings, system: &System, sources: &[Sour
         TERM | TWICE => {
             let place = reply.place as usize;
             let Some(term) = place.checked_sub(1).and_then(|i| system.terms.get(i)) else {
-                return Said { words: format!("Refused: term {place}."), places };
+                return format!("Refused: term {place}.").into();
             };
-            let text = short(&sources[term.span.source].text[term.span.from..term.span.to]);
+            let text = short(text_of(sources, term.span));
             places.push(("", term.span));
             if reply.code == TERM {
                 let broken = rule::broken(term, &system.names).unwrap_or("a field of it breaks its rule".into());
@@ -68,7 +79,7 @@ pub fn said(reply: &Reply, settings: &Settings, system: &System, sources: &[Sour
                     .iter()
                     .find(|other| other.equation == term.equation && other.powers == term.powers);
                 if let Some(earlier) = earlier {
-                    places.push(("It repeats this one:", earlier.span));
+                    places.push((REPEATED, earlier.span));
                 }
                 let left = &system.names[term.equation - 1];
                 format!(
@@ -76,18 +87,28 @@ pub fn said(reply: &Reply, settings: &Settings, system: &System, sources: &[Sour
                 )
             }
         }
+        _ => match &system.given {
+            Some(given) => return thinned::said(reply, given, system, sources),
+            None => planned(reply, settings),
+        },
+    };
+    Said { words, places }
+}
+
+fn planned(reply: &Reply, settings: &Settings) -> String {
+    match reply.code {
+        DONE => done(reply),
         NONE => none(reply),
         FULL => full(reply, settings),
         SPENT => spent(reply),
         code => format!("Code {code}, which planning never gives."),
-    };
-    Said { words, places }
+    }
 }
 
 fn done(reply: &Reply) -> String {
     let ended = format!("The whole search has ended, after {}.", counted(reply.steps, "step"));
     match (reply.order, reply.count) {
-        (0, _) => format!("Nothing needs to be added: each term is a product of at most two variables.\n{ended}"),
+        (0, _) => format!("Nothing needs to be added: {QUADRATIC}.\n{ended}"),
         (order, 1) => format!("Found: 1 smallest set, of {}, and it is the only one.\n{ended}", signals(order)),
         (order, count) => {
             format!("Found: {} smallest sets, of {} each, and these are all.\n{ended}", grouped(count), signals(order))

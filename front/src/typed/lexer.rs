@@ -1,4 +1,4 @@
-//! The words of an equation: names, numbers and signs, each with its place.
+//! The words of an equation or a set: names, numbers and signs, each with its place.
 
 use crate::typed::text::{Source, Span};
 
@@ -12,7 +12,7 @@ pub enum Word {
     Minus,
     Times,
     Power,
-    /// The end of an equation: a line's end, a comma or a semicolon.
+    /// The end of an equation or of a signal: a line's end, a comma or a semicolon.
     Break,
     /// Any other character. The parser says what is wrong with it where it stands.
     Other(char),

@@ -1,5 +1,6 @@
-//! What was typed: the command line, the equations, and the system that they are.
+//! What was typed: the command line, the equations with the system that they are, and the set that is to be thinned.
 
+pub mod given;
 pub mod lexer;
 pub mod options;
 pub mod parser;

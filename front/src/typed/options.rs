@@ -8,6 +8,8 @@ use crate::typed::text::{short, Source};
 #[derive(Debug, PartialEq, Default)]
 pub struct Options {
     pub settings: Settings,
+    /// The text of the set that is to be thinned.
+    pub thin: Option<String>,
     pub svg: Option<String>,
     pub json: bool,
     pub help: bool,
@@ -24,6 +26,7 @@ pub fn options(arguments: impl IntoIterator<Item = String>) -> Result<Options, S
     let mut options = Options::default();
     let mut arguments = arguments.into_iter();
     let mut plain = false;
+    let mut limit = None;
     while let Some(argument) = arguments.next() {
         if plain || !argument.starts_with('-') || argument == "-" {
             options.inputs.push(input(argument));
@@ -44,7 +47,7 @@ pub fn options(arguments: impl IntoIterator<Item = String>) -> Result<Options, S
             }
             continue;
         }
-        if !matches!(name.as_str(), "--cards" | "--steps" | "--sets" | "--set" | "--svg" | "--file") {
+        if !matches!(name.as_str(), "--cards" | "--steps" | "--sets" | "--set" | "--thin" | "--svg" | "--file") {
             return Err(format!("{name} is no option (--help lists them)"));
         }
         let value = joined.or_else(|| arguments.next()).ok_or(format!("{name} needs a value after it"))?;
@@ -57,11 +60,20 @@ pub fn options(arguments: impl IntoIterator<Item = String>) -> Result<Options, S
                 let which = number()?.value().filter(|&which| which != 0);
                 options.settings.which = which.ok_or(format!("{name} takes the number of a set, from 1"))?;
             }
+            "--thin" => options.thin = Some(value),
             "--svg" => options.svg = Some(value),
             _ => options.inputs.push(Input::File(value)),
         }
+        if matches!(name.as_str(), "--cards" | "--steps" | "--sets") {
+            limit = limit.or(Some(name));
+        }
     }
-    Ok(options)
+    match limit {
+        Some(name) if options.thin.is_some() => {
+            Err(format!("{name} does not go with --thin, which judges every subset of the given set"))
+        }
+        _ => Ok(options),
+    }
 }
 
 fn input(argument: String) -> Input {
@@ -138,6 +150,17 @@ mod tests {
     }
 
     #[test]
+    fn a_set_is_kept_as_typed() {
+        let read = |words: &[&str]| read(words).unwrap();
+        assert_eq!(read(&["x' = x^3"]).thin, None);
+        assert_eq!(read(&["--thin", "x^2, x", "x' = x^3"]).thin, Some("x^2, x".into()));
+        assert_eq!(read(&["--thin", ""]).thin, Some("".into()), "an empty set is a set");
+        let options = read(&["--thin=w1 = x^2", "--set", "2", "--svg", "a.svg", "--json"]);
+        assert_eq!(options.thin, Some("w1 = x^2".into()));
+        assert_eq!((options.settings.which, options.svg, options.json), (2, Some("a.svg".into()), true));
+    }
+
+    #[test]
     fn numbers_out_of_range_are_for_the_planner() {
         assert!(read(&["--cards", "99"]).is_ok());
         assert!(read(&["--steps", "99999999999999999999999"]).is_ok());
@@ -154,6 +177,10 @@ mod tests {
             (vec!["--steps", "1e9"], "whole number"),
             (vec!["--set", "0"], "from 1"),
             (vec!["--json=yes"], "takes no value"),
+            (vec!["--thin"], "needs a value"),
+            (vec!["--thin", "x^2", "--cards", "2"], "--cards does not go with --thin"),
+            (vec!["--steps=9", "--sets", "1", "--thin", "x^2"], "--steps does not go with --thin"),
+            (vec!["--sets", "1", "--thin="], "--sets does not go with --thin"),
         ] {
             let fault = read(&words).unwrap_err();
             assert!(fault.contains(said), "{words:?}: {fault}");

@@ -1,9 +1,9 @@
-//! Equations from text. Terms are kept as typed, unmerged, each with its place: what is wrong with a system is for the
-//! planner to say, and what is no system at all is said here.
+//! Equations and sets from text. Terms and signals are kept as typed, unmerged, each with its place: what is wrong with
+//! a system or a set is for the planner to say, and what is none at all is said here.
 
 use crate::panel::{CARDS, VARIABLES};
 use crate::typed::lexer::{tokens, Token, Word};
-use crate::typed::text::{short, Fault, Source, Span};
+use crate::typed::text::{short, text_of, Fault, Source, Span};
 
 /// A name of the text. Numbers count from 1.
 #[derive(Debug, Clone, Copy, PartialEq)]
@@ -61,6 +61,23 @@ pub struct Typed {
     pub namings: Vec<(Variable, Span)>,
     /// Every name that stands in an equation, in the order of the text.
     pub names: Vec<(Variable, Span)>,
+    /// The set that is to be thinned.
+    pub given: Option<Given>,
+}
+
+/// A set of new signals.
+#[derive(Debug, Default, PartialEq)]
+pub struct Given {
+    /// In the order of the text, each a term without sign and coefficient.
+    pub signals: Vec<Term>,
+    pub names: Vec<(Variable, Span)>,
+}
+
+impl Typed {
+    /// Every name of the equations, then those of the set.
+    pub fn all_names(&self) -> impl Iterator<Item = (Variable, Span)> + '_ {
+        self.names.iter().chain(self.given.iter().flat_map(|given| &given.names)).copied()
+    }
 }
 
 pub fn parse(sources: &[Source]) -> Result<Typed, Fault> {
@@ -72,7 +89,7 @@ pub fn parse(sources: &[Source]) -> Result<Typed, Fault> {
     if typed.equations.is_empty() {
         return Err(Fault::nowhere("there is no equation here; one reads x' = x^4 + x^3"));
     }
-    one_style(&typed.names)?;
+    one_style(&typed)?;
     for &(name, span) in &typed.namings {
         if !typed.equations.iter().any(|e| e.left == name) {
             let name = text_of(sources, span);
@@ -82,15 +99,26 @@ pub fn parse(sources: &[Source]) -> Result<Typed, Fault> {
     Ok(typed)
 }
 
-fn text_of(sources: &[Source], span: Span) -> &str {
-    &sources[span.source].text[span.from..span.to]
+/// The same where a set is to be thinned: its text is the last source, the others hold the equations.
+pub fn parse_with_set(sources: &[Source]) -> Result<Typed, Fault> {
+    let Some((set, equations)) = sources.split_last() else {
+        return parse(sources);
+    };
+    let mut typed = parse(equations)?;
+    // The names of a set are kept apart from those that stand in equations.
+    let mut own = Typed::default();
+    let mut parser = Parser { tokens: tokens(equations.len(), set), at: 0, text: &set.text, typed: &mut own };
+    let signals = parser.set()?;
+    typed.given = Some(Given { signals, names: own.names });
+    one_style(&typed)?;
+    Ok(typed)
 }
 
-fn one_style(names: &[(Variable, Span)]) -> Result<(), Fault> {
-    let letters = names.iter().find(|n| matches!(n.0, Variable::Letter(_)));
-    let numbered = names.iter().find(|n| matches!(n.0, Variable::Numbered(_)));
+fn one_style(typed: &Typed) -> Result<(), Fault> {
+    let letters = typed.all_names().find(|n| matches!(n.0, Variable::Letter(_)));
+    let numbered = typed.all_names().find(|n| matches!(n.0, Variable::Numbered(_)));
     match (letters, numbered) {
-        (Some(&(_, a)), Some(&(_, b))) => {
+        (Some((_, a)), Some((_, b))) => {
             let later = if (a.source, a.from) < (b.source, b.from) { b } else { a };
             Err(Fault::at(
                 later,
@@ -238,9 +266,18 @@ impl Parser<'_> {
     }
 
     fn term(&mut self, negative: bool) -> Result<Term, Fault> {
+        self.product(negative, Self::factor)
+    }
+
+    /// A product, each factor of it read by `factor`.
+    fn product(
+        &mut self,
+        negative: bool,
+        factor: fn(&mut Self, &mut Term) -> Result<(), Fault>,
+    ) -> Result<Term, Fault> {
         let mut term = Term { negative, size: 1, powers: Vec::new(), span: self.span() };
         loop {
-            self.factor(&mut term)?;
+            factor(self, &mut term)?;
             term.span = term.span.to_end_of(self.tokens[self.at - 1].span);
             match self.word() {
                 Word::Times => {
@@ -270,6 +307,50 @@ impl Parser<'_> {
             Word::Break | Word::End => self.fault("a term is missing here (a right side that is nothing is written 0)"),
             Word::Other(_) => self.stranger(),
             _ => self.fault("a term is missing before this"),
+        }
+    }
+
+    /// Signals with a break between each two. A text with nothing in it is the empty set.
+    fn set(&mut self) -> Result<Vec<Term>, Fault> {
+        let mut signals = Vec::new();
+        if *self.word() == Word::End {
+            return Ok(signals);
+        }
+        loop {
+            signals.push(self.product(false, Self::power_of_a_name)?);
+            match self.word() {
+                Word::End => return Ok(signals),
+                Word::Break => {
+                    self.take();
+                }
+                Word::Power => return self.fault("a power of a power: multiply it out"),
+                _ => return self.no_signal(),
+            }
+        }
+    }
+
+    /// A factor of a new signal, which is no number.
+    fn power_of_a_name(&mut self, signal: &mut Term) -> Result<(), Fault> {
+        match self.word() {
+            Word::Name(_) => self.factor(signal),
+            _ => self.no_signal(),
+        }
+    }
+
+    /// Says what is wrong with a word that a set does not have where this one stands.
+    fn no_signal<T>(&self) -> Result<T, Fault> {
+        match self.word() {
+            Word::Number(_) => self.fault("a number: a new signal is a product of powers alone, as in x^2*y"),
+            Word::Plus | Word::Minus => {
+                self.fault("a sign: new signals are products of powers, with commas between them")
+            }
+            Word::Prime | Word::Equals => self.fault("an equation: a set lists products alone, as in x^2, x*y"),
+            Word::Other('(' | ')' | '[' | ']' | '{' | '}') => {
+                self.fault("brackets: a set is written without them, as in x^2, x*y")
+            }
+            Word::Other(_) => self.stranger(),
+            Word::Break | Word::End => self.fault("a signal is missing here"),
+            _ => self.fault("a signal is missing before this"),
         }
     }
 
@@ -515,5 +596,83 @@ mod tests {
         assert!(words.contains("not both"), "{words}");
         assert_eq!(at, "x2");
         assert_eq!(bad("x1' = x").1, "x");
+    }
+
+    /// The powers and the text of each signal of a set.
+    fn signals(set: &str) -> Vec<(Vec<(Variable, u128)>, String)> {
+        let sources = sources(&["x' = y", set]);
+        let typed = parse_with_set(&sources).unwrap_or_else(|fault| panic!("{set}: {fault:?}"));
+        let signals = typed.given.unwrap().signals.into_iter();
+        signals.map(|s| (s.powers, text_of(&sources, s.span).to_string())).collect()
+    }
+
+    /// The words of a refusal of a set, and what they point at, which is in the set.
+    fn bad_set(set: &str) -> (String, String) {
+        let sources = sources(&["x' = y", set]);
+        let fault = parse_with_set(&sources).expect_err(set);
+        let span = fault.span.unwrap();
+        assert_eq!(span.source, 1, "{set}");
+        (fault.words, text_of(&sources, span).to_string())
+    }
+
+    #[test]
+    fn a_set_is_read_as_products_are() {
+        assert_eq!(
+            signals("x^2, x y^2*x;y**3 # the last"),
+            vec![
+                (vec![(X, 2)], "x^2".into()),
+                (vec![(X, 1), (Y, 2), (X, 1)], "x y^2*x".into()),
+                (vec![(Y, 3)], "y**3".into())
+            ]
+        );
+        assert_eq!(signals("x, x, x^0, x^99").len(), 4, "what breaks a rule is left to the planner");
+        for empty in ["", "  ", "# nothing"] {
+            assert_eq!(signals(empty), vec![], "{empty:?}");
+        }
+        assert_eq!(good("x' = y").given, None, "no set is not the empty set");
+    }
+
+    #[test]
+    fn what_is_no_set() {
+        for (set, words, at) in [
+            ("1", "a number", "1"),
+            ("2*x^2", "a number", "2"),
+            ("x^2 3", "a number", "3"),
+            ("-x^2", "a sign", "-"),
+            ("x^2 + x^3", "a sign", "+"),
+            ("x^2, u", "u is not known", "u"),
+            ("x^2, xy", "x*y or x y", "xy"),
+            ("sin(x)", "function", "sin"),
+            ("w1 = x^2", "an equation", "="),
+            ("x' = x", "an equation", "'"),
+            ("{x^2}", "written without them", "{"),
+            ("x^2)", "written without them", ")"),
+            ("x^2/y", "fraction", "/"),
+            ("x^-1", "negative power", "-"),
+            ("x^y", "whole number", "y"),
+            ("x^2^3", "a power of a power", "^"),
+            ("x²", "with ^", "²"),
+            ("x^2 $ y", "not read", "$"),
+            ("^2", "missing before", "^"),
+            ("x^2, *y", "missing before", "*"),
+            (",", "missing here", ","),
+            (", x^2", "missing here", ","),
+            ("x^2,, x^3", "missing here", ","),
+            ("x^2,", "missing here", ""),
+            ("x^2*", "missing here", ""),
+        ] {
+            let (said, pointed) = bad_set(set);
+            assert!(said.contains(words), "{set}: {said}");
+            assert_eq!(pointed, at, "{set}");
+        }
+    }
+
+    #[test]
+    fn a_set_is_named_as_its_equations_are() {
+        let (words, at) = bad_set("y^2, x2^2, x1");
+        assert!(words.contains("not both"), "{words}");
+        assert_eq!(at, "x2");
+        let faulty = parse_with_set(&sources(&["x' = x +", "1"])).unwrap_err();
+        assert_eq!(faulty.span.unwrap().source, 0, "the equations come first");
     }
 }

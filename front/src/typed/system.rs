@@ -1,8 +1,9 @@
-//! The typed equations as the box takes them: numbered variables and term records.
+//! The typed equations as the box takes them: numbered variables and term records; and the set that is to be thinned.
 
 use crate::algebra::{self, Exponents};
 use crate::panel::{COEFFICIENT_AT, EXPONENTS_AT, TERM_BYTES, VARIABLES};
-use crate::typed::parser::{Typed, Variable, LETTERS};
+use crate::typed::given::{Given, Signal};
+use crate::typed::parser::{self, Typed, Variable, LETTERS};
 use crate::typed::text::{Fault, Span};
 
 /// A term record.
@@ -23,12 +24,24 @@ impl Record {
     }
 }
 
+/// The typed power of each variable, however large.
+pub type Powers = [u128; VARIABLES];
+
+/// The powers as the box holds them; nothing where one does not fit a byte.
+pub fn exponents(powers: &Powers) -> Option<Exponents> {
+    let mut exponents = [0; VARIABLES];
+    for (e, &power) in exponents.iter_mut().zip(powers) {
+        *e = u8::try_from(power).ok()?;
+    }
+    Some(exponents)
+}
+
 /// A term as typed, with its variables numbered. It need not fit a record.
 #[derive(Debug, Clone, PartialEq)]
 pub struct Term {
     /// From 1.
     pub equation: usize,
-    pub powers: [u128; VARIABLES],
+    pub powers: Powers,
     pub negative: bool,
     pub size: u128,
     pub span: Span,
@@ -37,10 +50,7 @@ pub struct Term {
 impl Term {
     /// Nothing where a power does not fit a byte or the coefficient 32 bits.
     pub fn record(&self) -> Option<Record> {
-        let mut exponents = [0; VARIABLES];
-        for (e, &power) in exponents.iter_mut().zip(&self.powers) {
-            *e = u8::try_from(power).ok()?;
-        }
+        let exponents = exponents(&self.powers)?;
         let size = i64::try_from(self.size).ok()?;
         let coefficient = i32::try_from(if self.negative { -size } else { size }).ok()?;
         Some(Record { equation: self.equation as u8, exponents, coefficient })
@@ -62,11 +72,13 @@ pub struct System {
     pub wired: usize,
     /// The names that lines like `w1 = x^2` gave.
     pub namings: Vec<String>,
+    /// The set that is to be thinned; nothing where a plan is asked for.
+    pub given: Option<Given>,
 }
 
 impl System {
     pub fn of(typed: &Typed) -> Result<System, Fault> {
-        let largest = |of: fn(Variable) -> usize| typed.names.iter().map(|&(v, _)| of(v)).max().unwrap_or(0);
+        let largest = |of: fn(Variable) -> usize| typed.all_names().map(|(v, _)| of(v)).max().unwrap_or(0);
         let plain = largest(|v| match v {
             Variable::Letter(i) | Variable::Numbered(i) => i,
             Variable::Wired(_) => 0,
@@ -80,11 +92,19 @@ impl System {
             Variable::Letter(i) | Variable::Numbered(i) => i,
             Variable::Wired(i) => plain + i,
         };
-        if let Some(&(_, span)) = typed.names.iter().find(|&&(v, _)| VARIABLES < number(v)) {
+        if let Some((_, span)) = typed.all_names().find(|&(v, _)| VARIABLES < number(v)) {
             let count = plain + wired;
             return Err(Fault::at(span, format!("{count} variables, and the box takes up to {VARIABLES}")));
         }
-        let letters = typed.names.iter().any(|&(v, _)| matches!(v, Variable::Letter(_)));
+        let powers = |factors: &[(Variable, u128)]| {
+            let mut powers: Powers = [0; VARIABLES];
+            for &(v, power) in factors {
+                let place = &mut powers[number(v) - 1];
+                *place = place.saturating_add(power);
+            }
+            powers
+        };
+        let letters = typed.all_names().any(|(v, _)| matches!(v, Variable::Letter(_)));
         let name = |i: usize| match i {
             i if plain <= i => format!("w{}", i - plain + 1),
             i if letters => LETTERS[i].into(),
@@ -98,6 +118,7 @@ impl System {
             terms: Vec::new(),
             wired,
             namings: Vec::new(),
+            given: None,
         };
         for &(v, _) in &typed.names {
             system.used[number(v) - 1] = true;
@@ -109,15 +130,12 @@ impl System {
             let left = number(equation.left);
             system.fed[left - 1] = true;
             for term in &equation.terms {
-                let mut powers = [0u128; VARIABLES];
-                for &(v, power) in &term.powers {
-                    let place = &mut powers[number(v) - 1];
-                    *place = place.saturating_add(power);
-                }
                 let (negative, size, span) = (term.negative, term.size, term.span);
-                system.terms.push(Term { equation: left, powers, negative, size, span });
+                system.terms.push(Term { equation: left, powers: powers(&term.powers), negative, size, span });
             }
         }
+        let signal = |typed: &parser::Term| Signal { powers: powers(&typed.powers), span: typed.span };
+        system.given = typed.given.as_ref().map(|set| Given { signals: set.signals.iter().map(signal).collect() });
         Ok(system)
     }
 
@@ -130,6 +148,35 @@ impl System {
     pub fn unfed(&self) -> Vec<&str> {
         let all = self.names.iter().zip(&self.used).zip(&self.fed);
         all.filter(|((_, &used), &fed)| used && !fed).map(|((name, _), _)| name.as_str()).collect()
+    }
+
+    /// Variables that stand in no equation, and in the set that is to be thinned.
+    pub fn only_given(&self) -> Vec<&str> {
+        let stands = |i: usize| self.given.iter().flat_map(|given| &given.signals).any(|s| s.powers[i] != 0);
+        let all = self.names.iter().enumerate();
+        all.filter(|&(i, _)| !self.used[i] && stands(i)).map(|(_, name)| name.as_str()).collect()
+    }
+
+    /// The signals of the patch that a set makes, by number: 1, the variables, the new ones.
+    pub fn signals(&self, set: &[Exponents]) -> Vec<Exponents> {
+        let one = [0; VARIABLES];
+        let variable = |i: usize| {
+            let mut variable = one;
+            variable[i] = 1;
+            variable
+        };
+        let variables = (0..self.names.len()).map(variable);
+        std::iter::once(one).chain(variables).chain(set.iter().copied()).collect()
+    }
+
+    /// What each new signal of a set is, as text over the variables.
+    pub fn set(&self, set: &[Exponents]) -> Vec<String> {
+        set.iter().map(|m| algebra::monomial(&self.names, m)).collect()
+    }
+
+    /// The name of new signal number `i` of a set, from 1.
+    pub fn new_name(&self, i: usize) -> String {
+        format!("w{}", self.wired + i)
     }
 
     /// The equations as they were read, variable by variable.
@@ -148,12 +195,21 @@ impl System {
 #[cfg(test)]
 pub mod tests {
     use super::*;
-    use crate::typed::parser::parse;
+    use crate::typed::parser::{parse, parse_with_set};
     use crate::typed::text::Source;
 
     pub fn system(text: &str) -> System {
         let sources = [Source { file: None, text: text.into() }];
         System::of(&parse(&sources).unwrap()).unwrap()
+    }
+
+    /// The equations and the set that is to be thinned, as sources.
+    pub fn sources_with_set(text: &str, set: &str) -> [Source; 2] {
+        [text, set].map(|text| Source { file: None, text: text.into() })
+    }
+
+    pub fn with_set(text: &str, set: &str) -> System {
+        System::of(&parse_with_set(&sources_with_set(text, set)).unwrap()).unwrap()
     }
 
     fn exponents(first: [u8; 3]) -> Exponents {
@@ -212,13 +268,38 @@ pub mod tests {
     }
 
     #[test]
+    fn a_set_has_the_variables_of_its_equations_and_its_own() {
+        let system = with_set("x1' = x2^3", "x4^2, x2*x3^0");
+        assert_eq!(system.names, ["x1", "x2", "x3", "x4"]);
+        assert_eq!(system.used, [true, true, false, false]);
+        assert_eq!(system.unfed(), ["x2"]);
+        assert_eq!(system.only_given(), ["x4"], "x3 stands there with the power 0");
+        assert_eq!(system.given.as_ref().unwrap().signals[0].powers, [0, 0, 0, 2, 0, 0]);
+        assert_eq!(super::tests::system("x1' = x2^3").only_given(), Vec::<&str>::new());
+        let sources = sources_with_set("x4' = w2", "x4^2, w2*w3");
+        let fault = System::of(&parse_with_set(&sources).unwrap()).unwrap_err();
+        assert_eq!(fault.words, "7 variables, and the box takes up to 6");
+        assert_eq!(fault.span.map(|span| (span.source, span.from)), Some((1, 9)));
+    }
+
+    #[test]
+    fn signals_by_number() {
+        let system = with_set("x' = w1, w1' = 1", "x^2");
+        let x2 = exponents([2, 0, 0]);
+        let (one, x, w1) = (exponents([0, 0, 0]), exponents([1, 0, 0]), exponents([0, 1, 0]));
+        assert_eq!(system.signals(&[x2]), [one, x, w1, x2]);
+        assert_eq!((system.set(&[x2]), system.new_name(1)), (vec!["x^2".to_string()], "w2".to_string()));
+    }
+
+    #[test]
     fn equations_are_shown_as_read() {
         let system = system("y' = - x 2 + 3y\nx' = 0");
         assert_eq!(system.equations(&system.records().unwrap()), ["x' = 0", "y' = -2*x + 3*y"]);
     }
 
-    /// Texts of all sorts: pieces of equations in any order, in every other text such as may stand there.
-    fn babble(seed: &mut u64) -> String {
+    /// Texts of all sorts: pieces of equations and sets in any order, in every other text such as may stand there after
+    /// `start`.
+    fn babble(seed: &mut u64, start: &'static str) -> String {
         const GOOD: [&str; 14] =
             ["x", "y", "z^2", "x^3", "**2", "2", "10", "*", " ", " + ", " - ", "+", ", y' = -", "\nz' = "];
         const ALL: [&str; 32] = [
@@ -260,7 +341,7 @@ pub mod tests {
             (*seed >> 33) as usize % bound
         };
         let length = 1 + next(10);
-        let (start, pieces): (&str, &[&str]) = if next(2) == 0 { ("x' = x", &GOOD) } else { ("", &ALL) };
+        let (start, pieces): (&str, &[&str]) = if next(2) == 0 { (start, &GOOD) } else { ("", &ALL) };
         let rest: String = (0..length).map(|_| pieces[next(pieces.len())]).collect();
         format!("{start}{rest}")
     }
@@ -269,7 +350,7 @@ pub mod tests {
     fn no_text_is_too_odd_and_what_is_shown_is_what_was_read() {
         let (mut seed, mut read) = (1, 0);
         for _ in 0..20_000 {
-            let text = babble(&mut seed);
+            let text = babble(&mut seed, "x' = x");
             let sources = [Source { file: None, text }];
             let system = match parse(&sources).and_then(|typed| System::of(&typed)) {
                 Ok(system) => system,
@@ -287,6 +368,27 @@ pub mod tests {
                 let n = system.names.len();
                 assert_eq!(shown.records(), Ok(records), "{:?}", sources[0].text);
                 assert_eq!(shown.names[..], system.names[..shown.names.len().min(n)], "{:?}", sources[0].text);
+                read += 1;
+            }
+        }
+        assert!(500 < read, "{read}");
+    }
+
+    #[test]
+    fn no_set_is_too_odd_and_what_is_shown_is_what_was_read() {
+        let (mut seed, mut read) = (1, 0);
+        for _ in 0..20_000 {
+            let sources = sources_with_set("x' = y, z' = 1", &babble(&mut seed, "x*y, x"));
+            let system = match parse_with_set(&sources).and_then(|typed| System::of(&typed)) {
+                Ok(system) => system,
+                Err(fault) => {
+                    fault.span.map(|span| crate::typed::text::point(&sources, span));
+                    continue;
+                }
+            };
+            if let Some(set) = system.given.as_ref().unwrap().set() {
+                let shown = with_set("x' = y, z' = 1", &system.set(&set).join(", "));
+                assert_eq!(shown.given.unwrap().set(), Some(set), "{:?}", sources[1].text);
                 read += 1;
             }
         }

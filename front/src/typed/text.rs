@@ -1,6 +1,6 @@
 //! What was typed, and pointing at a place in it.
 
-/// A text that equations are read from: an argument, a file or standard input.
+/// A text that equations or a set are read from: an argument, a file or standard input.
 #[derive(Debug, Clone, PartialEq)]
 pub struct Source {
     /// The file's name, or nothing for an argument.
@@ -37,6 +37,11 @@ impl Fault {
     pub fn nowhere(words: impl Into<String>) -> Fault {
         Fault { words: words.into(), span: None }
     }
+}
+
+/// What stands in a span.
+pub fn text_of(sources: &[Source], span: Span) -> &str {
+    &sources[span.source].text[span.from..span.to]
 }
 
 /// The line of a span: its number from 1, its text, and the columns of the span in it, in characters from 0.
