@@ -38,7 +38,8 @@ plus equation m = equation ∷ 0 ∷ padded m ++ 1 ∷ 0 ∷ 0 ∷ 0 ∷ []
 unfoldable pub minus : ℕ → List ℕ → List ℕ
 minus equation m = equation ∷ 0 ∷ padded m ++ 255 ∷ 255 ∷ 255 ∷ 255 ∷ []
 
-set : List (List ℕ) → List ℕ
+-- a set record
+unfoldable pub set : List (List ℕ) → List ℕ
 set s = gather padded s ++ replicate (36 - 6 * length s) 0
 
 -- a wiring record with a small coefficient, and with its negative

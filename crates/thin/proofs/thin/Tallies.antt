@@ -15,7 +15,7 @@ use Rattle.monomial.proofs.order.Laws.{ℕ-order}
 use Rattle.wiring.specs.Poly.{Poly}
 use Rattle.walk.specs.Walk.{Finds}
 use Rattle.thin.specs.Subsets.{subsets, Tally, tally, isQuadratic, met, metAll}
-use Rattle.thin.specs.Thin.{leastSize, quadraticOnes, least, thinnest}
+use Rattle.thin.specs.Thin.{leastSize, sized, quadraticOnes, least, thinnest}
 use Rattle.thin.proofs.subsets.Laws.{subsets-count}
 use Rattle.thin.proofs.subsets.Meeting.{met-not, met-larger, met-smaller, met-alike}
 
@@ -32,14 +32,8 @@ least-lower a b [] h = omega arith
 least-lower a b (t ∷ l) h = let ih : leastSize a l ≡ min a (leastSize b l) = least-lower a b l h in omega arith
 
 -- ---- those of one size
-abbrev sized : ℕ → Finds → Finds
-sized k l = keep (λ (t : List Mono). eqb (length t) k) l
-
 eq→eqb : (a b : ℕ) → a ≡ b → T (eqb a b)
 eq→eqb a b e = subst (λ (c : ℕ). T (eqb a c)) e (eqb-refl a)
-
-sized-yes : (k : ℕ) (s : List Mono) (l : Finds) → length s ≡ k → sized k (s ∷ l) ≡ s ∷ sized k l
-sized-yes k s l e = keep-yes (λ (t : List Mono). eqb (length t) k) s l (eq→eqb (length s) k e)
 
 sized-no : (k : ℕ) (s : List Mono) (l : Finds) → (length s ≡ k → ⊥) → sized k (s ∷ l) ≡ sized k l
 sized-no k s l n = keep-no (λ (t : List Mono). eqb (length t) k) s l (λ t. n (eqb→eq (length s) k t))
