@@ -1,4 +1,4 @@
--- Thinning: what the subsets that were met come to, what each reply says, and that it is the only one.
+-- Thinning: what the subsets that were sifted come to, what each reply says, and that it is the only one.
 pub mod Tallies
 pub mod Laws
 pub mod Smallest

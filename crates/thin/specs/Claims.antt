@@ -26,7 +26,7 @@ use Rattle.thin.specs.Thin.{least, thinnest}
 -- ---- the smallest quadratic subsets of s
 module _ (n : ℕ) (terms : List ℕ) (s : List Mono) (order : ℕ) where
   -- one of them: its signals are signals of s, and it can stand in a set record of n variables
-  pub record Thin (t : List Mono) : Type 0 where
+  pub record ThinSet (t : List Mono) : Type 0 where
     pub part : t ⊆ s
     pub recordable : Recordable n t
     pub quadratic : QuadraticList n (system (records terms)) t
@@ -41,7 +41,7 @@ module _ (n : ℕ) (terms : List ℕ) (s : List Mono) (order : ℕ) where
     pub none-thinner : NoneThinner
     -- every quadratic list of that many signals of s, put in order, is listed
     pub all : (t : List Mono) → t ⊆ s → QuadraticList n (system (records terms)) t → length t ≡ order → arrangeBy same before t ∈ l
-    pub each : (t : List Mono) → t ∈ l → Thin t
+    pub each : (t : List Mono) → t ∈ l → ThinSet t
     pub ascending : Ascending beforeSet l
     pub some : l ≡ [] → ⊥
 

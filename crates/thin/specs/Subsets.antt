@@ -1,4 +1,4 @@
--- The subsets of a set, and what is known once some of them are met. Assumes nothing.
+-- The subsets of a set, and what is known once some of them are sifted. Assumes nothing.
 use mathlib.Core.Path.{_≡_}
 use mathlib.Core.Bool.{Bool, not, cond}
 use mathlib.Core.List.{List, [], _∷_, _++_, map}
@@ -24,7 +24,7 @@ unfoldable pub subsets : {A : Type 0} → List A → List (List A)
 subsets [] = [] ∷ []
 subsets (x ∷ l) = let r = subsets l in map (_∷_ x) r ++ r
 
--- ---- the best of the sets that were met: their least size, those of that size in the order in which they were met, and how many were met
+-- ---- the best of the sets that were sifted: their least size, those of that size in the order in which they were sifted, and how many were sifted
 pub record Tally : Type 0 where
   pub order : ℕ
   pub sets : Finds
@@ -37,18 +37,18 @@ module _ (n : ℕ) (fs : List (Poly Mono)) where
   abbrev pub isQuadratic : List Mono → Bool
   isQuadratic s = not (some (missing n fs s))
 
-  -- one more is met: what is not quadratic or larger is passed over, a smaller one begins the list anew, another joins it
-  unfoldable pub met : Tally → List Mono → Tally
-  met t s =
+  -- one more is sifted: what is not quadratic or larger is passed over, a smaller one begins the list anew, another joins it
+  unfoldable pub sifted : Tally → List Mono → Tally
+  sifted t s =
       let passed = tally (t .order) (t .sets) (suc (t .steps)) in
       let anew = tally (length s) (s ∷ []) (suc (t .steps)) in
       let joined = tally (length s) (t .sets ++ (s ∷ [])) (suc (t .steps)) in
       cond (isQuadratic s) (cond (ltb (t .order) (length s)) passed (cond (ltb (length s) (t .order)) anew joined)) passed
 
   -- and so one after the other
-  unfoldable pub metAll : Tally → Finds → Tally
-  metAll t [] = t
-  metAll t (s ∷ l) = metAll (met t s) l
+  unfoldable pub allSifted : Tally → Finds → Tally
+  allSifted t [] = t
+  allSifted t (s ∷ l) = allSifted (sifted t s) l
 
 -- ---- as the code has it
 -- the buffer holds the records of the list as far as there is room, then zeros
@@ -62,14 +62,14 @@ pub record Holds (t : Tally) (b : Best) (out : List ℕ) : Type 0 where
   pub steps : b .steps ≡ t .steps
   pub list : Begun (t .sets) out
 
--- meeting the sets of l leads from one best to another
-pub record Meets (n : ℕ) (terms : List ℕ) (l : Finds) (b : Best) (out : List ℕ) (b' : Best) (out' : List ℕ) : Type 0 where
-  pub tallied : (t : Tally) → Holds t b out → Holds (metAll n (system (records terms)) t l) b' out'
+-- sifting the sets of l leads from one best to another
+pub record Sifting (n : ℕ) (terms : List ℕ) (l : Finds) (b : Best) (out : List ℕ) (b' : Best) (out' : List ℕ) : Type 0 where
+  pub tallied : (t : Tally) → Holds t b out → Holds (allSifted n (system (records terms)) t l) b' out'
   pub steps : b' .steps ≡ b .steps + length l
   pub counted : b' .count ≤ b' .steps
 
--- so many sets are yet to be met: no number grows too large
-pub record Ahead (b : Best) (left : ℕ) : Type 0 where
+-- so many sets are yet to be sifted: no number grows too large
+pub record Bounded (b : Best) (left : ℕ) : Type 0 where
   pub counted : b .count ≤ b .steps
   pub within : b .steps + left ≤ 2 ^ cards
 
@@ -84,7 +84,7 @@ pub record Judgeable (n : ℕ) (terms : List ℕ) (set : Set) : Type 0 where
 abbrev pub undecided : Set → ℕ → Set → Finds
 undecided given at kept = map (λ s. monomialsOf kept ++ s) (subsets (drop at (monomialsOf given)))
 
-pub record Decidable (n : ℕ) (terms : List ℕ) (given : Set) (at : ℕ) (kept : Set) : Type 0 where
+pub record Deciding (n : ℕ) (terms : List ℕ) (given : Set) (at : ℕ) (kept : Set) : Type 0 where
   pub whole : Judgeable n terms given
   pub part : Judgeable n terms kept
   pub within : at ≤ given .len

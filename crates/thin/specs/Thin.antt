@@ -22,8 +22,8 @@ leastSize bound [] = bound
 leastSize bound (t ∷ l) = min (length t) (leastSize bound l)
 
 -- the sets of one size
-abbrev pub sized : ℕ → Finds → Finds
-sized k l = keep (λ t. eqb (length t) k) l
+abbrev pub ofSize : ℕ → Finds → Finds
+ofSize k l = keep (λ t. eqb (length t) k) l
 
 module _ (n : ℕ) (fs : List (Poly Mono)) (s : List Mono) where
   -- the quadratic subsets, their least size, and those of that size
@@ -34,7 +34,7 @@ module _ (n : ℕ) (fs : List (Poly Mono)) (s : List Mono) where
   least = leastSize (length s) quadraticOnes
 
   unfoldable pub thinnest : Finds
-  thinnest = sized least quadraticOnes
+  thinnest = ofSize least quadraticOnes
 
   -- how thinning ends, with room for so many sets; each subset is a step
   unfoldable pub thinning : ℕ → Ending

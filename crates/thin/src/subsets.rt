@@ -1,4 +1,4 @@
-// The subsets of a set, each met once: every signal in turn is kept or dropped.
+// The subsets of a set, each sifted once: every signal in turn is kept or dropped.
 use monomial::Monomial;
 use walk::listing;
 use wiring::answers;
@@ -15,9 +15,9 @@ ghost use Rattle.wiring.specs.Terms.{records, system};
 ghost use Rattle.wiring.specs.Sets.{monomialsOf};
 ghost use Rattle.wiring.specs.Claims.{Wide};
 ghost use Rattle.walk.specs.Walk.{Finds};
-ghost use Rattle.thin.specs.Subsets.{isQuadratic, Begun, Meets, Ahead, Judgeable, undecided, Decidable};
+ghost use Rattle.thin.specs.Subsets.{isQuadratic, Begun, Sifting, Bounded, Judgeable, undecided, Deciding};
 
-// What the subsets that were met come to: the least size of a quadratic one, how many of them have it, and how many subsets were met: the steps.
+// What the subsets that were sifted come to: the least size of a quadratic one, how many of them have it, and how many subsets were sifted: the steps.
 pub struct Best {
     pub order: usize,
     pub count: usize,
@@ -43,10 +43,10 @@ fn join(out: &mut [u8], count: usize, set: Set)
     }
 }
 
-// Meets a subset: one that is quadratic is listed where none smaller was met before it.
-fn meet(n: usize, terms: &[u8], set: Set, out: &mut [u8], best: Best) -> Best
-    requires { ⌜ Judgeable n (now terms) set × Ahead best 1 ⌝ }
-    ensures { λ r. ⌜ Meets n (now (terms .entry)) (monomialsOf set ∷ []) best (now (out .entry)) r (now (out .exit)) ⌝ }
+// Sifts a subset: one that is quadratic is listed where none smaller was sifted before it.
+fn sift(n: usize, terms: &[u8], set: Set, out: &mut [u8], best: Best) -> Best
+    requires { ⌜ Judgeable n (now terms) set × Bounded best 1 ⌝ }
+    ensures { λ r. ⌜ Sifting n (now (terms .entry)) (monomialsOf set ∷ []) best (now (out .entry)) r (now (out .exit)) ⌝ }
 {
     let order = best.order;
     let count = best.count;
@@ -105,11 +105,11 @@ pub(crate) fn decide(
     out: &mut [u8],
     best: Best,
 ) -> Best
-    requires { ⌜ Decidable n (now terms) given at kept × Ahead best (length (undecided given at kept)) ⌝ }
-    ensures { λ r. ⌜ Meets n (now (terms .entry)) (undecided given at kept) best (now (out .entry)) r (now (out .exit)) ⌝ }
+    requires { ⌜ Deciding n (now terms) given at kept × Bounded best (length (undecided given at kept)) ⌝ }
+    ensures { λ r. ⌜ Sifting n (now (terms .entry)) (undecided given at kept) best (now (out .entry)) r (now (out .exit)) ⌝ }
 {
     if given.len <= at {
-        return meet(n, terms, kept, out, best);
+        return sift(n, terms, kept, out, best);
     }
     let m = given.m[at];
     let with = decide(n, terms, given, at + 1, with_last(kept, m), out, best);

@@ -15,11 +15,11 @@ use Rattle.wiring.specs.Sets.{monomialsOf}
 use Rattle.wiring.specs.declared.sets.Set.{Set}
 use Rattle.wiring.proofs.signals.Laws.{entry, front-length, front-at, front-drop}
 use Rattle.thin.specs.declared.subsets.Best.{Best}
-use Rattle.thin.specs.Subsets.{subsets, Meets, Ahead, undecided, Decidable}
+use Rattle.thin.specs.Subsets.{subsets, Sifting, Bounded, undecided, Deciding}
 use Rattle.thin.proofs.subsets.Laws.{behind-none, behind-first}
-use Rattle.thin.proofs.subsets.Meeting.{meets-append}
+use Rattle.thin.proofs.subsets.Sifting.{sifting-append}
 
-module _ (n : ℕ) (terms : List ℕ) (given : Set) (at : ℕ) (kept : Set) (d : Decidable n terms given at kept) (full : length (given .m) ≡ cards) where
+module _ (n : ℕ) (terms : List ℕ) (given : Set) (at : ℕ) (kept : Set) (d : Deciding n terms given at kept) (full : length (given .m) ≡ cards) where
   -- all are decided
   pub decided : given .len ≤ at → undecided given at kept ≡ monomialsOf kept ∷ []
   decided h =
@@ -47,7 +47,7 @@ module _ (n : ℕ) (terms : List ℕ) (given : Set) (at : ℕ) (kept : Set) (d :
         last : m ∈ (entry (given .m) at ∷ []) → (length m ≡ width) × AtMost setExponent m
         last j = ⊎-elim (λ e. d .whole .fits m (subst (λ (x : Mono). x ∈ monomialsOf given) (sym e) inside)) (λ z. absurd (List·Memᴰ·not-nil z)) (List·Memᴰ·cases-cons j)
 
-    pub keeping : Decidable n terms given (at + 1) more
+    pub keeping : Deciding n terms given (at + 1) more
     keeping = record {
       whole = d .whole;
       part = record { few = d .part .few; clean = d .part .clean; small = omega (arith, d .fewer, d .whole .small); fits = joined-fits };
@@ -55,22 +55,22 @@ module _ (n : ℕ) (terms : List ℕ) (given : Set) (at : ℕ) (kept : Set) (d :
       fewer = omega (arith, d .fewer);
     }
 
-    pub dropping : Decidable n terms given (at + 1) kept
+    pub dropping : Deciding n terms given (at + 1) kept
     dropping = record { whole = d .whole; part = d .part; within = omega arith; fewer = omega (arith, d .fewer) }
 
     -- the numbers have room for both parts
-    module _ (b : Best) (a : Ahead b (length (undecided given at kept))) where
+    module _ (b : Best) (a : Bounded b (length (undecided given at kept))) where
       parts : length (undecided given at kept) ≡ length (undecided given (at + 1) more) + length (undecided given (at + 1) kept)
       parts = ap length either ∙ length-append (undecided given (at + 1) more) (undecided given (at + 1) kept)
 
-      pub ahead-first : Ahead b (length (undecided given (at + 1) more))
-      ahead-first = record { counted = a .counted; within = omega (arith, a .within, parts) }
+      pub bounded-first : Bounded b (length (undecided given (at + 1) more))
+      bounded-first = record { counted = a .counted; within = omega (arith, a .within, parts) }
 
-      module _ (out : List ℕ) (b' : Best) (out' : List ℕ) (m : Meets n terms (undecided given (at + 1) more) b out b' out') where
-        pub ahead-then : Ahead b' (length (undecided given (at + 1) kept))
-        ahead-then = record { counted = m .counted; within = omega (arith, a .within, m .steps, parts) }
+      module _ (out : List ℕ) (b' : Best) (out' : List ℕ) (m : Sifting n terms (undecided given (at + 1) more) b out b' out') where
+        pub bounded-then : Bounded b' (length (undecided given (at + 1) kept))
+        bounded-then = record { counted = m .counted; within = omega (arith, a .within, m .steps, parts) }
 
-        pub meets-both : (b'' : Best) (out'' : List ℕ) → Meets n terms (undecided given (at + 1) kept) b' out' b'' out'' → Meets n terms (undecided given at kept) b out b'' out''
-        meets-both b'' out'' k =
-            subst (λ l. Meets n terms l b out b'' out'') (sym either)
-            (meets-append n terms (undecided given (at + 1) more) (undecided given (at + 1) kept) b out b' out' b'' out'' m k)
+        pub sifting-both : (b'' : Best) (out'' : List ℕ) → Sifting n terms (undecided given (at + 1) kept) b' out' b'' out'' → Sifting n terms (undecided given at kept) b out b'' out''
+        sifting-both b'' out'' k =
+            subst (λ l. Sifting n terms l b out b'' out'') (sym either)
+            (sifting-append n terms (undecided given (at + 1) more) (undecided given (at + 1) kept) b out b' out' b'' out'' m k)

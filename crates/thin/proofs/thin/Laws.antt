@@ -25,7 +25,7 @@ use Rattle.walk.specs.Walk.{Finds}
 use Rattle.walk.specs.Plan.{Ending, done, fullAt, setsBytes, said}
 use Rattle.walk.proofs.plan.Laws.{said-done, said-full}
 use Rattle.thin.specs.declared.subsets.Best.{Best}
-use Rattle.thin.specs.Subsets.{subsets, Tally, tally, metAll, Holds, Meets, Ahead, undecided, Decidable}
+use Rattle.thin.specs.Subsets.{subsets, Tally, tally, allSifted, Holds, Sifting, Bounded, undecided, Deciding}
 use Rattle.thin.specs.Thin.{least, thinnest, thinning, thinned}
 use Rattle.thin.proofs.subsets.Laws.{subsets-count}
 use Rattle.thin.proofs.subsets.Listing.{begun-none}
@@ -43,8 +43,8 @@ module _ (n : ℕ) (fs : List (Poly Mono)) (s : List Mono) (size : ℕ) where
 
 -- ---- a quadratic set and a buffer of zeros
 -- the set without signals, as the code has it
-abbrev none : Set
-none = record { m = replicate cards (record { e = one width }); len = 0 }
+abbrev no-signals : Set
+no-signals = record { m = replicate cards (record { e = one width }); len = 0 }
 
 module _ (n : ℕ) (terms : List ℕ) (set : Set) (out : List ℕ) (w : Wirable n terms set out) (full : length (set .m) ≡ cards) where
   abbrev fs : List (Poly Mono)
@@ -59,53 +59,53 @@ module _ (n : ℕ) (terms : List ℕ) (set : Set) (out : List ℕ) (w : Wirable 
   size : set .len ≡ length s
   size = sym (front-length (set .len) (set .m) (omega (arith, w .small)))
 
-  pub start-decidable : Decidable n terms set 0 none
-  start-decidable = record {
+  pub start-deciding : Deciding n terms set 0 no-signals
+  start-deciding = record {
     whole = record { few = w .few; clean = w .clean; small = w .small; fits = w .fits };
     part = record { few = w .few; clean = w .clean; small = omega arith; fits = λ m h. absurd (List·Memᴰ·not-nil h) };
     within = omega arith;
     fewer = omega arith;
   }
 
-  all-subsets : undecided set 0 none ≡ subsets s
+  all-subsets : undecided set 0 no-signals ≡ subsets s
   all-subsets = map-id (subsets s)
 
-  pub start-ahead : Ahead start (length (undecided set 0 none))
-  start-ahead =
-      let many : length (undecided set 0 none) ≡ 2 ^ length s = ap length all-subsets ∙ subsets-count s in
+  pub start-bounded : Bounded start (length (undecided set 0 no-signals))
+  start-bounded =
+      let many : length (undecided set 0 no-signals) ≡ 2 ^ length s = ap length all-subsets ∙ subsets-count s in
       let most : 2 ^ length s ≤ 2 ^ cards = pow-le-pow-right {n = 2} (omega arith) {i = length s} {j = cards} (omega (arith, size, w .small)) in
       record { counted = omega arith; within = omega arith }
 
-  -- when all subsets are met
-  module _ (b : Best) (out' : List ℕ) (m : Meets n terms (undecided set 0 none) start out b out') where
-    pub ended : Holds (tally (least n fs s) (thinnest n fs s) (2 ^ length s)) b out'
-    ended =
+  -- when all subsets are sifted
+  module _ (b : Best) (out' : List ℕ) (m : Sifting n terms (undecided set 0 no-signals) start out b out') where
+    pub all-sifted : Holds (tally (least n fs s) (thinnest n fs s) (2 ^ length s)) b out'
+    all-sifted =
         let begins : Holds (tally (length s) [] 0) start out = record { order = size; count = refl; steps = refl; list = begun-none out (w .blank) } in
-        let all : metAll n fs (tally (length s) [] 0) (undecided set 0 none) ≡ tally (least n fs s) (thinnest n fs s) (2 ^ length s) =
-        ap (metAll n fs (tally (length s) [] 0)) all-subsets ∙ tally-thinnest n fs s in
+        let all : allSifted n fs (tally (length s) [] 0) (undecided set 0 no-signals) ≡ tally (least n fs s) (thinnest n fs s) (2 ^ length s) =
+        ap (allSifted n fs (tally (length s) [] 0)) all-subsets ∙ tally-thinnest n fs s in
         subst (λ (t : Tally). Holds t b out') all (m .tallied (tally (length s) [] 0) begins)
 
     module _ (same : length out' ≡ length out) where
       pub ended-done : b .count ≤ length out' / setBytes → outcome (Done (b .order) (b .count) (b .steps)) out' ≡ said (thinning n fs s (length out / setBytes)) (length out)
       ended-done h =
-          let fits : length (thinnest n fs s) ≤ length out / setBytes = omega (arith, ended .count, same) in
+          let fits : length (thinnest n fs s) ≤ length out / setBytes = omega (arith, all-sifted .count, same) in
           left ∙ said-done (least n fs s) (2 ^ length s) (thinnest n fs s) (length out) ∙ ap (λ (e : Ending). said e (length out)) (sym (thinning-done n fs s (length out) fits))
         where
           left : outcome (Done (b .order) (b .count) (b .steps)) out' ≡ outcome (Done (least n fs s) (length (thinnest n fs s)) (2 ^ length s))
               (setsBytes (thinnest n fs s) ++ replicate (length out - setBytes * length (thinnest n fs s)) 0)
           left =
-              let many : length (thinnest n fs s) ≤ length out' / setBytes = omega (arith, ended .count) in
+              let many : length (thinnest n fs s) ≤ length out' / setBytes = omega (arith, all-sifted .count) in
               let rest : length out' - setBytes * min (length (thinnest n fs s)) (length out' / setBytes) ≡ length out - setBytes * length (thinnest n fs s) = omega (arith, same) in
               let bytes : out' ≡ setsBytes (thinnest n fs s) ++ replicate (length out - setBytes * length (thinnest n fs s)) 0 =
-              ended .list .bytes ∙ ap₂ (λ (l : Finds) (k : ℕ). setsBytes l ++ replicate k 0) (take-all (length out' / setBytes) (thinnest n fs s) many) rest in
-              ap₂ (λ (o c : ℕ). outcome (Done o c (b .steps)) out') (ended .order) (ended .count)
-              ∙ ap₂ (λ (k : ℕ) (l : List ℕ). outcome (Done (least n fs s) (length (thinnest n fs s)) k) l) (ended .steps) bytes
+              all-sifted .list .bytes ∙ ap₂ (λ (l : Finds) (k : ℕ). setsBytes l ++ replicate k 0) (take-all (length out' / setBytes) (thinnest n fs s) many) rest in
+              ap₂ (λ (o c : ℕ). outcome (Done o c (b .steps)) out') (all-sifted .order) (all-sifted .count)
+              ∙ ap₂ (λ (k : ℕ) (l : List ℕ). outcome (Done (least n fs s) (length (thinnest n fs s)) k) l) (all-sifted .steps) bytes
 
       pub ended-full : length out' / setBytes < b .count → (zeros : List ℕ) → zeros ≡ replicate (length out') 0
           → outcome (Full (b .order) (b .steps)) zeros ≡ said (thinning n fs s (length out / setBytes)) (length out)
       ended-full h zeros z =
-          let over : length out / setBytes < length (thinnest n fs s) = omega (arith, ended .count, same) in
-          ap₂ (λ (o k : ℕ). outcome (Full o k) zeros) (ended .order) (ended .steps)
+          let over : length out / setBytes < length (thinnest n fs s) = omega (arith, all-sifted .count, same) in
+          ap₂ (λ (o k : ℕ). outcome (Full o k) zeros) (all-sifted .order) (all-sifted .steps)
           ∙ ap (outcome (Full (least n fs s) (2 ^ length s))) (z ∙ ap (λ (k : ℕ). replicate k 0) same)
           ∙ said-full (least n fs s) (2 ^ length s) (length out) ∙ ap (λ (e : Ending). said e (length out)) (sym (thinning-full n fs s (length out) over))
 

@@ -26,7 +26,7 @@ use Rattle.walk.specs.Claims.{QuadraticList}
 use Rattle.walk.proofs.Smallest.{no-gap, gapless, arranged-quadratic}
 use Rattle.thin.specs.Subsets.{subsets, isQuadratic}
 use Rattle.thin.specs.Thin.{leastSize, quadraticOnes, least, thinnest}
-use Rattle.thin.specs.Claims.{Thin, Thinnest}
+use Rattle.thin.specs.Claims.{ThinSet, Thinnest}
 use Rattle.thin.proofs.subsets.Members.{subset-part, subset-asc, subset-all, subsets-asc}
 
 -- ---- the least size
@@ -40,17 +40,17 @@ least-most b (u ∷ l) t h = go (List·Memᴰ·cases-cons h) (least-most b l t)
     go (inr k) ih = let i : leastSize b l ≤ length t = ih k in omega arith
 
 -- it is the bound, or some set has it
-pub record Reached (b : ℕ) (l : Finds) : Type 0 where
+pub record HasLeast (b : ℕ) (l : Finds) : Type 0 where
   pub set : List Mono
   pub member : set ∈ l
   pub size : length set ≡ leastSize b l
 
-least-reached : (b : ℕ) (l : Finds) → (leastSize b l ≡ b) ⊎ Reached b l
+least-reached : (b : ℕ) (l : Finds) → (leastSize b l ≡ b) ⊎ HasLeast b l
 unfolding leastSize
 least-reached b [] = inl refl
 least-reached b (u ∷ l) = go (test (ltb (length u) (leastSize b l))) (least-reached b l)
   where
-    go : Tested (ltb (length u) (leastSize b l)) → (leastSize b l ≡ b) ⊎ Reached b l → (min (length u) (leastSize b l) ≡ b) ⊎ Reached b (u ∷ l)
+    go : Tested (ltb (length u) (leastSize b l)) → (leastSize b l ≡ b) ⊎ HasLeast b l → (min (length u) (leastSize b l) ≡ b) ⊎ HasLeast b (u ∷ l)
     go (passed p) ih = inr (record { set = u; member = here; size = omega (arith, ltb-true (length u) (leastSize b l) p) })
     go (failed p) (inl e) = inl (omega (arith, ltb-false (length u) (leastSize b l) p))
     go (failed p) (inr r) = inr (record { set = r .set; member = there (r .member); size = omega (arith, r .size, ltb-false (length u) (leastSize b l) p) })
@@ -93,14 +93,14 @@ module _ (n : ℕ) (fs : List (Poly Mono)) where
         listed-in u h (omega (arith, at-least u h, arrange-length same before t))
 
     -- ---- a listed one
-    pub record Chosen (t : List Mono) : Type 0 where
+    pub record Listable (t : List Mono) : Type 0 where
       pub subset : t ∈ subsets s
       pub none : missing n fs t ≡ []
       pub size : length t ≡ least n fs s
 
-    chosen : (t : List Mono) → t ∈ thinnest n fs s → Chosen t
+    listable : (t : List Mono) → t ∈ thinnest n fs s → Listable t
     unfolding thinnest quadraticOnes
-    chosen t h =
+    listable t h =
         let a = keep-out (λ (x : List Mono). eqb (length x) (least n fs s)) (keep (isQuadratic n fs) (subsets s)) h in
         let b = keep-out (isQuadratic n fs) (subsets s) (a .0) in
         record { subset = b .0; none = meant t (b .1); size = eqb→eq (length t) (least n fs s) (a .1) }
@@ -120,7 +120,7 @@ module _ (n : ℕ) (fs : List (Poly Mono)) where
         listed : (t : List Mono) → t ∈ quadraticOnes n fs s → length t ≡ leastSize (length s) (quadraticOnes n fs s) → ⊥
         listed t h size = List·Memᴰ·not-nil (subst (λ (l : Finds). t ∈ l) none (listed-in t h size))
 
-        go : (leastSize (length s) (quadraticOnes n fs s) ≡ length s) ⊎ Reached (length s) (quadraticOnes n fs s) → ⊥
+        go : (leastSize (length s) (quadraticOnes n fs s) ≡ length s) ⊎ HasLeast (length s) (quadraticOnes n fs s) → ⊥
         go (inl k) = listed s (quadratic-in s up (λ x h. h) e) (sym k)
         go (inr r) = listed (r .set) (r .member) (r .size)
 
@@ -140,8 +140,8 @@ thin-smallest n terms s r q = record {
     up : Ascending before s
     up = r .permitted .ascends
 
-    one : (t : List Mono) → t ∈ thinnest n (system (records terms)) s → Thin n terms s (least n (system (records terms)) s) t
+    one : (t : List Mono) → t ∈ thinnest n (system (records terms)) s → ThinSet n terms s (least n (system (records terms)) s) t
     one t h =
-        let c = chosen n fs s up t h in
+        let c = listable n fs s up t h in
         let part : t ⊆ s = subset-part s t (c .subset) in
         record { part = part; recordable = recordable-part n s r t (subset-asc s t up (c .subset)) part; quadratic = gapless n fs t (c .none); size = c .size }

@@ -14,10 +14,10 @@ use Rattle.monomial.proofs.Members.{keep-yes, keep-no, keep-all, keep-none, kee
 use Rattle.monomial.proofs.order.Laws.{ℕ-order}
 use Rattle.wiring.specs.Poly.{Poly}
 use Rattle.walk.specs.Walk.{Finds}
-use Rattle.thin.specs.Subsets.{subsets, Tally, tally, isQuadratic, met, metAll}
-use Rattle.thin.specs.Thin.{leastSize, sized, quadraticOnes, least, thinnest}
+use Rattle.thin.specs.Subsets.{subsets, Tally, tally, isQuadratic, sifted, allSifted}
+use Rattle.thin.specs.Thin.{leastSize, ofSize, quadraticOnes, least, thinnest}
 use Rattle.thin.proofs.subsets.Laws.{subsets-count}
-use Rattle.thin.proofs.subsets.Meeting.{met-not, met-larger, met-smaller, met-alike}
+use Rattle.thin.proofs.subsets.Sifting.{sifted-not, sifted-larger, sifted-smaller, sifted-alike}
 
 -- ---- the least size
 pub least-bound : (b : ℕ) (l : Finds) → leastSize b l ≤ b
@@ -35,21 +35,21 @@ least-lower a b (t ∷ l) h = let ih : leastSize a l ≡ min a (leastSize b l) =
 eq→eqb : (a b : ℕ) → a ≡ b → T (eqb a b)
 eq→eqb a b e = subst (λ (c : ℕ). T (eqb a c)) e (eqb-refl a)
 
-sized-no : (k : ℕ) (s : List Mono) (l : Finds) → (length s ≡ k → ⊥) → sized k (s ∷ l) ≡ sized k l
-sized-no k s l n = keep-no (λ (t : List Mono). eqb (length t) k) s l (λ t. n (eqb→eq (length s) k t))
+size-no : (k : ℕ) (s : List Mono) (l : Finds) → (length s ≡ k → ⊥) → ofSize k (s ∷ l) ≡ ofSize k l
+size-no k s l n = keep-no (λ (t : List Mono). eqb (length t) k) s l (λ t. n (eqb→eq (length s) k t))
 
 -- lists of one size, all of them or none
-abbrev Alike : ℕ → Finds → Type 0
-Alike k l = (s : List Mono) → s ∈ l → length s ≡ k
+abbrev OneSize : ℕ → Finds → Type 0
+OneSize k l = (s : List Mono) → s ∈ l → length s ≡ k
 
-sized-all : (k : ℕ) (l : Finds) → Alike k l → sized k l ≡ l
-sized-all k l h = keep-all (λ (t : List Mono). eqb (length t) k) l (λ s m. eq→eqb (length s) k (h s m))
+size-all : (k : ℕ) (l : Finds) → OneSize k l → ofSize k l ≡ l
+size-all k l h = keep-all (λ (t : List Mono). eqb (length t) k) l (λ s m. eq→eqb (length s) k (h s m))
 
-sized-none : (j k : ℕ) (l : Finds) → Alike j l → (j ≡ k → ⊥) → sized k l ≡ []
-sized-none j k l h n = keep-none (λ (t : List Mono). eqb (length t) k) l (λ s m t. n (sym (h s m) ∙ eqb→eq (length s) k t))
+size-none : (j k : ℕ) (l : Finds) → OneSize j l → (j ≡ k → ⊥) → ofSize k l ≡ []
+size-none j k l h n = keep-none (λ (t : List Mono). eqb (length t) k) l (λ s m t. n (sym (h s m) ∙ eqb→eq (length s) k t))
 
-sized-append : (k : ℕ) (a b : Finds) → sized k (a ++ b) ≡ sized k a ++ sized k b
-sized-append k a b = keep-append (λ (t : List Mono). eqb (length t) k) a b
+size-append : (k : ℕ) (a b : Finds) → ofSize k (a ++ b) ≡ ofSize k a ++ ofSize k b
+size-append k a b = keep-append (λ (t : List Mono). eqb (length t) k) a b
 
 -- ---- a tally of sets of one size, with more sets
 tally-is : {o o' : ℕ} {l l' : Finds} {k k' : ℕ} → o ≡ o' → l ≡ l' → k ≡ k' → tally o l k ≡ tally o' l' k'
@@ -61,9 +61,9 @@ module _ (n : ℕ) (fs : List (Poly Mono)) where
 
   -- the least size of the tally and of the quadratic ones among the sets, and those that have it
   abbrev bestOf : Tally → Finds → Tally
-  bestOf t l = let o = leastSize (t .order) (fit l) in tally o (sized o (t .sets ++ fit l)) (t .steps + length l)
+  bestOf t l = let o = leastSize (t .order) (fit l) in tally o (ofSize o (t .sets ++ fit l)) (t .steps + length l)
 
-  module _ (t : Tally) (alike : Alike (t .order) (t .sets)) (x : List Mono) (l : Finds) where
+  module _ (t : Tally) (alike : OneSize (t .order) (t .sets)) (x : List Mono) (l : Finds) where
     abbrev next : ℕ
     next = suc (t .steps)
 
@@ -90,62 +90,62 @@ module _ (n : ℕ) (fs : List (Poly Mono)) where
       unfolding leastSize
       larger h =
           let order : rest ≡ min (length x) rest = omega (arith, low) in
-          let passed : sized rest (x ∷ fit l) ≡ sized rest (fit l) = sized-no rest x (fit l) (λ e. let z : ⊥ = omega (arith, low) in z) in
-          let sets : sized rest (t .sets ++ fit l) ≡ sized rest (t .sets ++ (x ∷ fit l)) =
-          sized-append rest (t .sets) (fit l) ∙ ap (λ (u : Finds). sized rest (t .sets) ++ u) (sym passed) ∙ sym (sized-append rest (t .sets) (x ∷ fit l)) in
-          rw fitting (tally-is order (sets ∙ ap (λ (k : ℕ). sized k (t .sets ++ (x ∷ fit l))) order) counted)
+          let passed : ofSize rest (x ∷ fit l) ≡ ofSize rest (fit l) = size-no rest x (fit l) (λ e. let z : ⊥ = omega (arith, low) in z) in
+          let sets : ofSize rest (t .sets ++ fit l) ≡ ofSize rest (t .sets ++ (x ∷ fit l)) =
+          size-append rest (t .sets) (fit l) ∙ ap (λ (u : Finds). ofSize rest (t .sets) ++ u) (sym passed) ∙ sym (size-append rest (t .sets) (x ∷ fit l)) in
+          rw fitting (tally-is order (sets ∙ ap (λ (k : ℕ). ofSize k (t .sets ++ (x ∷ fit l))) order) counted)
 
       smaller : length x < t .order → bestOf (tally (length x) (x ∷ []) next) l ≡ bestOf t (x ∷ l)
       unfolding leastSize
       smaller h =
           let order : leastSize (length x) (fit l) ≡ min (length x) rest = least-lower (length x) (t .order) (fit l) (omega arith) in
           let least : ℕ = min (length x) rest in
-          let none : sized least (t .sets) ≡ [] = sized-none (t .order) least (t .sets) alike (λ e. let z : ⊥ = omega arith in z) in
-          let sets : sized least (x ∷ fit l) ≡ sized least (t .sets ++ (x ∷ fit l)) =
-          ap (λ (u : Finds). u ++ sized least (x ∷ fit l)) (sym none) ∙ sym (sized-append least (t .sets) (x ∷ fit l)) in
-          rw fitting (tally-is order (ap (λ (k : ℕ). sized k (x ∷ fit l)) order ∙ sets) counted)
+          let none : ofSize least (t .sets) ≡ [] = size-none (t .order) least (t .sets) alike (λ e. let z : ⊥ = omega arith in z) in
+          let sets : ofSize least (x ∷ fit l) ≡ ofSize least (t .sets ++ (x ∷ fit l)) =
+          ap (λ (u : Finds). u ++ ofSize least (x ∷ fit l)) (sym none) ∙ sym (size-append least (t .sets) (x ∷ fit l)) in
+          rw fitting (tally-is order (ap (λ (k : ℕ). ofSize k (x ∷ fit l)) order ∙ sets) counted)
 
       same-size : length x ≡ t .order → bestOf (tally (length x) (t .sets ++ (x ∷ [])) next) l ≡ bestOf t (x ∷ l)
       unfolding leastSize
       same-size h =
           let order : leastSize (length x) (fit l) ≡ min (length x) rest = least-lower (length x) (t .order) (fit l) (omega arith) in
           let least : ℕ = min (length x) rest in
-          let sets : sized least ((t .sets ++ (x ∷ [])) ++ fit l) ≡ sized least (t .sets ++ (x ∷ fit l)) = ap (sized least) (append-assoc (t .sets) (x ∷ []) (fit l)) in
-          rw fitting (tally-is order (ap (λ (k : ℕ). sized k ((t .sets ++ (x ∷ [])) ++ fit l)) order ∙ sets) counted)
+          let sets : ofSize least ((t .sets ++ (x ∷ [])) ++ fit l) ≡ ofSize least (t .sets ++ (x ∷ fit l)) = ap (ofSize least) (append-assoc (t .sets) (x ∷ []) (fit l)) in
+          rw fitting (tally-is order (ap (λ (k : ℕ). ofSize k ((t .sets ++ (x ∷ [])) ++ fit l)) order ∙ sets) counted)
 
-  alike-one : (x : List Mono) → Alike (length x) (x ∷ [])
+  alike-one : (x : List Mono) → OneSize (length x) (x ∷ [])
   alike-one x s m = ⊎-elim (λ e. ap length e) (λ z. absurd (List·Memᴰ·not-nil z)) (List·Memᴰ·cases-cons m)
 
-  alike-more : (k : ℕ) (sets : Finds) (x : List Mono) → Alike k sets → length x ≡ k → Alike (length x) (sets ++ (x ∷ []))
+  alike-more : (k : ℕ) (sets : Finds) (x : List Mono) → OneSize k sets → length x ≡ k → OneSize (length x) (sets ++ (x ∷ []))
   alike-more k sets x h e s m = ⊎-elim (λ i. h s i ∙ sym e) (alike-one x s) (List·Memᴰ·append-cases sets m)
 
-  pub tally-best : (t : Tally) (l : Finds) → Alike (t .order) (t .sets) → metAll n fs t l ≡ bestOf t l
-  unfolding metAll leastSize keep
-  tally-best t [] h = tally-is refl (sym (sized-all (t .order) (t .sets ++ []) (λ s m. h s (rw (append-nil (t .sets)) at m)) ∙ append-nil (t .sets))) (omega arith)
+  pub tally-best : (t : Tally) (l : Finds) → OneSize (t .order) (t .sets) → allSifted n fs t l ≡ bestOf t l
+  unfolding allSifted leastSize keep
+  tally-best t [] h = tally-is refl (sym (size-all (t .order) (t .sets ++ []) (λ s m. h s (rw (append-nil (t .sets)) at m)) ∙ append-nil (t .sets))) (omega arith)
   tally-best t (x ∷ l) h = go (test (isQuadratic n fs x)) (λ u k. tally-best u l k)
     where
-      go : Tested (isQuadratic n fs x) → ((u : Tally) → Alike (u .order) (u .sets) → metAll n fs u l ≡ bestOf u l) → metAll n fs (met n fs t x) l ≡ bestOf t (x ∷ l)
+      go : Tested (isQuadratic n fs x) → ((u : Tally) → OneSize (u .order) (u .sets) → allSifted n fs u l ≡ bestOf u l) → allSifted n fs (sifted n fs t x) l ≡ bestOf t (x ∷ l)
       go (failed e) ih =
-          ap (λ (u : Tally). metAll n fs u l) (met-not n fs t x e) ∙ ih (tally (t .order) (t .sets) (suc (t .steps))) h ∙ over t h x l (is→nT (isQuadratic n fs x) e)
+          ap (λ (u : Tally). allSifted n fs u l) (sifted-not n fs t x e) ∙ ih (tally (t .order) (t .sets) (suc (t .steps))) h ∙ over t h x l (is→nT (isQuadratic n fs x) e)
       go (passed e) ih = by-size (ℕ-order .total (length x) (t .order))
         where
           q : T (isQuadratic n fs x)
           q = is→T (isQuadratic n fs x) e
 
-          by-size : Compared eqb ltb (length x) (t .order) → metAll n fs (met n fs t x) l ≡ bestOf t (x ∷ l)
+          by-size : Compared eqb ltb (length x) (t .order) → allSifted n fs (sifted n fs t x) l ≡ bestOf t (x ∷ l)
           by-size (less c) =
               let d : length x < t .order = ltb→lt (length x) (t .order) c in
-              ap (λ (u : Tally). metAll n fs u l) (met-smaller n fs t x e d) ∙ ih (tally (length x) (x ∷ []) (suc (t .steps))) (alike-one x) ∙ smaller t h x l q d
+              ap (λ (u : Tally). allSifted n fs u l) (sifted-smaller n fs t x e d) ∙ ih (tally (length x) (x ∷ []) (suc (t .steps))) (alike-one x) ∙ smaller t h x l q d
           by-size (equal c) =
               let d : length x ≡ t .order = eqb→eq (length x) (t .order) c in
-              ap (λ (u : Tally). metAll n fs u l) (met-alike n fs t x e d)
+              ap (λ (u : Tally). allSifted n fs u l) (sifted-alike n fs t x e d)
               ∙ ih (tally (length x) (t .sets ++ (x ∷ [])) (suc (t .steps))) (alike-more (t .order) (t .sets) x h d) ∙ same-size t h x l q d
           by-size (more c) =
               let d : t .order < length x = ltb→lt (t .order) (length x) c in
-              ap (λ (u : Tally). metAll n fs u l) (met-larger n fs t x e d) ∙ ih (tally (t .order) (t .sets) (suc (t .steps))) h ∙ larger t h x l q d
+              ap (λ (u : Tally). allSifted n fs u l) (sifted-larger n fs t x e d) ∙ ih (tally (t .order) (t .sets) (suc (t .steps))) h ∙ larger t h x l q d
 
 pub tally-thinnest : (n : ℕ) (fs : List (Poly Mono)) (s : List Mono)
-    → metAll n fs (tally (length s) [] 0) (subsets s) ≡ tally (least n fs s) (thinnest n fs s) (2 ^ length s)
+    → allSifted n fs (tally (length s) [] 0) (subsets s) ≡ tally (least n fs s) (thinnest n fs s) (2 ^ length s)
 unfolding least thinnest quadraticOnes
 tally-thinnest n fs s =
     tally-best n fs (tally (length s) [] 0) (subsets s) (λ t m. absurd (List·Memᴰ·not-nil m))

@@ -5,8 +5,8 @@ use lib.ListN.{length}
 use Rattle.wiring.specs.Panel.{cards}
 use Rattle.wiring.proofs.signals.Laws.{array-length}
 use Rattle.walk.specs.Walk.{Finds}
-use Rattle.thin.specs.Subsets.{Meets, Ahead}
-use Rattle.thin.proofs.subsets.Deciding.{decided, keeping, dropping, ahead-first, ahead-then, meets-both}
+use Rattle.thin.specs.Subsets.{Sifting, Bounded}
+use Rattle.thin.proofs.subsets.Deciding.{decided, keeping, dropping, bounded-first, bounded-then, sifting-both}
 use Prim.Native.Nat.{ℕ, _+_, _-_, _<_}
 use borrow.Author.Needs.{needs}
 use borrow.Fn.Kinds.{In}
@@ -14,7 +14,7 @@ use borrow.Fn.PlainCycle.{Measures, is, falls, and}
 use Rattle.thin.proofs.subsets.decide.Reads as decide
 use Rattle.thin.proofs.subsets.decide.Kinds as decide-kinds
 use Rattle.thin.proofs.subsets.+decide.Lts-decide as decide-lts
-use Rattle.thin.proofs.subsets.meet.Reads as meet-reads
+use Rattle.thin.proofs.subsets.sift.Reads as sift-reads
 use Rattle.thin.proofs.subsets.with_last.Reads as with-last-reads
 use Rattle.thin.proofs.subsets.+decide.{statement}
 use Rattle.thin.proofs.subsets.+decide.Tie.{close}
@@ -29,16 +29,16 @@ abbrev decide-below : ℕ → In 2 decide-kinds.ps
 decide-below t = and 2 decide-kinds.ps (falls 2 decide-kinds.ps _<_ μ-decide t) decide.Pre
 
 abbrev claims : ℕ → decide-lts.Claims
-claims t = (meet-reads.Asked, meet-reads.Learnt, with-last-reads.Asked, with-last-reads.Learnt, decide-below t, decide.Post)
+claims t = (sift-reads.Asked, sift-reads.Learnt, with-last-reads.Asked, with-last-reads.Learnt, decide-below t, decide.Post)
 
-decide-meet-requires : (t : ℕ) → decide-lts.Need-meet-requires (claims t) (decide-at t) decide.Post
-decide-meet-requires t c κs =
+decide-sift-requires : (t : ℕ) → decide-lts.Need-sift-requires (claims t) (decide-at t) decide.Post
+decide-sift-requires t c κs =
     let start = c .before .before .before .before in
     let full : length (start .args .t3 .m) ≡ cards = search (needs, array-length) in
     let a = start .args in
     let d = start .pre .1 .0 in
     let one = decided (a .n) (a .terms .now) (a .t3) (a .at) (a .kept) d full (c .before .if1 .taken) in
-    (d .part, subst (λ (l : Finds). Ahead (a .best) (length l)) one (start .pre .1 .1))
+    (d .part, subst (λ (l : Finds). Bounded (a .best) (length l)) one (start .pre .1 .1))
 
 decide-same-length : (t : ℕ) → decide-lts.Need-same-length (claims t) (decide-at t) decide.Post
 decide-same-length t c = search needs
@@ -48,9 +48,9 @@ decide-returns t c =
     let start = c .before .before .before .before .before .before .before in
     let full : length (start .args .t3 .m) ≡ cards = search (needs, array-length) in
     let a = start .args in
-    let at-meet = c .before .before in
-    let one = decided (a .n) (a .terms .now) (a .t3) (a .at) (a .kept) (start .pre .1 .0) full (at-meet .before .before .if1 .taken) in
-    subst (λ (l : Finds). Meets (a .n) (a .terms .now) l (a .best) (a .out .now) (at-meet .meet .result) (at-meet .meet .last .1 .1 .1 .0)) (sym one) (at-meet .meet .ensures)
+    let at-sift = c .before .before in
+    let one = decided (a .n) (a .terms .now) (a .t3) (a .at) (a .kept) (start .pre .1 .0) full (at-sift .before .before .if1 .taken) in
+    subst (λ (l : Finds). Sifting (a .n) (a .terms .now) l (a .best) (a .out .now) (at-sift .sift .result) (at-sift .sift .last .1 .1 .1 .0)) (sym one) (at-sift .sift .ensures)
 
 decide-mul-m : (t : ℕ) → decide-lts.Need-mul-m (claims t) (decide-at t) decide.Post
 decide-mul-m t c = search (needs, c .before .before .before .pre .1 .0 .whole .small)
@@ -76,7 +76,7 @@ decide-decide-requires t c κs =
     let more = c .before .with-last in
     let step : a .t3 .len - (a .at + 1) < t = omega (arith, start .pre .0, below) in
     let next = keeping (a .n) (a .terms .now) (a .t3) (a .at) (a .kept) d full below (more .result) (more .ensures .0) (more .ensures .1) in
-    let first = ahead-first (a .n) (a .terms .now) (a .t3) (a .at) (a .kept) d full below (more .result) (more .ensures .0) (more .ensures .1) (a .best) (start .pre .1 .1) in
+    let first = bounded-first (a .n) (a .terms .now) (a .t3) (a .at) (a .kept) d full below (more .result) (more .ensures .0) (more .ensures .1) (a .best) (start .pre .1 .1) in
     (step, (next, first))
 
 decide-add-decide-2 : (t : ℕ) → decide-lts.Need-add-decide-2 (claims t) (decide-at t) decide.Post
@@ -89,13 +89,13 @@ decide-decide-requires-2 t c κs =
     let a = start .args in
     let d = start .pre .1 .0 in
     let at-decide = c .before .before .before in
-    let met = at-decide .decide in
+    let sifted = at-decide .decide in
     let more = at-decide .before .before .with-last in
     let below = at-decide .before .before .before .before .if1 .left in
     let step : a .t3 .len - (a .at + 1) < t = omega (arith, start .pre .0, below) in
     let next = dropping (a .n) (a .terms .now) (a .t3) (a .at) (a .kept) d full below (more .result) (more .ensures .0) (more .ensures .1) in
-    let then = ahead-then (a .n) (a .terms .now) (a .t3) (a .at) (a .kept) d full below (more .result) (more .ensures .0) (more .ensures .1) (a .best) (start .pre .1 .1)
-    (a .out .now) (met .result) (met .last .1 .1 .1 .1 .1 .0) (met .ensures) in
+    let then = bounded-then (a .n) (a .terms .now) (a .t3) (a .at) (a .kept) d full below (more .result) (more .ensures .0) (more .ensures .1) (a .best) (start .pre .1 .1)
+    (a .out .now) (sifted .result) (sifted .last .1 .1 .1 .1 .1 .0) (sifted .ensures) in
     (step, (next, then))
 
 decide-same-length-2 : (t : ℕ) → decide-lts.Need-same-length-2 (claims t) (decide-at t) decide.Post
@@ -109,17 +109,17 @@ decide-returns-2 t c =
     let d = start .pre .1 .0 in
     let last = c .before .before .decide2 in
     let at-decide = c .before .before .before .before .before .before in
-    let met = at-decide .decide in
+    let sifted = at-decide .decide in
     let more = at-decide .before .before .with-last in
     let below = at-decide .before .before .before .before .if1 .left in
-    meets-both (a .n) (a .terms .now) (a .t3) (a .at) (a .kept) d full below (more .result) (more .ensures .0) (more .ensures .1) (a .best) (start .pre .1 .1)
-    (a .out .now) (met .result) (met .last .1 .1 .1 .1 .1 .0) (met .ensures) (last .result) (last .last .1 .1 .1 .1 .1 .0) (last .ensures)
+    sifting-both (a .n) (a .terms .now) (a .t3) (a .at) (a .kept) d full below (more .result) (more .ensures .0) (more .ensures .1) (a .best) (start .pre .1 .1)
+    (a .out .now) (sifted .result) (sifted .last .1 .1 .1 .1 .1 .0) (sifted .ensures) (last .result) (last .last .1 .1 .1 .1 .1 .0) (last .ensures)
 
 pub +decide-spec : {M : Type 1} → statement M
 +decide-spec = close μ-decide λ t. decide-lts.spec (claims t)
     (decide-at t)
     decide.Post
-    (decide-meet-requires t)
+    (decide-sift-requires t)
     (decide-same-length t)
     (decide-returns t)
     (decide-mul-m t)

@@ -1,9 +1,9 @@
--- `thin_set` meets its contract: when all subsets are met, the list has room or it has not. Assumes nothing.
+-- `thin_set` meets its contract: when all subsets are sifted, the list has room or it has not. Assumes nothing.
 use mathlib.Core.Path.{_≡_}
 use lib.ListN.{length}
 use Rattle.wiring.specs.Panel.{cards}
 use Rattle.wiring.proofs.signals.Laws.{array-length}
-use Rattle.thin.proofs.thin.Laws.{start-decidable, start-ahead, ended-done, ended-full}
+use Rattle.thin.proofs.thin.Laws.{start-deciding, start-bounded, ended-done, ended-full}
 use borrow.Author.Needs.{needs}
 use Rattle.thin.proofs.thin.thin_set.Statement.{statement}
 use Rattle.thin.proofs.thin.thin_set.Tie as tie
@@ -13,7 +13,7 @@ decide-requires c κs =
     let start = c .before .before .before in
     let full : length (start .args .set .m) ≡ cards = search (needs, array-length) in
     let a = start .args in
-    (start-decidable (a .n) (a .terms .now) (a .set) (a .out .now) (start .pre) full, start-ahead (a .n) (a .terms .now) (a .set) (a .out .now) (start .pre) full)
+    (start-deciding (a .n) (a .terms .now) (a .set) (a .out .now) (start .pre) full, start-bounded (a .n) (a .terms .now) (a .set) (a .out .now) (start .pre) full)
 
 clear-requires : tie.Need-clear-requires
 clear-requires c κs = search needs
@@ -26,9 +26,9 @@ returns c =
     let start = c .before .before .before .before .before .before .before .before .before .before .before .before in
     let full : length (start .args .set .m) ≡ cards = search (needs, array-length) in
     let a = start .args in
-    let met = c .before .before .before .before .before .before .before .before .decide in
+    let sifted = c .before .before .before .before .before .before .before .before .decide in
     let at-clear = c .before .before in
-    ended-full (a .n) (a .terms .now) (a .set) (a .out .now) (start .pre) full (met .result) (met .last .1 .1 .1 .1 .1 .0) (met .ensures) (met .kept .1 .1 .1 .1 .1 .0)
+    ended-full (a .n) (a .terms .now) (a .set) (a .out .now) (start .pre) full (sifted .result) (sifted .last .1 .1 .1 .1 .1 .0) (sifted .ensures) (sifted .kept .1 .1 .1 .1 .1 .0)
     (at-clear .before .before .if1 .taken) (at-clear .clear .last .0) (at-clear .clear .ensures)
 
 same-length-2 : tie.Need-same-length-2
@@ -39,8 +39,8 @@ returns-2 c =
     let start = c .before .before .before .before .before .before .before .before in
     let full : length (start .args .set .m) ≡ cards = search (needs, array-length) in
     let a = start .args in
-    let met = c .before .before .before .before .decide in
-    ended-done (a .n) (a .terms .now) (a .set) (a .out .now) (start .pre) full (met .result) (met .last .1 .1 .1 .1 .1 .0) (met .ensures) (met .kept .1 .1 .1 .1 .1 .0)
+    let sifted = c .before .before .before .before .decide in
+    ended-done (a .n) (a .terms .now) (a .set) (a .out .now) (start .pre) full (sifted .result) (sifted .last .1 .1 .1 .1 .1 .0) (sifted .ensures) (sifted .kept .1 .1 .1 .1 .1 .0)
     (c .if1 .left)
 
 pub thin-set-spec : {M : Type 1} → statement M

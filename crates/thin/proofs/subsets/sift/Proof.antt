@@ -1,4 +1,4 @@
--- `meet` meets its contract: the tests of the code are those of the tally. Assumes nothing.
+-- `sift` meets its contract: the tests of the code are those of the tally. Assumes nothing.
 use mathlib.Core.List.{[]}
 use mathlib.Core.Path.{_≡_, refl, sym, ap, _∙_}
 use native.Mathlib.Omega.{arith}
@@ -9,10 +9,10 @@ use Rattle.wiring.specs.Panel.{cards}
 use Rattle.wiring.specs.Sets.{monomialsOf}
 use Rattle.wiring.proofs.signals.Laws.{array-length}
 use Rattle.thin.proofs.subsets.Listing.{begun-none}
-use Rattle.thin.proofs.subsets.Meeting.{set-size, set-recorded, met-not, met-larger, meets-passed, meets-smaller, meets-alike}
+use Rattle.thin.proofs.subsets.Sifting.{set-size, set-recorded, sifted-not, sifted-larger, sifting-passed, sifting-smaller, sifting-alike}
 use borrow.Author.Needs.{needs}
-use Rattle.thin.proofs.subsets.meet.Statement.{statement}
-use Rattle.thin.proofs.subsets.meet.Tie as tie
+use Rattle.thin.proofs.subsets.sift.Statement.{statement}
+use Rattle.thin.proofs.subsets.sift.Tie as tie
 
 add-steps : tie.Need-add-steps
 add-steps c = search needs
@@ -26,7 +26,7 @@ returns c =
     let start = c .before .before .before .before .before in
     let a = start .args in
     let no = sym (at-is-quadratic .is-quadratic .ensures) ∙ not-true _ (c .if1 .taken) in
-    meets-passed (a .n) (a .terms .now) (monomialsOf (a .set)) (a .best) (a .out .now) (start .pre .1 .counted) (λ t h. met-not _ _ t _ no)
+    sifting-passed (a .n) (a .terms .now) (monomialsOf (a .set)) (a .best) (a .out .now) (start .pre .1 .counted) (λ t h. sifted-not _ _ t _ no)
 
 returns-2 : tie.Need-returns-2
 returns-2 c =
@@ -36,8 +36,8 @@ returns-2 c =
     let a = start .args in
     let size = set-size (a .n) (a .terms .now) (a .set) (start .pre .0) full in
     let yes = sym (at-is-quadratic .is-quadratic .ensures) ∙ not-false _ (c .before .if1 .left) in
-    meets-passed (a .n) (a .terms .now) (monomialsOf (a .set)) (a .best) (a .out .now) (start .pre .1 .counted)
-    (λ t h. met-larger _ _ t _ yes (omega (arith, c .if2 .taken, size, h .order)))
+    sifting-passed (a .n) (a .terms .now) (monomialsOf (a .set)) (a .best) (a .out .now) (start .pre .1 .counted)
+    (λ t h. sifted-larger _ _ t _ yes (omega (arith, c .if2 .taken, size, h .order)))
 
 clear-requires : tie.Need-clear-requires
 clear-requires c κs = search needs
@@ -62,7 +62,7 @@ returns-3 c =
     let size = set-size (a .n) (a .terms .now) (a .set) (start .pre .0) full in
     let yes = sym (at-is-quadratic .is-quadratic .ensures) ∙ not-false _ (at-clear .before .before .before .before .if1 .left) in
     let blank = begun-none (at-clear .clear .last .0) (at-clear .clear .ensures ∙ ap (λ (k : ℕ). replicate k 0) (sym (at-clear .clear .kept .0))) in
-    meets-smaller (a .n) (a .terms .now) (monomialsOf (a .set)) (a .best) (a .out .now) (start .pre .1 .counted) yes (a .set .len) size (at-clear .before .before .if3 .taken)
+    sifting-smaller (a .n) (a .terms .now) (monomialsOf (a .set)) (a .best) (a .out .now) (start .pre .1 .counted) yes (a .set .len) size (at-clear .before .before .if3 .taken)
     (at-join .join .last .0) (at-join .join .ensures [] refl blank)
 
 join-requires-2 : tie.Need-join-requires-2
@@ -87,11 +87,11 @@ returns-4 c =
     let size = set-size (a .n) (a .terms .now) (a .set) (start .pre .0) full in
     let yes = sym (at-is-quadratic .is-quadratic .ensures) ∙ not-false _ (at-join .before .before .before .before .if1 .left) in
     let alike : a .set .len ≡ a .best .order = omega (arith, at-join .before .before .before .if2 .left, at-join .before .before .if3 .left) in
-    meets-alike (a .n) (a .terms .now) (monomialsOf (a .set)) (a .best) (a .out .now) (start .pre .1 .counted) yes (a .set .len) size alike
+    sifting-alike (a .n) (a .terms .now) (monomialsOf (a .set)) (a .best) (a .out .now) (start .pre .1 .counted) yes (a .set .len) size alike
     (at-join .join2 .last .0) (at-join .join2 .ensures)
 
-pub meet-spec : {M : Type 1} → statement M
-meet-spec =
+pub sift-spec : {M : Type 1} → statement M
+sift-spec =
     tie.close
     (tie.spec
     add-steps
