@@ -1,5 +1,5 @@
-// Prints how many bytes of stack planning, checking and wiring take: the stack below is painted, the call runs on it,
-// and then we look how far down the paint is gone. About a hundred bytes of each number are the frames of the caller.
+// Prints how many bytes of stack planning, checking, wiring and thinning take: the stack below is painted, the call runs
+// on it, and then we look how far down the paint is gone. About a hundred bytes of each number are the frames of the caller.
 
 mod panel;
 mod proved;
@@ -43,8 +43,11 @@ fn measured(call: &mut dyn FnMut() -> [u64; 5]) -> ([u64; 5], usize) {
 }
 
 fn main() {
-    let mut most = [0; 3];
-    println!("{:<28} {:>12} {:>13} {:>12}", "variables: system", "plan: order", "check: code", "wire: code");
+    let mut most = [0; 4];
+    println!(
+        "{:<28} {:>12} {:>13} {:>12} {:>12}",
+        "variables: system", "plan: order", "check: code", "wire: code", "thin: code"
+    );
     for s in systems::SYSTEMS {
         let terms = s.terms.as_flattened();
         let mut sets = vec![0; ROOM];
@@ -54,10 +57,15 @@ fn main() {
         let set = &sets[..SET_BYTES];
         let check = measured(&mut || proved::check(s.n, black_box(terms), set));
         let wire = measured(&mut || proved::wire(s.n, black_box(terms), set, &mut wires));
-        println!("{:<28} {:>4} {:>7} {:>5} {:>7} {:>4} {:>7}", s.name, plan.0[1], plan.1, check.0[0], check.1, wire.0[0], wire.1);
-        for (m, used) in most.iter_mut().zip([plan.1, check.1, wire.1]) {
+        let mut subsets = vec![0; ROOM];
+        let thin = measured(&mut || proved::thin(s.n, black_box(terms), set, &mut subsets));
+        println!(
+            "{:<28} {:>4} {:>7} {:>5} {:>7} {:>4} {:>7} {:>4} {:>7}",
+            s.name, plan.0[1], plan.1, check.0[0], check.1, wire.0[0], wire.1, thin.0[0], thin.1
+        );
+        for (m, used) in most.iter_mut().zip([plan.1, check.1, wire.1, thin.1]) {
             *m = used.max(*m);
         }
     }
-    println!("bytes of stack at most: plan {}, check {}, wire {}", most[0], most[1], most[2]);
+    println!("bytes of stack at most: plan {}, check {}, wire {}, thin {}", most[0], most[1], most[2], most[3]);
 }
