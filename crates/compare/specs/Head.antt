@@ -9,6 +9,10 @@ use Rattle.compare.specs.declared.head.Head.{Head}
 abbrev pub headBytes : ℕ
 headBytes = 32
 
+-- the operations are numbered from 1
+abbrev pub operations : ℕ
+operations = 4
+
 -- the longest set, terms and buffer that are answered
 abbrev pub longestSet : ℕ
 longestSet = 255
@@ -41,4 +45,4 @@ headOf bytes = record {
 
 -- a known operation, and lengths within the limits
 unfoldable pub right : Head → Bool
-right h = leb 1 (h .operation) && leb (h .operation) 3 && leb (h .set) longestSet && leb (h .terms) longestTerms && leb (h .size) longestBuffer
+right h = leb 1 (h .operation) && leb (h .operation) operations && leb (h .set) longestSet && leb (h .terms) longestTerms && leb (h .size) longestBuffer

@@ -3,6 +3,7 @@ use super::head::Head;
 use lines::answer;
 use lines::case;
 use lines::lengths::LINE_BYTES;
+use thin::thin as thinning;
 use walk::plan;
 use wiring::answers;
 use wiring::reply;
@@ -44,6 +45,10 @@ pub(crate) fn answer_case(
         let checked = answers::check(h.n, terms, set);
         return answer::reply_line(reply::numbers(checked), line);
     }
-    let wired = answers::wire(h.n, terms, set, buffer);
-    case::case_line(reply::numbers(wired), buffer, line)
+    if operation == 3 {
+        let wired = answers::wire(h.n, terms, set, buffer);
+        return case::case_line(reply::numbers(wired), buffer, line);
+    }
+    let thinned = thinning::thin(h.n, terms, set, buffer);
+    case::case_line(reply::numbers(thinned), buffer, line)
 }

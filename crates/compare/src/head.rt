@@ -6,6 +6,9 @@ ghost use Rattle.compare.specs.Head.{headBytes, two, four, eight, headOf
 
 pub(crate) const HEAD_BYTES: usize = 32;
 
+// The operations are numbered from 1.
+const OPERATIONS: u64 = 4;
+
 // The longest set, terms and buffer that are answered.
 const LONGEST_SET: usize = 255;
 
@@ -65,7 +68,7 @@ pub(crate) fn is_right(h: Head) -> bool
     if h.operation < 1 {
         return false;
     }
-    if 3 < h.operation {
+    if OPERATIONS < h.operation {
         return false;
     }
     if LONGEST_SET < h.set {

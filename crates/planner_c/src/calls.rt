@@ -1,5 +1,6 @@
 // The functions that C calls. A slice is a pointer and a length, and the five numbers (code, order, count, steps, place) go to the caller's place.
 // None asks anything of its caller beyond that a slice is one.
+use thin::thin as thinning;
 use walk::plan;
 use wiring::answers;
 use wiring::reply;
@@ -8,6 +9,7 @@ ghost use lib.ListN.{length};
 ghost use Rattle.wiring.specs.Reply.{inOrder};
 ghost use Rattle.wiring.specs.Answers.{checked, wired};
 ghost use Rattle.walk.specs.Plan.{planned};
+ghost use Rattle.thin.specs.Thin.{thinned};
 ghost use Rattle.planner_c.specs.Calls.{answer, given};
 
 // Plans: every smallest set in the buffer, or how far the walk got.
@@ -47,5 +49,20 @@ pub extern "C" fn siragumon_wire(
     ensures { λ _. ⌜ answer (now (five .exit)) (now (out .exit)) ≡ given (wired n (now (terms .entry)) (now (set .entry)) (length (now (out .entry)))) ⌝ }
 {
     let r = answers::wire(n, terms, set, out);
+    *five = reply::numbers(r);
+}
+
+// Thins: every smallest quadratic subset of a quadratic set in the buffer.
+#[no_mangle]
+pub extern "C" fn siragumon_thin(
+    n: u64,
+    terms: &[u8],
+    set: &[u8],
+    out: &mut [u8],
+    five: &mut [u64; 5],
+)
+    ensures { λ _. ⌜ answer (now (five .exit)) (now (out .exit)) ≡ given (thinned n (now (terms .entry)) (now (set .entry)) (length (now (out .entry)))) ⌝ }
+{
+    let r = thinning::thin(n, terms, set, out);
     *five = reply::numbers(r);
 }

@@ -8,6 +8,7 @@ use Rattle.wiring.specs.Reply.{Outcome, numbers, inOrder, outcome}
 use Rattle.wiring.specs.Answers.{checked, wired}
 use Rattle.wiring.specs.declared.reply.Reply.{Reply}
 use Rattle.walk.specs.Plan.{planned}
+use Rattle.thin.specs.Thin.{thinned}
 use Rattle.lines.specs.Text.{Stands}
 use Rattle.lines.specs.Answer.{replyLine}
 use Rattle.lines.specs.Case.{caseLine}
@@ -33,10 +34,19 @@ module _ (h : Head) (terms set : List ℕ) (size now : ℕ) (same : now ≡ size
   unfolding caseOf
   check-told p q r five bytes e f b s = rw (ne-eqb (h .operation) 1 p, eq-eqb (h .operation) 2 q) (rw (f, e) at s, rw same at b)
 
-  pub wire-told : (h .operation ≡ 1 → ⊥) → (h .operation ≡ 2 → ⊥) → (r : Reply) (five bytes : List ℕ) → outcome r bytes ≡ wired (h .n) terms set now
-      → five ≡ inOrder (numbers r) → Stands (caseLine five bytes) end l m → Answers (caseOf h terms set size) end l m bytes
+  pub wire-told : (h .operation ≡ 1 → ⊥) → (h .operation ≡ 2 → ⊥) → h .operation ≡ 3 → (r : Reply) (five bytes : List ℕ)
+      → outcome r bytes ≡ wired (h .n) terms set now → five ≡ inOrder (numbers r)
+      → Stands (caseLine five bytes) end l m → Answers (caseOf h terms set size) end l m bytes
   unfolding caseOf
-  wire-told p q r five bytes e f s = rw (ne-eqb (h .operation) 1 p, ne-eqb (h .operation) 2 q) (told r _ five bytes (rw same at e) f s)
+  wire-told p q w r five bytes e f s =
+      rw (ne-eqb (h .operation) 1 p, ne-eqb (h .operation) 2 q, eq-eqb (h .operation) 3 w) (told r _ five bytes (rw same at e) f s)
+
+  pub thin-told : (h .operation ≡ 1 → ⊥) → (h .operation ≡ 2 → ⊥) → (h .operation ≡ 3 → ⊥) → (r : Reply) (five bytes : List ℕ)
+      → outcome r bytes ≡ thinned (h .n) terms set now → five ≡ inOrder (numbers r)
+      → Stands (caseLine five bytes) end l m → Answers (caseOf h terms set size) end l m bytes
+  unfolding caseOf
+  thin-told p q w r five bytes e f s =
+      rw (ne-eqb (h .operation) 1 p, ne-eqb (h .operation) 2 q, ne-eqb (h .operation) 3 w) (told r _ five bytes (rw same at e) f s)
 
 -- two answers that the promise allows are equal
 pub answer-determined : (c : Case) {e f : ℕ} {l m n b d : List ℕ} → Answers c e l m b → Answers c f l n d → (e ≡ f) × (m ≡ n) × (b ≡ d)

@@ -5,7 +5,7 @@ use Prim.Native.Nat.{_≤_}
 use borrow.Author.Tests.{leb-true}
 use lib.Dec.{leb}
 use Rattle.monomial.proofs.Tests.{T→is, is→T, and-l, and-r}
-use Rattle.compare.specs.Head.{longestSet, longestTerms, longestBuffer, right}
+use Rattle.compare.specs.Head.{operations, longestSet, longestTerms, longestBuffer, right}
 use Rattle.compare.specs.declared.head.Head.{Head}
 
 pub record Answerable (h : Head) : Type 0 where
@@ -17,10 +17,13 @@ pub right-within : (h : Head) → right h ≡ true → Answerable h
 unfolding right
 right-within h e =
     let all = is→T (right h) e in
-    let rest = and-l (leb 1 (h .operation) && leb (h .operation) 3 && leb (h .set) longestSet && leb (h .terms) longestTerms) _ all in
-    let most = and-l (leb 1 (h .operation) && leb (h .operation) 3 && leb (h .set) longestSet) _ rest in
+    let known = leb 1 (h .operation) && leb (h .operation) operations in
+    let to-set = known && leb (h .set) longestSet in
+    let to-terms = to-set && leb (h .terms) longestTerms in
+    let rest = and-l to-terms _ all in
+    let most = and-l to-set _ rest in
     record {
-      set = leb-true _ _ (T→is _ (and-r (leb 1 (h .operation) && leb (h .operation) 3) _ most));
-      terms = leb-true _ _ (T→is _ (and-r (leb 1 (h .operation) && leb (h .operation) 3 && leb (h .set) longestSet) _ rest));
-      size = leb-true _ _ (T→is _ (and-r (leb 1 (h .operation) && leb (h .operation) 3 && leb (h .set) longestSet && leb (h .terms) longestTerms) _ all));
+      set = leb-true _ _ (T→is _ (and-r known _ most));
+      terms = leb-true _ _ (T→is _ (and-r to-set _ rest));
+      size = leb-true _ _ (T→is _ (and-r to-terms _ all));
     }

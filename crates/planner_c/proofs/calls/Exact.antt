@@ -8,6 +8,7 @@ use Rattle.wiring.specs.Reply.{Numbers, numbers, five, inOrder, Outcome, outcom
 use Rattle.wiring.specs.Answers.{checked, wired}
 use Rattle.wiring.specs.declared.reply.Reply.{Reply}
 use Rattle.walk.specs.Plan.{planned}
+use Rattle.thin.specs.Thin.{thinned}
 use Rattle.planner_c.specs.Calls.{Answer, answer, given}
 
 -- two answers that a promise allows are equal
@@ -26,6 +27,10 @@ siragumon-check-determined n terms set a a' e e' = e ∙ sym e'
 pub siragumon-wire-determined : (n : ℕ) (terms set : List ℕ) (size : ℕ) (a a' b b' : List ℕ)
     → answer a b ≡ given (wired n terms set size) → answer a' b' ≡ given (wired n terms set size) → (a ≡ a') × (b ≡ b')
 siragumon-wire-determined n terms set size = determined (wired n terms set size)
+
+pub siragumon-thin-determined : (n : ℕ) (terms set : List ℕ) (size : ℕ) (a a' b b' : List ℕ)
+    → answer a b ≡ given (thinned n terms set size) → answer a' b' ≡ given (thinned n terms set size) → (a ≡ a') × (b ≡ b')
+siragumon-thin-determined n terms set size = determined (thinned n terms set size)
 
 -- the numbers that stand in this order
 back : List ℕ → Numbers
