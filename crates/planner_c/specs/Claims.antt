@@ -11,6 +11,7 @@ use Rattle.wiring.specs.declared.reply.Reply.the-variants.{Done, Setting, Lengt
 use Rattle.wiring.specs.Claims.{WireSays, Patch}
 use Rattle.walk.specs.Walk.{bare}
 use Rattle.walk.specs.Claims.{Lacks, Fills, Spends, Accepted, PlanSays, NoneBelow, Planned}
+use Rattle.thin.specs.Claims.{ThinSays, Thinned, Overfull}
 
 -- the reply of which these are the five numbers, and what it means
 pub record Heard (Means : Reply → Type 0) (five : List ℕ) : Type 0 where
@@ -53,3 +54,17 @@ module _ (n : ℕ) (terms set : List ℕ) (size : ℕ) where
   WireMeans (NotQuadratic o p) bytes = WireSays n terms set size (NotQuadratic o p) × (bytes ≡ replicate size 0)
   WireMeans (Nothing o k) bytes = ⊥
   WireMeans (Spent o k) bytes = ⊥
+
+-- thinning: done lists all smallest quadratic subsets of the given set, and full says that they are more than there is room for
+module _ (n : ℕ) (terms set : List ℕ) (size : ℕ) where
+  abbrev pub ThinMeans : Reply → List ℕ → Type 0
+  ThinMeans (Done o c k) bytes = Thinned n terms set size o c k bytes
+  ThinMeans (Full o k) bytes = Overfull n terms set size o k bytes
+  ThinMeans Setting bytes = ThinSays n terms set size Setting × (bytes ≡ replicate size 0)
+  ThinMeans Length bytes = ThinSays n terms set size Length × (bytes ≡ replicate size 0)
+  ThinMeans (Term p) bytes = ThinSays n terms set size (Term p) × (bytes ≡ replicate size 0)
+  ThinMeans (Twice p) bytes = ThinSays n terms set size (Twice p) × (bytes ≡ replicate size 0)
+  ThinMeans BadSet bytes = ThinSays n terms set size BadSet × (bytes ≡ replicate size 0)
+  ThinMeans (NotQuadratic o p) bytes = ThinSays n terms set size (NotQuadratic o p) × (bytes ≡ replicate size 0)
+  ThinMeans (Nothing o k) bytes = ⊥
+  ThinMeans (Spent o k) bytes = ⊥

@@ -1,5 +1,5 @@
 -- What C gets of each call, said of the five numbers and the bytes alone: whose reply they are and what it means; done, none, full and spent of
--- planning, and done of checking and wiring, by their numbers. Assumes nothing.
+-- planning, done of checking and wiring, and done and full of thinning, by their numbers. Assumes nothing.
 use mathlib.Core.Path.{_≡_, sym, ap, _∙_}
 use mathlib.Core.Logic.{_↔_}
 use mathlib.Core.List.{List, [], _∷_}
@@ -22,8 +22,11 @@ use Rattle.walk.specs.Walk.{bare}
 use Rattle.walk.specs.Plan.{planned}
 use Rattle.walk.specs.Claims.{Lacks, Fills, Spends, Planned, PlanSays, planLeaves}
 use Rattle.walk.proofs.plan.Exact.{plan-exact, plan-replies, plan-finds, plan-lacks, plan-fills, plan-spends}
+use Rattle.thin.specs.Thin.{thinned}
+use Rattle.thin.specs.Claims.{Thinned, Overfull}
+use Rattle.thin.proofs.thin.Exact.{thin-exact, thin-replies, thin-finds, thin-overfull}
 use Rattle.planner_c.specs.Calls.{Answer, answer, given}
-use Rattle.planner_c.specs.Claims.{Heard, Stopped, PlanMeans, WireMeans}
+use Rattle.planner_c.specs.Claims.{Heard, Stopped, PlanMeans, WireMeans, ThinMeans}
 use Rattle.planner_c.proofs.calls.Exact.{in-order-one, given-exact}
 
 -- ---- one reply has these five numbers
@@ -133,3 +136,30 @@ module _ (n : ℕ) (terms set : List ℕ) (size : ℕ) where
   pub siragumon-wire-done : (o c k : ℕ) (bytes : List ℕ) → answer (0 ∷ o ∷ c ∷ k ∷ 0 ∷ []) bytes ≡ given (wired n terms set size)
       → Quadratic plain (signalsIn n set) (derivativeIn terms) × Patch n terms set c bytes
   siragumon-wire-done o c k bytes e = let m = wire-means (Done o c k) bytes (given-exact (Done o c k) bytes (wired n terms set size) .0 e) in (m .0 .1, m .1)
+
+-- ---- thinning
+module _ (n : ℕ) (terms set : List ℕ) (size : ℕ) where
+  thin-means : (r : Reply) (bytes : List ℕ) → outcome r bytes ≡ thinned n terms set size → ThinMeans n terms set size r bytes
+  thin-means (Done o c k) bytes e = thin-finds n terms set size o c k bytes e
+  thin-means (Full o k) bytes e = thin-overfull n terms set size o k bytes e
+  thin-means Setting bytes e = thin-exact n terms set size Setting bytes .0 e
+  thin-means Length bytes e = thin-exact n terms set size Length bytes .0 e
+  thin-means (Term p) bytes e = thin-exact n terms set size (Term p) bytes .0 e
+  thin-means (Twice p) bytes e = thin-exact n terms set size (Twice p) bytes .0 e
+  thin-means BadSet bytes e = thin-exact n terms set size BadSet bytes .0 e
+  thin-means (NotQuadratic o p) bytes e = thin-exact n terms set size (NotQuadratic o p) bytes .0 e
+  thin-means (Nothing o k) bytes e = thin-exact n terms set size (Nothing o k) bytes .0 e .0
+  thin-means (Spent o k) bytes e = thin-exact n terms set size (Spent o k) bytes .0 e .0
+
+  pub siragumon-thin-means : (five bytes : List ℕ) → answer five bytes ≡ given (thinned n terms set size) → Heard (λ r. ThinMeans n terms set size r bytes) five
+  siragumon-thin-means five bytes e =
+      let some = thin-replies n terms set size in
+      heard (thinned n terms set size) (some .0) _ (some .1) (ThinMeans n terms set size) thin-means five bytes e
+
+  -- 0, order, count, steps, 0: the buffer holds every smallest quadratic subset of the given set, each once, ascending, then zeros
+  pub siragumon-thin-done : (o c k : ℕ) (bytes : List ℕ) → answer (0 ∷ o ∷ c ∷ k ∷ 0 ∷ []) bytes ≡ given (thinned n terms set size) → Thinned n terms set size o c k bytes
+  siragumon-thin-done o c k bytes e = thin-means (Done o c k) bytes (given-exact (Done o c k) bytes (thinned n terms set size) .0 e)
+
+  -- 6, order, 0, steps, 0: those subsets are more than there is room for
+  pub siragumon-thin-full : (o k : ℕ) (bytes : List ℕ) → answer (6 ∷ o ∷ 0 ∷ k ∷ 0 ∷ []) bytes ≡ given (thinned n terms set size) → Overfull n terms set size o k bytes
+  siragumon-thin-full o k bytes e = thin-means (Full o k) bytes (given-exact (Full o k) bytes (thinned n terms set size) .0 e)
