@@ -1,5 +1,6 @@
-// Prints how many bytes of stack planning, checking, wiring and thinning take: the stack below is painted, the call runs
-// on it, and then we look how far down the paint is gone. About a hundred bytes of each number are the frames of the caller.
+// Prints how many bytes of stack planning, checking, wiring and thinning take: the stack below is painted, the call
+// runs on it, and then we look how far down the paint is gone. About a hundred bytes of each number are the frames of
+// the caller.
 
 mod panel;
 mod proved;
