@@ -6,14 +6,13 @@ use Prim.Native.Nat.{ℕ, suc, _+_, _*_, _-_, _/_, _^_, _≤_, min}
 use lib.Dec.{ltb}
 use lib.ListN.{length, take, drop, replicate}
 use Rattle.monomial.specs.Lists.{some}
-use Rattle.monomial.specs.Monomial.{Mono, width}
+use Rattle.monomial.specs.Monomial.{Mono}
 use Rattle.monomial.specs.Claims.{_∈_}
-use Rattle.wiring.specs.Panel.{cards, setBytes, setExponent}
+use Rattle.wiring.specs.Panel.{cards, setBytes}
 use Rattle.wiring.specs.Poly.{Poly}
-use Rattle.wiring.specs.Signals.{Fitting}
-use Rattle.wiring.specs.Terms.{records, system, CleanTerms}
+use Rattle.wiring.specs.Terms.{records, system}
 use Rattle.wiring.specs.Sets.{monomialsOf, setRecord}
-use Rattle.wiring.specs.Answers.{missing}
+use Rattle.wiring.specs.Answers.{missing, Judgeable}
 use Rattle.wiring.specs.declared.sets.Set.{Set}
 use Rattle.walk.specs.Walk.{Finds}
 use Rattle.walk.specs.Plan.{setsBytes}
@@ -72,13 +71,6 @@ pub record Sifting (n : ℕ) (terms : List ℕ) (l : Finds) (b : Best) (out : Li
 pub record Bounded (b : Best) (left : ℕ) : Type 0 where
   pub counted : b .count ≤ b .steps
   pub within : b .steps + left ≤ 2 ^ cards
-
--- a set that can be judged
-pub record Judgeable (n : ℕ) (terms : List ℕ) (set : Set) : Type 0 where
-  pub few : n ≤ width
-  pub clean : CleanTerms terms
-  pub small : set .len ≤ cards
-  pub fits : Fitting setExponent (monomialsOf set)
 
 -- the subsets that are still ahead where the signals of the given set from `at` on are undecided: the kept ones with each subset of these
 abbrev pub undecided : Set → ℕ → Set → Finds

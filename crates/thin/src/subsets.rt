@@ -13,9 +13,10 @@ ghost use lib.ListN.{length};
 ghost use Rattle.wiring.specs.Panel.{cards};
 ghost use Rattle.wiring.specs.Terms.{records, system};
 ghost use Rattle.wiring.specs.Sets.{monomialsOf};
+ghost use Rattle.wiring.specs.Answers.{Judgeable};
 ghost use Rattle.wiring.specs.Claims.{Wide};
 ghost use Rattle.walk.specs.Walk.{Finds};
-ghost use Rattle.thin.specs.Subsets.{isQuadratic, Begun, Sifting, Bounded, Judgeable, undecided, Deciding};
+ghost use Rattle.thin.specs.Subsets.{isQuadratic, Begun, Sifting, Bounded, undecided, Deciding};
 
 // What the subsets that were sifted come to: the least size of a quadratic one, how many of them have it, and how many subsets were sifted: the steps.
 pub struct Best {

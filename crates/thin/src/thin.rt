@@ -4,24 +4,22 @@ use super::subsets::Best;
 use wiring::answers;
 use wiring::buffer;
 use wiring::panel::SET_BYTES;
-use wiring::reply;
 use wiring::reply::Reply;
-use wiring::sets;
 use wiring::sets::Set;
 ghost use mathlib.Core.Path.{_≡_};
 ghost use Prim.Native.Nat.{_/_};
-ghost use lib.ListN.{length};
+ghost use lib.ListN.{length, replicate};
 ghost use Rattle.wiring.specs.Panel.{setBytes};
 ghost use Rattle.wiring.specs.Reply.{outcome};
 ghost use Rattle.wiring.specs.Terms.{records, system};
 ghost use Rattle.wiring.specs.Sets.{monomialsOf};
-ghost use Rattle.wiring.specs.Answers.{Wirable};
+ghost use Rattle.wiring.specs.Answers.{Listable};
 ghost use Rattle.walk.specs.Plan.{said};
 ghost use Rattle.thin.specs.Thin.{thinning, thinned};
 
 // Lists the smallest quadratic subsets of a quadratic set over zeros.
 fn thin_set(n: usize, terms: &[u8], set: Set, out: &mut [u8]) -> Reply
-    requires { ⌜ Wirable n (now terms) set (now out) ⌝ }
+    requires { ⌜ Listable n (now terms) set × (now out ≡ replicate (length (now out)) 0) ⌝ }
     ensures { λ r. ⌜ outcome r (now (out .exit)) ≡ said (thinning n (system (records (now (terms .entry)))) (monomialsOf set) (length (now (out .entry)) / setBytes)) (length (now (out .entry))) ⌝ }
 {
     let start = Best {
@@ -48,11 +46,10 @@ pub fn thin(n: u64, terms: &[u8], set: &[u8], out: &mut [u8]) -> Reply
     ensures { λ r. ⌜ outcome r (now (out .exit)) ≡ thinned n (now (terms .entry)) (now (set .entry)) (length (now (out .entry))) ⌝ }
 {
     buffer::clear(out);
-    let said = answers::check(n, terms, set);
-    let five = reply::numbers(said);
-    if five[0] != 0 {
+    let g = answers::accept(n, terms, set);
+    let said = g.said;
+    if !g.good {
         return said;
     }
-    let read = sets::read_set(n as usize, set);
-    thin_set(n as usize, terms, read.set, out)
+    thin_set(n as usize, terms, g.set, out)
 }

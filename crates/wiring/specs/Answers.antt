@@ -1,7 +1,7 @@
 -- Checking and wiring, for all inputs: the reply and every byte of the buffer. Checks run 1, 2, then record by record, 8, 9, 6.
 -- Assumes nothing.
 use mathlib.Core.Path.{_≡_}
-use mathlib.Core.Bool.{Bool, not, cond, _&&_}
+use mathlib.Core.Bool.{Bool, true, not, cond, _&&_}
 use mathlib.Core.List.{List, _++_}
 use Prim.Native.Nat.{ℕ, _*_, _-_, _≤_}
 use lib.Dec.{eqb, leb}
@@ -17,6 +17,7 @@ use Rattle.wiring.specs.Signals.{signals, Fitting}
 use Rattle.wiring.specs.Terms.{records, lengthRight, fault, system, CleanTerms}
 use Rattle.wiring.specs.Sets.{setOf, setRight, monomialsOf}
 use Rattle.wiring.specs.Wires.{Wire, wiring, wireRecord, Met}
+use Rattle.wiring.specs.declared.answers.Given.{Given}
 use Rattle.wiring.specs.declared.reply.Reply.{Reply}
 use Rattle.wiring.specs.declared.reply.Reply.the-variants.{Done, Setting, Length, Term, Twice, Full, BadSet, NotQuadratic}
 use Rattle.wiring.specs.declared.sets.Set.{Set}
@@ -78,11 +79,20 @@ wired n terms set size =
     let list = listed (length (setOf set)) (wires n (system (records terms)) (setOf set)) size in
     cond (eqb ((numbers said) .code) 0) list (refused said size)
 
--- a set and a buffer of zeros that a list can be written for
-pub record Wirable (n : ℕ) (terms : List ℕ) (set : Set) (out : List ℕ) : Type 0 where
-  pub clean : CleanTerms terms
+-- a set that can be judged, and one of which every derivative is met
+pub record Judgeable (n : ℕ) (terms : List ℕ) (set : Set) : Type 0 where
   pub few : n ≤ width
+  pub clean : CleanTerms terms
   pub small : set .len ≤ cards
   pub fits : Fitting setExponent (monomialsOf set)
+
+pub record Listable (n : ℕ) (terms : List ℕ) (set : Set) : Type 0 where
+  pub judgeable : Judgeable n terms set
   pub met : Met plain (signals width n (monomialsOf set)) (derivative plain (system (records terms)))
-  pub blank : out ≡ replicate (length out) 0
+
+-- what was given: the reply of checking, and where it is done the set of the record
+pub record Gives (n : ℕ) (terms bytes : List ℕ) (g : Given) : Type 0 where
+  pub said : verdict n terms bytes ≡ g .said
+  pub good : g .good ≡ eqb (numbers (g .said) .code) 0
+  pub holds : g .good ≡ true → monomialsOf (g .set) ≡ setOf bytes
+  pub lists : g .good ≡ true → Listable n terms (g .set)

@@ -14,14 +14,13 @@ use super::wires;
 use monomial::width::WIDTH;
 ghost use mathlib.Core.Path.{_≡_};
 ghost use Prim.Native.Nat.{_≤_};
-ghost use lib.ListN.{length};
+ghost use lib.ListN.{length, replicate};
 ghost use Rattle.monomial.specs.Monomial.{width};
-ghost use Rattle.wiring.specs.Panel.{cards, setBytes, setExponent};
+ghost use Rattle.wiring.specs.Panel.{setBytes};
 ghost use Rattle.wiring.specs.Reply.{numbers, outcome};
 ghost use Rattle.wiring.specs.Terms.{records, system, CleanTerms};
-ghost use Rattle.wiring.specs.Signals.{Fitting};
 ghost use Rattle.wiring.specs.Sets.{monomialsOf};
-ghost use Rattle.wiring.specs.Answers.{countRight, judged, recordJudged, checked, listed, wires, wired, Wirable};
+ghost use Rattle.wiring.specs.Answers.{countRight, judged, recordJudged, checked, listed, wires, wired, Judgeable, Listable, Gives};
 
 // Whether n is a number of variables that the panel has.
 pub fn count_right(n: u64) -> bool
@@ -35,7 +34,7 @@ pub fn count_right(n: u64) -> bool
 
 // What is said of a set that keeps its rule.
 pub fn judge(n: usize, terms: &[u8], set: Set) -> Reply
-    requires { ⌜ CleanTerms (now terms) × ((n ≤ width) × ((set .len ≤ cards) × Fitting setExponent (monomialsOf set))) ⌝ }
+    requires { ⌜ Judgeable n (now terms) set ⌝ }
     ensures { λ r. ⌜ r ≡ judged n (system (records (now (terms .entry)))) (monomialsOf set) ⌝ }
 {
     let v = signals::signals_of(n, set);
@@ -88,9 +87,38 @@ pub fn check(n: u64, terms: &[u8], set: &[u8]) -> Reply
     }
 }
 
+// What was given: the reply of checking, and the set of the record where good is true, which is where that reply is done.
+pub struct Given {
+    pub good: bool,
+    pub said: Reply,
+    pub set: Set,
+}
+
+// Checks a set record, and reads it where it is quadratic. What lists something of a quadratic set begins with it.
+pub fn accept(n: u64, terms: &[u8], set: &[u8]) -> Given
+    ensures { λ r. ⌜ Gives n (now (terms .entry)) (now (set .entry)) r ⌝ }
+{
+    let said = check(n, terms, set);
+    let five = reply::numbers(said);
+    if five[0] != 0 {
+        return Given {
+            good: false,
+            said,
+            set: Set::EMPTY,
+        };
+    }
+    let read = sets::read_set(n as usize, set);
+    let held = read.set;
+    Given {
+        good: true,
+        said,
+        set: held,
+    }
+}
+
 // Writes the list of a quadratic set over zeros.
 fn list_wires(n: usize, terms: &[u8], set: Set, out: &mut [u8]) -> Reply
-    requires { ⌜ Wirable n (now terms) set (now out) ⌝ }
+    requires { ⌜ Listable n (now terms) set × (now out ≡ replicate (length (now out)) 0) ⌝ }
     ensures { λ r. ⌜ outcome r (now (out .exit)) ≡ listed (length (monomialsOf set)) (wires n (system (records (now (terms .entry)))) (monomialsOf set)) (length (now (out .entry))) ⌝ }
 {
     let v = signals::signals_of(n, set);
@@ -112,11 +140,10 @@ pub fn wire(n: u64, terms: &[u8], set: &[u8], out: &mut [u8]) -> Reply
     ensures { λ r. ⌜ outcome r (now (out .exit)) ≡ wired n (now (terms .entry)) (now (set .entry)) (length (now (out .entry))) ⌝ }
 {
     buffer::clear(out);
-    let said = check(n, terms, set);
-    let five = reply::numbers(said);
-    if five[0] != 0 {
+    let g = accept(n, terms, set);
+    let said = g.said;
+    if !g.good {
         return said;
     }
-    let read = sets::read_set(n as usize, set);
-    list_wires(n as usize, terms, read.set, out)
+    list_wires(n as usize, terms, g.set, out)
 }

@@ -132,7 +132,7 @@ fn set_of(s: &[u8], len: usize) -> Set
 }
 
 // Reads a set record.
-pub fn read_set(n: usize, s: &[u8]) -> SetRead
+pub(crate) fn read_set(n: usize, s: &[u8]) -> SetRead
     requires { ⌜ length (now s) ≡ setBytes ⌝ }
     ensures { λ r. ⌜ SetReads n (now (s .entry)) r ⌝ }
 {

@@ -10,13 +10,14 @@ use Rattle.monomial.specs.Monomial.{Mono}
 use Rattle.wiring.specs.Panel.{cards}
 use Rattle.wiring.specs.Poly.{Poly}
 use Rattle.wiring.specs.Sets.{monomialsOf}
+use Rattle.wiring.specs.Answers.{Judgeable}
 use Rattle.wiring.specs.Claims.{Wide}
 use Rattle.wiring.specs.declared.sets.Set.{Set}
 use Rattle.wiring.proofs.signals.Laws.{front-length}
 use Rattle.wiring.specs.Terms.{records, system}
 use Rattle.walk.specs.Walk.{Finds}
 use Rattle.thin.specs.declared.subsets.Best.{Best}
-use Rattle.thin.specs.Subsets.{Tally, tally, isQuadratic, sifted, allSifted, Begun, Holds, Sifting, Judgeable}
+use Rattle.thin.specs.Subsets.{Tally, tally, isQuadratic, sifted, allSifted, Begun, Holds, Sifting}
 
 -- a set held by value has as many monomials as it says, and each has the panel's width
 module _ (n : ℕ) (terms : List ℕ) (set : Set) (j : Judgeable n terms set) (full : length (set .m) ≡ cards) where

@@ -28,7 +28,7 @@ use Rattle.walk.proofs.listing.Laid.{sets-laid}
 use Rattle.walk.proofs.listing.Wiring.{Usable, usable-checks, laid-wired, laid-wires}
 use Rattle.walk.proofs.plan.Laws.{said-done, said-full}
 use Rattle.thin.specs.Thin.{thinned}
-use Rattle.thin.specs.Claims.{ThinSet, Thinnest, leastIn, thinnestIn, Thinnable, ThinSays, thinLeaves, Thinned, Overfull}
+use Rattle.thin.specs.Claims.{Thinnest, leastIn, thinnestIn, Thinnable, ThinSays, thinLeaves, Thinned, Overfull}
 use Rattle.thin.proofs.thin.Laws.{thinned-refused, thinned-done, thinning-done, thinning-full}
 use Rattle.thin.proofs.thin.Smallest.{thin-smallest}
 

@@ -8,19 +8,16 @@ use borrow.Author.Tests.{le-leb, lt-leb, ne-eqb}
 use lib.ListN.{length, replicate}
 use lib.Seq.{take-all}
 use Rattle.monomial.specs.Monomial.{Mono, one, width}
-use Rattle.monomial.proofs.Tests.{T→is}
 use Rattle.wiring.specs.Panel.{cards, setBytes}
 use Rattle.wiring.specs.Poly.{Poly}
 use Rattle.wiring.specs.Reply.{numbers, outcome, refused}
 use Rattle.wiring.specs.Terms.{records, system}
-use Rattle.wiring.specs.Sets.{setOf, setRight, monomialsOf, SetReads}
-use Rattle.wiring.specs.Answers.{verdict, Wirable}
+use Rattle.wiring.specs.Sets.{setOf, monomialsOf}
+use Rattle.wiring.specs.Answers.{verdict, Listable}
 use Rattle.wiring.specs.declared.reply.Reply.{Reply}
 use Rattle.wiring.specs.declared.reply.Reply.the-variants.{Done, Full}
 use Rattle.wiring.specs.declared.sets.Set.{Set}
-use Rattle.wiring.specs.declared.sets.SetRead.{SetRead}
 use Rattle.wiring.proofs.signals.Laws.{front-length}
-use Rattle.wiring.proofs.answers.Laws.{Readable}
 use Rattle.walk.specs.Walk.{Finds}
 use Rattle.walk.specs.Plan.{Ending, done, fullAt, setsBytes, said}
 use Rattle.walk.proofs.plan.Laws.{said-done, said-full}
@@ -46,7 +43,7 @@ module _ (n : ℕ) (fs : List (Poly Mono)) (s : List Mono) (size : ℕ) where
 abbrev no-signals : Set
 no-signals = record { m = replicate cards (record { e = one width }); len = 0 }
 
-module _ (n : ℕ) (terms : List ℕ) (set : Set) (out : List ℕ) (w : Wirable n terms set out) (full : length (set .m) ≡ cards) where
+module _ (n : ℕ) (terms : List ℕ) (set : Set) (out : List ℕ) (w : Listable n terms set) (blank : out ≡ replicate (length out) 0) (full : length (set .m) ≡ cards) where
   abbrev fs : List (Poly Mono)
   fs = system (records terms)
 
@@ -57,12 +54,12 @@ module _ (n : ℕ) (terms : List ℕ) (set : Set) (out : List ℕ) (w : Wirable 
   start = record { order = set .len; count = 0; steps = 0 }
 
   size : set .len ≡ length s
-  size = sym (front-length (set .len) (set .m) (omega (arith, w .small)))
+  size = sym (front-length (set .len) (set .m) (omega (arith, w .judgeable .small)))
 
   pub start-deciding : Deciding n terms set 0 no-signals
   start-deciding = record {
-    whole = record { few = w .few; clean = w .clean; small = w .small; fits = w .fits };
-    part = record { few = w .few; clean = w .clean; small = omega arith; fits = λ m h. absurd (List·Memᴰ·not-nil h) };
+    whole = w .judgeable;
+    part = record { few = w .judgeable .few; clean = w .judgeable .clean; small = omega arith; fits = λ m h. absurd (List·Memᴰ·not-nil h) };
     within = omega arith;
     fewer = omega arith;
   }
@@ -73,14 +70,14 @@ module _ (n : ℕ) (terms : List ℕ) (set : Set) (out : List ℕ) (w : Wirable 
   pub start-bounded : Bounded start (length (undecided set 0 no-signals))
   start-bounded =
       let many : length (undecided set 0 no-signals) ≡ 2 ^ length s = ap length all-subsets ∙ subsets-count s in
-      let most : 2 ^ length s ≤ 2 ^ cards = pow-le-pow-right {n = 2} (omega arith) {i = length s} {j = cards} (omega (arith, size, w .small)) in
+      let most : 2 ^ length s ≤ 2 ^ cards = pow-le-pow-right {n = 2} (omega arith) {i = length s} {j = cards} (omega (arith, size, w .judgeable .small)) in
       record { counted = omega arith; within = omega arith }
 
   -- when all subsets are sifted
   module _ (b : Best) (out' : List ℕ) (m : Sifting n terms (undecided set 0 no-signals) start out b out') where
     pub all-sifted : Holds (tally (least n fs s) (thinnest n fs s) (2 ^ length s)) b out'
     all-sifted =
-        let begins : Holds (tally (length s) [] 0) start out = record { order = size; count = refl; steps = refl; list = begun-none out (w .blank) } in
+        let begins : Holds (tally (length s) [] 0) start out = record { order = size; count = refl; steps = refl; list = begun-none out blank } in
         let all : allSifted n fs (tally (length s) [] 0) (undecided set 0 no-signals) ≡ tally (least n fs s) (thinnest n fs s) (2 ^ length s) =
         ap (allSifted n fs (tally (length s) [] 0)) all-subsets ∙ tally-thinnest n fs s in
         subst (λ (t : Tally). Holds t b out') all (m .tallied (tally (length s) [] 0) begins)
@@ -120,8 +117,6 @@ module _ (n : ℕ) (terms set : List ℕ) (size : ℕ) where
   thinned-done o c k e = rw e
 
 -- the subsets of the set that was read are those of the set that was given
-pub thinning-as : (n : ℕ) (terms bytes : List ℕ) (size size' : ℕ) (r : SetRead) → Readable n terms bytes → SetReads n bytes r → size' ≡ size
-    → said (thinning n (system (records terms)) (monomialsOf (r .set)) (size' / setBytes)) size' ≡ said (thinning n (system (records terms)) (setOf bytes) (size / setBytes)) size
-thinning-as n terms bytes size size' r a s e =
-    let held = s .holds (s .right ∙ T→is (setRight n bytes) (a .right)) in
-    ap₂ (λ (m : List Mono) (k : ℕ). said (thinning n (system (records terms)) m (k / setBytes)) k) held e
+pub thinning-as : (n : ℕ) (terms bytes : List ℕ) (size size' : ℕ) (set : List Mono) → set ≡ setOf bytes → size' ≡ size
+    → said (thinning n (system (records terms)) set (size' / setBytes)) size' ≡ said (thinning n (system (records terms)) (setOf bytes) (size / setBytes)) size
+thinning-as n terms bytes size size' set held e = ap₂ (λ (m : List Mono) (k : ℕ). said (thinning n (system (records terms)) m (k / setBytes)) k) held e

@@ -4,7 +4,7 @@ use mathlib.Core.Bool.{Bool, true, false, not, _&&_}
 use mathlib.Core.List.{List, [], _++_, List·Memᴰ·not-nil}
 use Prim.Native.Nat.{ℕ, _*_, _-_, _<_, _≤_}
 use native.Mathlib.Omega.{arith}
-use borrow.Author.Tests.{eq-eqb, ne-eqb, le-leb, lt-leb}
+use borrow.Author.Tests.{eq-eqb, ne-eqb, eqb-true, eqb-false, le-leb, lt-leb}
 use lib.Dec.{T, eqb, leb, leb→le, eqb→eq}
 use lib.ListN.{length, getD, replicate}
 use Rattle.monomial.specs.Lists.{any, some, place, gather}
@@ -15,6 +15,7 @@ use Rattle.monomial.proofs.Counting.{place-lt, place-any}
 use Rattle.monomial.proofs.Members.{some-none}
 use Rattle.monomial.proofs.order.Laws.{mono-order}
 use Rattle.wiring.specs.Panel.{setBytes, setExponent, wireBytes}
+use Rattle.wiring.specs.declared.answers.Given.{Given}
 use Rattle.wiring.specs.declared.reply.Reply.{Reply}
 use Rattle.wiring.specs.declared.reply.Reply.the-variants.{Done, Setting, Length, Full, BadSet, NotQuadratic}
 use Rattle.wiring.specs.declared.terms.Fault.{Fault}
@@ -28,7 +29,7 @@ use Rattle.wiring.specs.Signals.{signals, Fitting}
 use Rattle.wiring.specs.Terms.{records, lengthRight, fault, system}
 use Rattle.wiring.specs.Sets.{setOf, setRight, monomialsOf, SetReads}
 use Rattle.wiring.specs.Wires.{Wire, wireRecord, Sheet, Met}
-use Rattle.wiring.specs.Answers.{unless, unlessFault, countRight, missing, firstUnmet, judged, recordJudged, verdict, checked, listed, wires, wired, Wirable}
+use Rattle.wiring.specs.Answers.{unless, unlessFault, countRight, missing, firstUnmet, judged, recordJudged, verdict, checked, listed, wires, wired, Listable, Gives}
 use Rattle.wiring.proofs.quadratic.Laws.{some-nonsquares, unmet-in, nonsquares-in}
 use Rattle.wiring.proofs.reply.Laws.{same-reply, IsDone, code-done}
 use Rattle.wiring.proofs.sets.Laws.{right-fits}
@@ -218,27 +219,36 @@ done-accepted n terms set r e k =
     let d : IsDone r = code-done r k in
     accepted n terms set (d .order) (d .count) (d .steps) (is-verdict n terms set r e ∙ d .is) .0
 
-pub wirable : (n : ℕ) (terms bytes out : List ℕ) (size : ℕ) (r : SetRead) → Readable n terms bytes → SetReads n bytes r → out ≡ replicate size 0 → length out ≡ size
-    → Wirable n terms (r .set) out
-wirable n terms bytes out size r a s e l = record {
-  clean = clean-widens n (records terms) (count-few n count) (a .clean);
-  few = count-few n count;
-  small = s .fits;
-  fits = subst (Fitting setExponent) (sym held) (right-fits n bytes (a .long) (a .right));
-  met = subst (λ (m : List Mono). Met plain (signals width n m) (derivative plain (system (records terms)))) (sym held) (none-met n (system (records terms)) (setOf bytes) (a .none));
-  blank = e ∙ ap (λ (k : ℕ). replicate k 0) (sym l);
-}
-  where
-    count : countRight n ≡ true
-    count = T→is (countRight n) (a .count)
+-- the set that was read is that of the record, and a list can be made of it
+module _ (n : ℕ) (terms bytes : List ℕ) (r : SetRead) (a : Readable n terms bytes) (s : SetReads n bytes r) where
+  pub read-held : monomialsOf (r .set) ≡ setOf bytes
+  read-held = s .holds (s .right ∙ T→is (setRight n bytes) (a .right))
 
-    held : monomialsOf (r .set) ≡ setOf bytes
-    held = s .holds (s .right ∙ T→is (setRight n bytes) (a .right))
+  pub read-lists : Listable n terms (r .set)
+  read-lists = record {
+    judgeable = record {
+      few = count-few n count;
+      clean = clean-widens n (records terms) (count-few n count) (a .clean);
+      small = s .fits;
+      fits = subst (Fitting setExponent) (sym read-held) (right-fits n bytes (a .long) (a .right));
+    };
+    met = subst (λ (m : List Mono). Met plain (signals width n m) (derivative plain (system (records terms)))) (sym read-held) (none-met n (system (records terms)) (setOf bytes) (a .none));
+  }
+    where
+      count : countRight n ≡ true
+      count = T→is (countRight n) (a .count)
+
+-- ---- what lists something of the set that was given
+module _ (n : ℕ) (terms bytes : List ℕ) (g : Given) (gives : Gives n terms bytes g) where
+  -- it was refused
+  pub given-refused : g .good ≡ false → (verdict n terms bytes ≡ g .said) × (numbers (g .said) .code ≡ 0 → ⊥)
+  given-refused e = (gives .said, eqb-false (numbers (g .said) .code) 0 (sym (gives .good) ∙ e))
+
+  -- it was not
+  pub given-done : g .good ≡ true → IsDone (verdict n terms bytes)
+  given-done e = let d = code-done (g .said) (eqb-true (numbers (g .said) .code) 0 (sym (gives .good) ∙ e)) in record { order = d .order; count = d .count; steps = d .steps; is = gives .said ∙ d .is }
 
 -- the list of the set that was read is the list of the set that was given
-pub listed-as : (n : ℕ) (terms bytes : List ℕ) (size size' : ℕ) (r : SetRead) → Readable n terms bytes → SetReads n bytes r → size' ≡ size
-    → listed (length (monomialsOf (r .set))) (wires n (system (records terms)) (monomialsOf (r .set))) size' ≡ listed (length (setOf bytes))
-    (wires n (system (records terms)) (setOf bytes)) size
-listed-as n terms bytes size size' r a s e =
-    let held = s .holds (s .right ∙ T→is (setRight n bytes) (a .right)) in
-    ap₂ (λ (m : List Mono) (k : ℕ). listed (length m) (wires n (system (records terms)) m) k) held e
+pub listed-as : (n : ℕ) (terms bytes : List ℕ) (size size' : ℕ) (set : List Mono) → set ≡ setOf bytes → size' ≡ size
+    → listed (length set) (wires n (system (records terms)) set) size' ≡ listed (length (setOf bytes)) (wires n (system (records terms)) (setOf bytes)) size
+listed-as n terms bytes size size' set held e = ap₂ (λ (m : List Mono) (k : ℕ). listed (length m) (wires n (system (records terms)) m) k) held e

@@ -13,7 +13,7 @@ decide-requires c κs =
     let start = c .before .before .before in
     let full : length (start .args .set .m) ≡ cards = search (needs, array-length) in
     let a = start .args in
-    (start-deciding (a .n) (a .terms .now) (a .set) (a .out .now) (start .pre) full, start-bounded (a .n) (a .terms .now) (a .set) (a .out .now) (start .pre) full)
+    (start-deciding (a .n) (a .terms .now) (a .set) (a .out .now) (start .pre .0) (start .pre .1) full, start-bounded (a .n) (a .terms .now) (a .set) (a .out .now) (start .pre .0) (start .pre .1) full)
 
 clear-requires : tie.Need-clear-requires
 clear-requires c κs = search needs
@@ -28,7 +28,7 @@ returns c =
     let a = start .args in
     let sifted = c .before .before .before .before .before .before .before .before .decide in
     let at-clear = c .before .before in
-    ended-full (a .n) (a .terms .now) (a .set) (a .out .now) (start .pre) full (sifted .result) (sifted .last .1 .1 .1 .1 .1 .0) (sifted .ensures) (sifted .kept .1 .1 .1 .1 .1 .0)
+    ended-full (a .n) (a .terms .now) (a .set) (a .out .now) (start .pre .0) (start .pre .1) full (sifted .result) (sifted .last .1 .1 .1 .1 .1 .0) (sifted .ensures) (sifted .kept .1 .1 .1 .1 .1 .0)
     (at-clear .before .before .if1 .taken) (at-clear .clear .last .0) (at-clear .clear .ensures)
 
 same-length-2 : tie.Need-same-length-2
@@ -40,7 +40,7 @@ returns-2 c =
     let full : length (start .args .set .m) ≡ cards = search (needs, array-length) in
     let a = start .args in
     let sifted = c .before .before .before .before .decide in
-    ended-done (a .n) (a .terms .now) (a .set) (a .out .now) (start .pre) full (sifted .result) (sifted .last .1 .1 .1 .1 .1 .0) (sifted .ensures) (sifted .kept .1 .1 .1 .1 .1 .0)
+    ended-done (a .n) (a .terms .now) (a .set) (a .out .now) (start .pre .0) (start .pre .1) full (sifted .result) (sifted .last .1 .1 .1 .1 .1 .0) (sifted .ensures) (sifted .kept .1 .1 .1 .1 .1 .0)
     (c .if1 .left)
 
 pub thin-set-spec : {M : Type 1} → statement M

@@ -25,7 +25,7 @@ fits-as b n v s h e f = subst (Fitting b) (sym e) (fitting-weaken setExponent b 
 signals-of-requires : tie.Need-signals-of-requires
 signals-of-requires c κs =
     let p = c .before .pre in
-    (p .1 .0, p .1 .1 .0)
+    (p .few, p .small)
 
 slice-aggregate-products-of : tie.Need-slice-aggregate-products-of
 slice-aggregate-products-of c = search needs
@@ -34,7 +34,7 @@ products-of-requires : tie.Need-products-of-requires
 products-of-requires c κs =
     let s = c .before .before .before in
     let v = c .before .signals-of .ensures in
-    (omega arith, (fits-as 127 (s .args .n) _ _ (omega arith) (v .0) (s .pre .1 .1 .1), omega arith))
+    (omega arith, (fits-as 127 (s .args .n) _ _ (omega arith) (v .0) (s .pre .fits), omega arith))
 
 array-share-prefix-table : tie.Need-array-share-prefix-table
 array-share-prefix-table c = omega (arith, c .before .products-of .kept .1 .0, c .before .products-of .ensures .1)
@@ -50,7 +50,7 @@ first-unmet-requires c κs =
     let s = at-signals-of .before .before in
     let v = at-signals-of .signals-of .ensures in
     let sq = c .before .before .products-of .ensures in
-    (s .pre .0, (omega arith, (omega arith, (fits-as setExponent (s .args .n) _ _ (omega arith) (v .0) (s .pre .1 .1 .1), sq .0))))
+    (s .pre .clean, (omega arith, (omega arith, (fits-as setExponent (s .args .n) _ _ (omega arith) (v .0) (s .pre .fits), sq .0))))
 
 returns : tie.Need-returns
 returns c =

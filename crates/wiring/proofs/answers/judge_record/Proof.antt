@@ -30,7 +30,7 @@ judge-requires c κs =
     let good = not-false _ (c .if1 .left) in
     let right = is→T (setRight (a .n) (a .set .now)) (sym (r .right) ∙ good) in
     let fits = subst (Fitting setExponent) (sym (r .holds good)) (right-fits (a .n) (a .set .now) (s .pre .1 .1) right) in
-    (s .pre .0, (s .pre .1 .0, (r .fits, fits)))
+    record { few = s .pre .1 .0; clean = s .pre .0; small = r .fits; fits = fits }
 
 returns-2 : tie.Need-returns-2
 returns-2 c =

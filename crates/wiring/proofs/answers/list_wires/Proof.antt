@@ -25,7 +25,7 @@ use Rattle.wiring.proofs.answers.list_wires.Tie as tie
 
 signals-of-requires : tie.Need-signals-of-requires
 signals-of-requires c κs =
-    let q = c .before .before .pre in
+    let q = c .before .before .pre .0 .judgeable in
     (q .few, q .small)
 
 write-wires-requires : tie.Need-write-wires-requires
@@ -35,8 +35,8 @@ write-wires-requires c κs =
     let v = c .before .signals-of .ensures in
     let m = monomialsOf (s .args .set) in
     let d = derivative plain (system (records (s .args .terms .now))) in
-    let fits = fitting-weaken setExponent setExponent (signals width (s .args .n) m) (omega arith) (signals-fitting setExponent (s .args .n) m (omega arith) (q .fits)) in
-    (q .clean, (omega arith, (subst (Fitting setExponent) (sym (v .0)) fits, (sheet-start (s .args .out .now) (q .blank), subst (λ (l : List Mono). Met plain l d) (sym (v .0)) (q .met)))))
+    let fits = fitting-weaken setExponent setExponent (signals width (s .args .n) m) (omega arith) (signals-fitting setExponent (s .args .n) m (omega arith) (q .0 .judgeable .fits)) in
+    (q .0 .judgeable .clean, (omega arith, (subst (Fitting setExponent) (sym (v .0)) fits, (sheet-start (s .args .out .now) (q .1), subst (λ (l : List Mono). Met plain l d) (sym (v .0)) (q .0 .met)))))
 
 same-length : tie.Need-same-length
 same-length c = c .before .before .before .write-wires .kept .1 .1 .0
@@ -48,7 +48,7 @@ returns c =
     let at-write-wires = c .before .before .before in
     let at-signals-of = at-write-wires .before .before in
     let m = monomialsOf (s .args .set) in
-    let few : s .args .set .len ≤ length (s .args .set .m) = omega (arith, s .pre .small) in
+    let few : s .args .set .len ≤ length (s .args .set .m) = omega (arith, s .pre .0 .judgeable .small) in
     let size : s .args .set .len ≡ length m = sym (front-length (s .args .set .len) (s .args .set .m) few) in
     let d = derivative plain (system (records (s .args .terms .now))) in
     let w = at-write-wires .write-wires in
@@ -74,7 +74,7 @@ returns-2 c =
     let at-write-wires = at-if1 .before .before .before in
     let at-signals-of = at-write-wires .before .before in
     let m = monomialsOf (s .args .set) in
-    let few : s .args .set .len ≤ length (s .args .set .m) = omega (arith, s .pre .small) in
+    let few : s .args .set .len ≤ length (s .args .set .m) = omega (arith, s .pre .0 .judgeable .small) in
     let size : s .args .set .len ≡ length m = sym (front-length (s .args .set .len) (s .args .set .m) few) in
     let d = derivative plain (system (records (s .args .terms .now))) in
     let w = at-write-wires .write-wires in
