@@ -22,6 +22,16 @@ unsafe extern "C" {
         out_len: usize,
         five: *mut [u64; 5],
     );
+    fn siragumon_thin(
+        n: u64,
+        terms: *const u8,
+        terms_len: usize,
+        set: *const u8,
+        set_len: usize,
+        out: *mut u8,
+        out_len: usize,
+        five: *mut [u64; 5],
+    );
 }
 
 // In each call the slices and the five numbers are apart and live through it, and nothing more is asked of the caller.
@@ -44,5 +54,12 @@ pub fn check(n: u64, terms: &[u8], set: &[u8]) -> [u64; 5] {
 pub fn wire(n: u64, terms: &[u8], set: &[u8], out: &mut [u8]) -> [u64; 5] {
     let mut five = [0; 5];
     unsafe { siragumon_wire(n, terms.as_ptr(), terms.len(), set.as_ptr(), set.len(), out.as_mut_ptr(), out.len(), &mut five) };
+    five
+}
+
+#[allow(dead_code)]
+pub fn thin(n: u64, terms: &[u8], set: &[u8], out: &mut [u8]) -> [u64; 5] {
+    let mut five = [0; 5];
+    unsafe { siragumon_thin(n, terms.as_ptr(), terms.len(), set.as_ptr(), set.len(), out.as_mut_ptr(), out.len(), &mut five) };
     five
 }
