@@ -17,6 +17,8 @@ pub const WIRE_BYTES: usize = 8;
 pub const CAP: u64 = CARDS as u64;
 pub const ROOM: usize = 1000 * SET_BYTES;
 pub const WIRES: usize = (1 + CARDS) * TERMS * WIRE_BYTES;
+// Thinning lists no more sets than a set has subsets.
+pub const SUBSETS: usize = (1 << CARDS) * SET_BYTES;
 
 // 1, the variables and the new signals; and each product of two of them.
 pub const SIGNALS: usize = 1 + VARIABLES + CARDS;

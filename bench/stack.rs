@@ -1,12 +1,12 @@
 // Prints how many bytes of stack planning, checking, wiring and thinning take: the stack below is painted, the call
 // runs on it, and then we look how far down the paint is gone. About a hundred bytes of each number are the frames of
-// the caller.
+// the caller. Thinning goes as deep as the set is large; some of the sets take every card.
 
 mod panel;
 mod proved;
 mod systems;
 
-use panel::{CAP, ROOM, SET_BYTES, WIRES};
+use panel::{CAP, ROOM, SET_BYTES, SUBSETS, WIRES};
 use std::hint::black_box;
 
 // Several times what a call takes, and little enough for any thread.
@@ -45,10 +45,8 @@ fn measured(call: &mut dyn FnMut() -> [u64; 5]) -> ([u64; 5], usize) {
 
 fn main() {
     let mut most = [0; 4];
-    println!(
-        "{:<28} {:>12} {:>13} {:>12} {:>12}",
-        "variables: system", "plan: order", "check: code", "wire: code", "thin: code"
-    );
+    print!("{:<28} {:>12} {:>13}", "variables: system", "plan: order", "check: code");
+    println!(" {:>12} {:>12}", "wire: code", "thin: code");
     for s in systems::SYSTEMS {
         let terms = s.terms.as_flattened();
         let mut sets = vec![0; ROOM];
@@ -58,12 +56,10 @@ fn main() {
         let set = &sets[..SET_BYTES];
         let check = measured(&mut || proved::check(s.n, black_box(terms), set));
         let wire = measured(&mut || proved::wire(s.n, black_box(terms), set, &mut wires));
-        let mut subsets = vec![0; ROOM];
+        let mut subsets = [0; SUBSETS];
         let thin = measured(&mut || proved::thin(s.n, black_box(terms), set, &mut subsets));
-        println!(
-            "{:<28} {:>4} {:>7} {:>5} {:>7} {:>4} {:>7} {:>4} {:>7}",
-            s.name, plan.0[1], plan.1, check.0[0], check.1, wire.0[0], wire.1, thin.0[0], thin.1
-        );
+        print!("{:<28} {:>4} {:>7} {:>5} {:>7}", s.name, plan.0[1], plan.1, check.0[0], check.1);
+        println!(" {:>4} {:>7} {:>4} {:>7}", wire.0[0], wire.1, thin.0[0], thin.1);
         for (m, used) in most.iter_mut().zip([plan.1, check.1, wire.1, thin.1]) {
             *m = used.max(*m);
         }

@@ -1,5 +1,6 @@
 /*
- * The patch planner for C: planning, checking and wiring. Link libplanner_c.a, which `rt staticlib planner_c` makes.
+ * The patch planner for C: planning, checking, wiring and thinning. Link libplanner_c.a, which `rt staticlib planner_c`
+ * makes.
  *
  * Numbers. A reply is five numbers, written to `five` in every case: code, order, count, steps, place. A number that
  * the table below does not name is 0.
@@ -14,8 +15,8 @@
  * `five` is never NULL.
  *
  * Calls. There is no state behind them: they may run in any thread and at the same time. They take no heap, call
- * nothing but memcpy and memset, and always return. Stack, measured on x86-64 and rounded up: 12 KB for planning, 2 KB
- * for each of the others.
+ * nothing but memcpy and memset, and always return. Stack, measured on x86-64 and rounded up: 12 KB for planning, 6 KB
+ * for thinning, 2 KB for each of the others.
  */
 #ifndef SIRAGUMON_PLANNER_H
 #define SIRAGUMON_PLANNER_H
@@ -44,7 +45,9 @@ enum siragumon_number {
 enum siragumon_code {
     /* plan: all smallest sets; order: size of a set, count of sets, steps.
        check: the set is quadratic; order: size of the set.
-       wire: the list; order: size of the set, count of records. */
+       wire: the list; order: size of the set, count of records.
+       thin: all smallest quadratic subsets of the set; order: size of a subset, count of subsets, steps: all subsets
+       of the set, 2 to the power of its size. */
     SIRAGUMON_DONE = 0,
     /* n, cap or limit out of range. */
     SIRAGUMON_SETTING = 1,
@@ -58,7 +61,8 @@ enum siragumon_code {
     /* plan: no set with at most cap new signals; order: cap + 1, steps. */
     SIRAGUMON_NONE = 5,
     /* plan: more sets than `out` holds; order: the level, steps with the finding step.
-       wire: a longer list than `out` holds; order: size of the set. */
+       wire: a longer list than `out` holds; order: size of the set.
+       thin: more smallest subsets than `out` holds; order: size of a subset, steps as after SIRAGUMON_DONE. */
     SIRAGUMON_FULL = 6,
     /* plan: the next step would pass the limit; order: the level of the step not taken, steps: the limit. */
     SIRAGUMON_SPENT = 7,
@@ -99,6 +103,10 @@ enum siragumon_code {
 #define SIRAGUMON_SET_EXPONENT_MOST (SIRAGUMON_CARDS * SIRAGUMON_EXPONENT_MOST)
 #define SIRAGUMON_SET_BYTES (SIRAGUMON_CARDS * SIRAGUMON_VARIABLES)
 
+/* The most subsets that a set has: each signal is kept or dropped. */
+#define SIRAGUMON_SUBSETS_MOST (1 << SIRAGUMON_CARDS)
+#define SIRAGUMON_SUBSETS_BYTES (SIRAGUMON_SUBSETS_MOST * SIRAGUMON_SET_BYTES)
+
 /*
  * A wiring record: left signal, first factor a, second factor b (a <= b), zero, coefficient (four bytes as above). The
  * derivative of the left signal is the sum of its records' coefficient times a times b. Signal 0 is 1, signals 1 to n
@@ -127,6 +135,15 @@ void siragumon_check(uint64_t n, const uint8_t *terms, size_t terms_len, const u
  * ascending. `out` holds out_len / SIRAGUMON_WIRE_BYTES records, rounded down.
  */
 void siragumon_wire(uint64_t n, const uint8_t *terms, size_t terms_len, const uint8_t *set, size_t set_len,
+                    uint8_t *out, size_t out_len, uint64_t five[SIRAGUMON_NUMBERS]);
+
+/*
+ * Thins: finds all smallest quadratic subsets of a quadratic set, which the set itself and the empty set may be. They
+ * are the smallest of the subsets of that set and of nothing else: planning may find sets that are smaller. `out` holds
+ * out_len / SIRAGUMON_SET_BYTES subsets, rounded down; they are written ascending, and each of them can be wired.
+ * SIRAGUMON_SUBSETS_BYTES are always enough.
+ */
+void siragumon_thin(uint64_t n, const uint8_t *terms, size_t terms_len, const uint8_t *set, size_t set_len,
                     uint8_t *out, size_t out_len, uint64_t five[SIRAGUMON_NUMBERS]);
 
 #ifdef __cplusplus

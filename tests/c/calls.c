@@ -1,6 +1,6 @@
 /*
- * Calls planning, checking and wiring as C sees them. Each case runs on junk between guard bytes, and compares the five
- * numbers and every byte of the buffer. Ends with status 1 where one differs.
+ * Calls planning, checking, wiring and thinning as C sees them. Each case runs on junk between guard bytes, and compares
+ * the five numbers and every byte of the buffer. Ends with status 1 where one differs.
  */
 #include "planner.h"
 
@@ -88,6 +88,7 @@ static void expect_row(const char *name, const uint64_t *five) {
 #define FIVE(code, order, count, steps, place) \
     (const uint64_t[]) { code, order, count, steps, place }
 
+static const uint8_t x1[] = {TERM(1, 1, 0, 0, 1)};
 static const uint8_t x2[] = {TERM(1, 2, 0, 0, 1)};
 static const uint8_t x3[] = {TERM(1, 3, 0, 0, 1)};
 static const uint8_t x4[] = {TERM(1, 4, 0, 0, 1)};
@@ -107,9 +108,13 @@ static const uint8_t coefficient_out[] = {TERM(1, 1, 0, 0, SIRAGUMON_COEFFICIENT
 static const uint8_t exponent_in[] = {TERM(1, SIRAGUMON_EXPONENT_MOST, 0, 0, 1)};
 static const uint8_t exponent_out[] = {TERM(1, SIRAGUMON_EXPONENT_MOST + 1, 0, 0, 1)};
 static const uint8_t twice[] = {TERM(1, 1, 0, 0, 1), TERM(1, 1, 0, 0, 1)};
+static const uint8_t twice_then_out[] = {TERM(1, 1, 0, 0, 1), TERM(1, 1, 0, 0, 1), TERM(1, SIRAGUMON_EXPONENT_MOST + 1, 0, 0, 1)};
+static const uint8_t out_then_twice[] = {TERM(1, 1, 0, 0, 1), TERM(1, SIRAGUMON_EXPONENT_MOST + 1, 0, 0, 1), TERM(1, 1, 0, 0, 1)};
 /* linear and square records, no two alike: one more than a system takes */
 enum { MANY = SIRAGUMON_TERMS_MOST + 1 };
 static uint8_t many[MANY * SIRAGUMON_TERM_BYTES];
+/* the cube of each variable */
+static uint8_t cubes[SIRAGUMON_VARIABLES * SIRAGUMON_TERM_BYTES];
 
 /* Where a set record has the exponent of a variable, from 1, in a monomial, from 0. */
 #define X(variable, monomial) (SIRAGUMON_VARIABLES * (monomial) + (variable) - 1)
@@ -129,6 +134,34 @@ static const uint8_t both_sets[2 * SIRAGUMON_SET_BYTES] = {
     [SIRAGUMON_SET_BYTES + X(1, 0)] = 3,
     [SIRAGUMON_SET_BYTES + X(1, 1)] = 4,
 };
+/* x'=x^4+x^3 wired by the first of them, as a system of six variables */
+static const uint8_t first_wired[] = {
+    1, 0, 8, 0, COEFFICIENT(1), 1, 1, 8, 0, COEFFICIENT(1), 7, 1, 8, 0, COEFFICIENT(2),
+    7, 7, 8, 0, COEFFICIENT(2), 8, 7, 8, 0, COEFFICIENT(3), 8, 8, 8, 0, COEFFICIENT(3),
+};
+
+/* Sets as an owner makes them by hand: powers of x1, but for the last three. */
+static const uint8_t by_hand[SIRAGUMON_SET_BYTES] = {[X(1, 0)] = 2, [X(1, 1)] = 3, [X(1, 2)] = 4};
+static const uint8_t none_can_go[SIRAGUMON_SET_BYTES] = {[X(1, 0)] = 3, [X(1, 1)] = 5, [X(1, 2)] = 6};
+static const uint8_t six_powers[SIRAGUMON_SET_BYTES] = {
+    [X(1, 0)] = 2, [X(1, 1)] = 3, [X(1, 2)] = 4, [X(1, 3)] = 5, [X(1, 4)] = 6, [X(1, 5)] = 7,
+};
+static const uint8_t five_ways[SIRAGUMON_SET_BYTES] = {
+    [X(1, 0)] = 2, [X(1, 1)] = 4, [X(1, 2)] = 5, [X(1, 3)] = 6, [X(1, 4)] = 7, [X(1, 5)] = 9,
+};
+static const uint8_t power_in[SIRAGUMON_SET_BYTES] = {SIRAGUMON_SET_EXPONENT_MOST};
+static const uint8_t power_out[SIRAGUMON_SET_BYTES] = {SIRAGUMON_SET_EXPONENT_MOST + 1};
+static const uint8_t set_x1x2_square[SIRAGUMON_SET_BYTES] = {[X(1, 0)] = 1, [X(2, 0)] = 1, [X(1, 1)] = 2, [X(2, 1)] = 2};
+static const uint8_t set_waves_z2[SIRAGUMON_SET_BYTES] = {
+    [X(3, 0)] = 2, [X(2, 1)] = 2, [X(1, 2)] = 1, [X(2, 2)] = 1, [X(1, 3)] = 2,
+};
+/* the square of each variable */
+static uint8_t squares[SIRAGUMON_SET_BYTES];
+
+/* The smallest of `five_ways` for x'=x^4. */
+#define WAY(way, first, second, third) \
+    [SIRAGUMON_SET_BYTES * (way) + X(1, 0)] = first, [SIRAGUMON_SET_BYTES * (way) + X(1, 1)] = second, [SIRAGUMON_SET_BYTES * (way) + X(1, 2)] = third
+static const uint8_t ways[5 * SIRAGUMON_SET_BYTES] = {WAY(0, 2, 4, 5), WAY(1, 2, 5, 7), WAY(2, 4, 5, 6), WAY(3, 4, 5, 7), WAY(4, 4, 6, 9)};
 
 /* ---- the calls */
 
@@ -170,10 +203,74 @@ static void wire(const char *name, uint64_t n, const uint8_t *system, size_t len
     expect(unchanged(&terms, system) && unchanged(&set, record), name, "changed what it read");
 }
 
-/* A refusal of both: the numbers, and a buffer of zeros. */
+/* The smallest quadratic subsets of a set, by checking each subset alone. A mask has a bit for each signal, the first
+   signal's the highest: so from the highest mask down the subsets of one size ascend. */
+static struct {
+    size_t count;
+    uint8_t sets[SIRAGUMON_SUBSETS_BYTES];
+} by_checks;
+
+static void check_subsets(uint64_t n, const uint8_t *system, size_t len, const uint8_t *record, size_t size) {
+    size_t least = size;
+    by_checks.count = 0;
+    for (unsigned mask = 1u << size; mask-- > 0;) {
+        uint8_t subset[SIRAGUMON_SET_BYTES] = {0};
+        uint64_t five[SIRAGUMON_NUMBERS];
+        size_t kept = 0;
+        for (size_t i = 0; i < size; i++) {
+            if ((mask >> (size - 1 - i) & 1) == 0) continue;
+            for (size_t j = 0; j < SIRAGUMON_VARIABLES; j++)
+                subset[SIRAGUMON_VARIABLES * kept + j] = record[SIRAGUMON_VARIABLES * i + j];
+            kept++;
+        }
+        siragumon_check(n, system, len, subset, sizeof subset, five);
+        if (five[SIRAGUMON_CODE] != SIRAGUMON_DONE || kept > least) continue;
+        if (kept < least) by_checks.count = 0;
+        least = kept;
+        for (size_t j = 0; j < sizeof subset; j++) by_checks.sets[SIRAGUMON_SET_BYTES * by_checks.count + j] = subset[j];
+        by_checks.count++;
+    }
+}
+
+static struct lent listed;
+
+/* Where it is done, the list is also what checking each subset gives, and each of its sets is wired. */
+static void thin(const char *name, uint64_t n, const uint8_t *system, size_t len, const uint8_t *record, size_t record_len, size_t room,
+                 const uint64_t *five, const uint8_t *is, size_t is_len) {
+    cases++;
+    lend(&terms, system, len);
+    lend(&set, record, record_len);
+    lend(&out, 0, room);
+    lend_row();
+    siragumon_thin(n, bytes(&terms), len, bytes(&set), record_len, bytes(&out), room, row + 1);
+    expect_row(name, five);
+    expect(holds(&out, is, is_len), name, "another buffer");
+    expect(guarded(&out) && guarded(&terms) && guarded(&set), name, "wrote beside the buffer");
+    expect(unchanged(&terms, system) && unchanged(&set, record), name, "changed what it read");
+
+    if (five[SIRAGUMON_CODE] != SIRAGUMON_DONE && five[SIRAGUMON_CODE] != SIRAGUMON_FULL) return;
+    siragumon_check(n, system, len, record, record_len, row + 1);
+    check_subsets(n, system, len, record, row[1 + SIRAGUMON_ORDER]);
+    size_t found = by_checks.count;
+    if (five[SIRAGUMON_CODE] == SIRAGUMON_FULL) {
+        expect(room / SIRAGUMON_SET_BYTES < found, name, "full, where there is room for all");
+        return;
+    }
+    expect(found == five[SIRAGUMON_COUNT] && holds(&out, by_checks.sets, SIRAGUMON_SET_BYTES * found), name, "another list than by checking");
+    listed = out;
+    for (size_t i = 0; i < found; i++) {
+        cases++;
+        lend(&out, 0, SIRAGUMON_WIRES_BYTES);
+        siragumon_wire(n, system, len, bytes(&listed) + SIRAGUMON_SET_BYTES * i, SIRAGUMON_SET_BYTES, bytes(&out), out.len, row + 1);
+        expect(row[1 + SIRAGUMON_CODE] == SIRAGUMON_DONE && row[1 + SIRAGUMON_ORDER] == five[SIRAGUMON_ORDER], name, "a listed set is not wired");
+    }
+}
+
+/* A refusal of the three that take a set: the numbers, and a buffer of zeros. */
 static void refused(const char *name, uint64_t n, const uint8_t *system, size_t len, const uint8_t *record, size_t record_len, const uint64_t *five) {
     check(name, n, system, len, record, record_len, five);
     wire(name, n, system, len, record, record_len, 101, five, NO_BYTES);
+    thin(name, n, system, len, record, record_len, 101, five, NO_BYTES);
 }
 
 /* Document 01's sums worked by hand. */
@@ -194,11 +291,7 @@ static void worked(void) {
 
     static const uint8_t list[] = {1, 1, 3, 0, COEFFICIENT(1), 2, 2, 3, 0, COEFFICIENT(-1)};
     wire("two that cancel", 2, BYTES(cancelling), BYTES(set_x1x2), SIRAGUMON_WIRES_BYTES, FIVE(0, 1, 2, 0, 0), BYTES(list));
-    static const uint8_t panel[] = {
-        1, 0, 8, 0, COEFFICIENT(1), 1, 1, 8, 0, COEFFICIENT(1), 7, 1, 8, 0, COEFFICIENT(2),
-        7, 7, 8, 0, COEFFICIENT(2), 8, 7, 8, 0, COEFFICIENT(3), 8, 8, 8, 0, COEFFICIENT(3),
-    };
-    wire("x'=x^4+x^3 of six", 6, BYTES(x4_x3), both_sets, SIRAGUMON_SET_BYTES, SIRAGUMON_WIRES_BYTES, FIVE(0, 2, 6, 0, 0), BYTES(panel));
+    wire("x'=x^4+x^3 of six", 6, BYTES(x4_x3), both_sets, SIRAGUMON_SET_BYTES, SIRAGUMON_WIRES_BYTES, FIVE(0, 2, 6, 0, 0), BYTES(first_wired));
     check("Rabinovich-Fabrikant", 3, BYTES(waves), BYTES(set_waves), FIVE(0, 3, 0, 0, 0));
 
     check("coefficient 1,000,000", 1, BYTES(coefficient_in), BYTES(empty), FIVE(0, 0, 0, 0, 0));
@@ -209,6 +302,40 @@ static void worked(void) {
     plan("32 records", 6, CAP, LIMIT, many, SIRAGUMON_TERMS_BYTES, ROOM, FIVE(0, 0, 1, 1, 0), BYTES(empty));
     refused("33 records", 6, BYTES(many), BYTES(empty), FIVE(2, 0, 0, 0, 0));
     refused("x'=x twice", 1, BYTES(twice), BYTES(empty), FIVE(4, 0, 0, 0, 2));
+}
+
+/* What can go from sets made by hand. */
+static void thinned(void) {
+    thin("x'=x^4+x^3 by hand", 1, BYTES(x4_x3), BYTES(by_hand), ROOM, FIVE(0, 2, 2, 8, 0), BYTES(both_sets));
+    thin("x'=x^4+x^3 by hand, of six", 6, BYTES(x4_x3), BYTES(by_hand), ROOM, FIVE(0, 2, 2, 8, 0), BYTES(both_sets));
+    wire("its first subset", 6, BYTES(x4_x3), bytes(&listed), SIRAGUMON_SET_BYTES, SIRAGUMON_WIRES_BYTES, FIVE(0, 2, 6, 0, 0), BYTES(first_wired));
+
+    const uint8_t *two_powers = both_sets;
+    size_t len = SIRAGUMON_SET_BYTES;
+    thin("x'=x, all can go", 1, BYTES(x1), two_powers, len, ROOM, FIVE(0, 0, 1, 4, 0), BYTES(empty));
+    thin("x'=x, 36 bytes", 1, BYTES(x1), two_powers, len, len, FIVE(0, 0, 1, 4, 0), BYTES(empty));
+    thin("x'=x, 35 bytes", 1, BYTES(x1), two_powers, len, len - 1, FIVE(6, 0, 0, 4, 0), NO_BYTES);
+    thin("x'=x, all six can go", 1, BYTES(x1), BYTES(six_powers), ROOM, FIVE(0, 0, 1, 64, 0), BYTES(empty));
+    thin("no records", 1, NO_BYTES, BYTES(set_x2), ROOM, FIVE(0, 0, 1, 2, 0), BYTES(empty));
+    thin("32 records", 6, many, SIRAGUMON_TERMS_BYTES, BYTES(set_x2), ROOM, FIVE(0, 0, 1, 2, 0), BYTES(empty));
+    thin("the empty set", 1, BYTES(x2), BYTES(empty), ROOM, FIVE(0, 0, 1, 1, 0), BYTES(empty));
+    thin("the empty set, 35 bytes", 1, BYTES(x2), BYTES(empty), len - 1, FIVE(6, 0, 0, 1, 0), NO_BYTES);
+
+    thin("x'=x^3, none can go", 1, BYTES(x3), BYTES(set_x2), ROOM, FIVE(0, 1, 1, 2, 0), BYTES(set_x2));
+    /* planning finds {x^4}, which is no subset */
+    thin("x'=x^5, none can go", 1, BYTES(x5), BYTES(none_can_go), ROOM, FIVE(0, 3, 1, 8, 0), BYTES(none_can_go));
+    thin("six cubes, none can go", 6, BYTES(cubes), BYTES(squares), ROOM, FIVE(0, 6, 1, 64, 0), BYTES(squares));
+
+    thin("x'=x^4, five ways", 1, BYTES(x4), BYTES(five_ways), ROOM, FIVE(0, 3, 5, 64, 0), BYTES(ways));
+    thin("x'=x^4, always enough", 1, BYTES(x4), BYTES(five_ways), SIRAGUMON_SUBSETS_BYTES, FIVE(0, 3, 5, 64, 0), BYTES(ways));
+    thin("x'=x^4, 180 bytes", 1, BYTES(x4), BYTES(five_ways), sizeof ways, FIVE(0, 3, 5, 64, 0), BYTES(ways));
+    thin("x'=x^4, 179 bytes", 1, BYTES(x4), BYTES(five_ways), sizeof ways - 1, FIVE(6, 3, 0, 64, 0), NO_BYTES);
+
+    /* y^2, x*y and x^2 are also the set of Rabinovich-Fabrikant */
+    thin("document 000", 2, BYTES(two), BYTES(set_waves), ROOM, FIVE(0, 2, 1, 8, 0), BYTES(set_squares));
+    thin("two that cancel", 2, BYTES(cancelling), BYTES(set_x1x2_square), ROOM, FIVE(0, 1, 1, 4, 0), BYTES(set_x1x2));
+    thin("Rabinovich-Fabrikant", 3, BYTES(waves), BYTES(set_waves_z2), ROOM, FIVE(0, 3, 1, 16, 0), BYTES(set_waves));
+    thin("x^54", 1, BYTES(x1), BYTES(power_in), ROOM, FIVE(0, 0, 1, 2, 0), BYTES(empty));
 }
 
 /* Every refusal leaves zeros where junk was. */
@@ -230,12 +357,29 @@ static void refusals(void) {
 
     refused("n 0", 0, BYTES(x3), BYTES(set_x2), FIVE(1, 0, 0, 0, 0));
     refused("n above the variables", SIRAGUMON_VARIABLES + 1, BYTES(x3), BYTES(set_x2), FIVE(1, 0, 0, 0, 0));
+    refused("n of 64 bits", UINT64_MAX, BYTES(x3), BYTES(set_x2), FIVE(1, 0, 0, 0, 0));
+    refused("n that is 1 in its low half", ((uint64_t)1 << 32) + 1, BYTES(x3), BYTES(set_x2), FIVE(1, 0, 0, 0, 0));
     refused("13 bytes", 1, x4_x3, SIRAGUMON_TERM_BYTES + 1, BYTES(set_x2), FIVE(2, 0, 0, 0, 0));
     refused("a set that lacks a byte", 1, BYTES(x3), set_x2, SIRAGUMON_SET_BYTES - 1, FIVE(2, 0, 0, 0, 0));
     refused("two sets", 1, BYTES(x3), BYTES(both_sets), FIVE(2, 0, 0, 0, 0));
     refused("a single variable", 1, BYTES(x3), BYTES(set_x1), FIVE(8, 0, 0, 0, 0));
     refused("a falling set", 1, BYTES(x3), BYTES(falling), FIVE(8, 0, 0, 0, 0));
+    refused("x^55", 1, BYTES(x1), BYTES(power_out), FIVE(8, 0, 0, 0, 0));
+    refused("a variable beyond n", 1, BYTES(x3), BYTES(set_x1x2), FIVE(8, 0, 0, 0, 0));
     refused("not quadratic", 1, BYTES(x4), BYTES(set_x2), FIVE(9, 1, 0, 0, 2));
+    refused("not quadratic, of six", 6, BYTES(x4), BYTES(set_x2), FIVE(9, 1, 0, 0, 7));
+    refused("not quadratic, the variable", 1, BYTES(x4), BYTES(empty), FIVE(9, 0, 0, 0, 1));
+
+    /* The first that fails is the reply. */
+    refused("n before the lengths", 0, x4_x3, SIRAGUMON_TERM_BYTES + 1, BYTES(both_sets), FIVE(1, 0, 0, 0, 0));
+    refused("the set's length before the terms", 1, BYTES(exponent_out), set_x2, SIRAGUMON_SET_BYTES - 1, FIVE(2, 0, 0, 0, 0));
+    refused("a term before the set", 1, BYTES(exponent_out), BYTES(set_x1), FIVE(3, 0, 0, 0, 1));
+    refused("twice before the set", 1, BYTES(twice), BYTES(set_x1), FIVE(4, 0, 0, 0, 2));
+    refused("twice before a later term", 1, BYTES(twice_then_out), BYTES(empty), FIVE(4, 0, 0, 0, 2));
+    refused("a term before a later twice", 1, BYTES(out_then_twice), BYTES(empty), FIVE(3, 0, 0, 0, 2));
+    refused("the set before what it makes", 1, BYTES(x4), BYTES(falling), FIVE(8, 0, 0, 0, 0));
+    wire("not quadratic before no room", 1, BYTES(x4), BYTES(set_x2), 0, FIVE(9, 1, 0, 0, 2), NO_BYTES);
+    thin("not quadratic before no room", 1, BYTES(x4), BYTES(set_x2), 0, FIVE(9, 1, 0, 0, 2), NO_BYTES);
 }
 
 /* Buffers of every length: how many records fit, and zeros to the last byte. */
@@ -250,6 +394,10 @@ static void lengths(void) {
             wire("x'=x^3, no room", 1, BYTES(x3), BYTES(set_x2), room, FIVE(6, 1, 0, 0, 0), NO_BYTES);
         else
             wire("x'=x^3, room", 1, BYTES(x3), BYTES(set_x2), room, FIVE(0, 1, 2, 0, 0), BYTES(list));
+        if (room < sizeof both_sets)
+            thin("x'=x^4+x^3 by hand, no room", 1, BYTES(x4_x3), BYTES(by_hand), room, FIVE(6, 2, 0, 8, 0), NO_BYTES);
+        else
+            thin("x'=x^4+x^3 by hand, room", 1, BYTES(x4_x3), BYTES(by_hand), room, FIVE(0, 2, 2, 8, 0), BYTES(both_sets));
     }
     plan("x'=x^4+x^3, room 2", 1, CAP, LIMIT, BYTES(x4_x3), 2 * SIRAGUMON_SET_BYTES, FIVE(0, 2, 2, 23, 0), BYTES(both_sets));
 
@@ -265,7 +413,7 @@ static void lengths(void) {
 
 /* Where the length is 0, NULL will do. */
 static void null(void) {
-    cases += 5;
+    cases += 8;
     lend_row();
     siragumon_plan(1, CAP, LIMIT, NULL, 0, NULL, 0, row + 1);
     expect_row("NULL terms and buffer", FIVE(6, 0, 0, 1, 0));
@@ -281,6 +429,15 @@ static void null(void) {
     lend_row();
     siragumon_wire(1, x3, sizeof x3, set_x2, sizeof set_x2, NULL, 0, row + 1);
     expect_row("a list into NULL", FIVE(6, 1, 0, 0, 0));
+    lend_row();
+    siragumon_thin(1, NULL, 0, empty, sizeof empty, NULL, 0, row + 1);
+    expect_row("the empty set, thinned into NULL", FIVE(6, 0, 0, 1, 0));
+    lend_row();
+    siragumon_thin(1, x4_x3, sizeof x4_x3, by_hand, sizeof by_hand, NULL, 0, row + 1);
+    expect_row("subsets into NULL", FIVE(6, 2, 0, 8, 0));
+    lend_row();
+    siragumon_thin(1, NULL, 0, NULL, 0, NULL, 0, row + 1);
+    expect_row("NULL set, thinned", FIVE(2, 0, 0, 0, 0));
 }
 
 /* Each equation in turn gets all variables but the last, and x1^2: each system of them is quadratic as it is. */
@@ -298,9 +455,22 @@ static void fill_many(void) {
     }
 }
 
+/* A square for each cube; the squares ascend from the last variable to the first. */
+static void fill_cubes(void) {
+    for (int i = 0; i < SIRAGUMON_VARIABLES; i++) {
+        uint8_t *r = cubes + SIRAGUMON_TERM_BYTES * i, *exponents = r + 2;
+        r[0] = (uint8_t)(1 + i);
+        exponents[i] = 3;
+        exponents[SIRAGUMON_VARIABLES] = 1;
+        squares[X(SIRAGUMON_VARIABLES - i, i)] = 2;
+    }
+}
+
 int main(void) {
     fill_many();
+    fill_cubes();
     worked();
+    thinned();
     refusals();
     lengths();
     null();
