@@ -3,3 +3,4 @@ pub mod Laws
 pub mod Records
 pub mod Finds
 pub mod Laid
+pub mod Wiring

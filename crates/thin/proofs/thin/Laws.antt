@@ -1,19 +1,17 @@
 -- Thinning, step by step: how it starts, how it ends, and what each check says of the outcome. Assumes nothing.
 use mathlib.Core.Path.{_≡_, refl, sym, ap, ap₂, subst, _∙_}
-use mathlib.Core.Bool.{true, false}
-use mathlib.Core.List.{List, [], _∷_, _++_, map, map-id, List·Memᴰ·not-nil}
+use mathlib.Core.List.{List, [], _++_, map-id, List·Memᴰ·not-nil}
 use Prim.Native.Nat.{ℕ, _+_, _*_, _-_, _/_, _^_, _<_, _≤_, min}
 use native.Mathlib.Omega.{arith}
 use native.Mathlib.Nat.{pow-le-pow-right}
 use borrow.Author.Tests.{le-leb, lt-leb, ne-eqb}
-use lib.Dec.{T}
-use lib.ListN.{length, drop, replicate}
+use lib.ListN.{length, replicate}
 use lib.Seq.{take-all}
 use Rattle.monomial.specs.Monomial.{Mono, one, width}
 use Rattle.monomial.proofs.Tests.{T→is}
 use Rattle.wiring.specs.Panel.{cards, setBytes}
 use Rattle.wiring.specs.Poly.{Poly}
-use Rattle.wiring.specs.Reply.{numbers, Outcome, outcome, refused}
+use Rattle.wiring.specs.Reply.{numbers, outcome, refused}
 use Rattle.wiring.specs.Terms.{records, system}
 use Rattle.wiring.specs.Sets.{setOf, setRight, monomialsOf, SetReads}
 use Rattle.wiring.specs.Answers.{verdict, Wirable}
@@ -27,7 +25,7 @@ use Rattle.walk.specs.Walk.{Finds}
 use Rattle.walk.specs.Plan.{Ending, done, fullAt, setsBytes, said}
 use Rattle.walk.proofs.plan.Laws.{said-done, said-full}
 use Rattle.thin.specs.declared.subsets.Best.{Best}
-use Rattle.thin.specs.Subsets.{subsets, Tally, tally, metAll, Begun, Holds, Meets, Ahead, Judgeable, undecided, Decidable}
+use Rattle.thin.specs.Subsets.{subsets, Tally, tally, metAll, Holds, Meets, Ahead, undecided, Decidable}
 use Rattle.thin.specs.Thin.{least, thinnest, thinning, thinned}
 use Rattle.thin.proofs.subsets.Laws.{subsets-count}
 use Rattle.thin.proofs.subsets.Listing.{begun-none}

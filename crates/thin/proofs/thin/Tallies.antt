@@ -1,6 +1,5 @@
 -- The tally of all subsets of a set holds the quadratic ones of the least size, in their order. Assumes nothing.
 use mathlib.Core.Path.{_≡_, refl, sym, ap, ap₂, subst, _∙_}
-use mathlib.Core.Bool.{Bool}
 use mathlib.Core.Logic.{⊎-elim}
 use mathlib.Core.List.{List, [], _∷_, _++_, append-nil, append-assoc, List·Memᴰ·not-nil, List·Memᴰ·cases-cons, List·Memᴰ·append-cases}
 use Prim.Native.Nat.{ℕ, suc, _+_, _^_, _<_, _≤_, min}
@@ -11,7 +10,7 @@ use Rattle.monomial.specs.Lists.{keep}
 use Rattle.monomial.specs.Monomial.{Mono}
 use Rattle.monomial.specs.Claims.{_∈_, Compared, less, equal, more}
 use Rattle.monomial.proofs.Tests.{Tested, passed, failed, test, is→T, is→nT}
-use Rattle.monomial.proofs.Members.{here, there, keep-yes, keep-no, keep-all, keep-none, keep-append}
+use Rattle.monomial.proofs.Members.{keep-yes, keep-no, keep-all, keep-none, keep-append}
 use Rattle.monomial.proofs.order.Laws.{ℕ-order}
 use Rattle.wiring.specs.Poly.{Poly}
 use Rattle.walk.specs.Walk.{Finds}

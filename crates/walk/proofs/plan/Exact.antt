@@ -3,38 +3,32 @@
 use mathlib.Core.Path.{_≡_, refl, sym, ap, _∙_, subst}
 use mathlib.Core.Logic.{_↔_}
 use mathlib.Core.Bool.{true, false}
-use mathlib.Core.List.{List, [], _++_}
-use Prim.Native.Nat.{ℕ, suc, _+_, _*_, _-_, _/_, _≤_, _<_}
+use mathlib.Core.List.{List, _++_}
+use Prim.Native.Nat.{ℕ, suc, _+_, _*_, _-_, _/_, _≤_}
 use native.Mathlib.Omega.{arith}
 use borrow.Author.Tests.{le-leb, ne-eqb, eqb-true, eqb-false}
 use lib.Dec.{T, eqb, leb→le}
-use lib.ListN.{length, getD, take, drop, replicate, length-append, length-replicate}
-use lib.Seq.{getD-append-add}
-use Rattle.monomial.specs.Monomial.{Mono, width}
+use lib.ListN.{length, replicate, length-replicate}
+use Rattle.monomial.specs.Monomial.{Mono}
 use Rattle.monomial.specs.Order.{same}
-use Rattle.monomial.specs.Claims.{_∈_, empty}
+use Rattle.monomial.specs.Claims.{empty}
 use Rattle.monomial.proofs.Tests.{Tested, passed, failed, test, T→is, nT→is, is→T, is→nT, and-l, and-r}
-use Rattle.monomial.proofs.Members.{fill-at}
-use Rattle.monomial.proofs.Strips.{strip-length, strip-at}
 use Rattle.wiring.specs.Panel.{cards, setBytes, wiresBytes, mostSteps}
-use Rattle.wiring.specs.Poly.{Poly, plain}
-use Rattle.wiring.specs.Quadratic.{Quadratic}
-use Rattle.wiring.specs.Signals.{signals}
+use Rattle.wiring.specs.Poly.{Poly}
 use Rattle.wiring.specs.Reply.{numbers, Outcome, outcome, refused}
 use Rattle.wiring.specs.Terms.{records, lengthRight, fault, system}
-use Rattle.wiring.specs.Sets.{setOf, setRecord}
+use Rattle.wiring.specs.Sets.{setRecord}
 use Rattle.wiring.specs.Answers.{unlessFault, checked, wired}
 use Rattle.wiring.specs.declared.reply.Reply.{Reply}
 use Rattle.wiring.specs.declared.reply.Reply.the-variants.{Done, Setting, Length, Term, Twice, Nothing, Full, Spent, BadSet, NotQuadratic}
 use Rattle.wiring.specs.declared.terms.Fault.{Fault}
 use Rattle.wiring.specs.declared.terms.Fault.the-variants.{Clean, Wrong, Repeated}
-use Rattle.wiring.specs.Claims.{Measured, Breaks, Repeats, beyond, WellFormed, signalsIn, derivativeIn, Recordable, listIn}
+use Rattle.wiring.specs.Claims.{Measured, Breaks, Repeats, beyond, listIn}
 use Rattle.wiring.proofs.reply.Laws.{same-reply, code-done}
 use Rattle.wiring.proofs.terms.Exact.{length-exact, wrong-exact, repeated-exact, clean-exact}
 use Rattle.wiring.proofs.sets.Exact.{record-length}
 use Rattle.wiring.proofs.answers.Exact.{count-in, count-out}
-use Rattle.wiring.proofs.answers.Recorded.{recorded-checks, recorded-wires}
-use Rattle.walk.specs.Walk.{Finds, bare}
+use Rattle.walk.specs.Walk.{bare}
 use Rattle.walk.specs.Plan.{Ending, done, none, fullAt, spentAt, plan, setsBytes, said, settingsRight, planned}
 use Rattle.walk.specs.Claims.{Barren, Ends, Lacks, Fills, Spends, Fate, Listed, InRange, Accepted, setsAt, PlanSays, planLeaves, NoneBelow, Planned, Finished}
 use Rattle.walk.proofs.Stops.{fate, fate-exact, done-exact}
@@ -43,6 +37,7 @@ use Rattle.walk.proofs.children.Laws.{empty-walked}
 use Rattle.walk.proofs.Sound.{empty-proper}
 use Rattle.walk.proofs.Smallest.{none-smaller, plan-done}
 use Rattle.walk.proofs.listing.Laid.{sets-laid}
+use Rattle.walk.proofs.listing.Wiring.{Usable, usable-checks, usable-wires}
 
 -- ---- the settings
 range-out : (n cap limit : ℕ) → T (settingsRight n cap limit) → InRange n cap limit
@@ -246,15 +241,14 @@ module _ (n cap limit : ℕ) (terms : List ℕ) (size : ℕ) where
           plan-finds (d .order) (d .count) (d .steps) bytes same .laid .long
 
 -- ---- a listed set can be handed to checking and wiring, and neither refuses it
+pub listed-usable : (n : ℕ) (terms : List ℕ) (o : ℕ) (s : List Mono) → Listed bare n terms o s → Usable n terms o s
+listed-usable n terms o s l = record { recordable = l .recordable; quadratic = l .quadratic; size = l .size }
+
 module _ (n cap limit : ℕ) (terms : List ℕ) (size : ℕ) (a : Accepted n cap limit terms) (o : ℕ) (s : List Mono) (l : Listed bare n terms o s) where
   pub listed-checks : numbers (Done o 0 0) ≡ checked n terms (setRecord s)
-  listed-checks =
-      ap (λ (x : ℕ). numbers (Done x 0 0)) (sym (l .size))
-      ∙ recorded-checks n terms (a .range .ranged) (a .measured) (a .flawless) s (l .recordable) (l .quadratic)
+  listed-checks = usable-checks n terms (a .range .ranged) (a .measured) (a .flawless) o s (listed-usable n terms o s l)
 
   -- into 1,792 bytes or more
   pub listed-wires : (room : ℕ) → wiresBytes ≤ room → (r : Reply) (bytes : List ℕ) → outcome r bytes ≡ wired n terms (setRecord s) room
       → r ≡ Done o (length (listIn n terms (setRecord s))) 0
-  listed-wires room h r bytes e =
-      recorded-wires n terms (a .range .ranged) (a .measured) (a .flawless) s (l .recordable) (l .quadratic) room h r bytes e
-      ∙ ap (λ (x : ℕ). Done x (length (listIn n terms (setRecord s))) 0) (l .size)
+  listed-wires = usable-wires n terms (a .range .ranged) (a .measured) (a .flawless) o s (listed-usable n terms o s l)

@@ -1,11 +1,12 @@
 -- The records that a done plan leaves: they lie within the buffer, and each of them, handed to wiring, is wired.
 -- Assumes nothing.
-use mathlib.Core.Path.{_≡_, sym, ap, _∙_}
+use mathlib.Core.Path.{_≡_}
 use mathlib.Core.List.{List, [], _++_}
 use Prim.Native.Nat.{ℕ, _*_, _-_, _≤_, _<_}
 use native.Mathlib.Omega.{arith}
 use lib.ListN.{length, getD, take, drop, replicate}
-use Rattle.monomial.proofs.Counting.{at-in}
+use Rattle.monomial.specs.Monomial.{Mono}
+use Rattle.monomial.specs.Claims.{_∈_}
 use Rattle.wiring.specs.Panel.{setBytes, wireBytes, wiresBytes}
 use Rattle.wiring.specs.Reply.{numbers, outcome}
 use Rattle.wiring.specs.Sets.{setRecord}
@@ -14,11 +15,10 @@ use Rattle.wiring.specs.Answers.{wired}
 use Rattle.wiring.specs.declared.reply.Reply.{Reply}
 use Rattle.wiring.specs.declared.reply.Reply.the-variants.{Done, Setting, Length, Term, Twice, Nothing, Full, Spent, BadSet, NotQuadratic}
 use Rattle.wiring.specs.Claims.{listIn}
-use Rattle.wiring.proofs.answers.Recorded.{recorded-wired}
-use Rattle.walk.specs.Walk.{bare}
 use Rattle.walk.specs.Plan.{planned}
-use Rattle.walk.specs.Claims.{Listed, Planned, setsAt}
-use Rattle.walk.proofs.plan.Exact.{plan-finds, listed-wires}
+use Rattle.walk.specs.Claims.{Planned, setsAt}
+use Rattle.walk.proofs.plan.Exact.{plan-finds, listed-usable}
+use Rattle.walk.proofs.listing.Wiring.{Usable, laid-wired, laid-wires}
 
 module _ (n cap limit : ℕ) (terms : List ℕ) (size : ℕ) where
   module _ (o c k : ℕ) (bytes : List ℕ) (e : outcome (Done o c k) bytes ≡ planned n cap limit terms size) where
@@ -28,35 +28,29 @@ module _ (n cap limit : ℕ) (terms : List ℕ) (size : ℕ) where
     pub records-fit : setBytes * c ≤ size
     records-fit = found .laid .fits
 
+    each : (s : List Mono) → s ∈ setsAt n terms o → Usable n terms o s
+    each s m = listed-usable n terms o s (found .finished .sets .each s m)
+
     module _ (i : ℕ) (h : i < c) where
       -- record number i is that of set number i
       pub record-at : take setBytes (drop (setBytes * i) bytes) ≡ setRecord (getD (setsAt n terms o) i [])
       record-at = found .laid .written i h
 
-      pub record-listed : Listed bare n terms o (getD (setsAt n terms o) i [])
-      record-listed = found .finished .sets .each (getD (setsAt n terms o) i []) (at-in (setsAt n terms o) i [] (rw (← found .laid .counted) h))
-
       -- wired into so many bytes, or more, it is done: its list, then zeros
       pub record-wired : (room : ℕ) → wiresBytes ≤ room
-          → outcome (Done o (length (listIn n terms (setRecord (getD (setsAt n terms o) i [])))) 0)
-          (wireList (listIn n terms (setRecord (getD (setsAt n terms o) i [])))
-          ++ replicate (room - wireBytes * length (listIn n terms (setRecord (getD (setsAt n terms o) i [])))) 0)
-          ≡ wired n terms (take setBytes (drop (setBytes * i) bytes)) room
-      record-wired room q =
-          let l = record-listed in
+          → let list = listIn n terms (setRecord (getD (setsAt n terms o) i [])) in
+          outcome (Done o (length list) 0) (wireList list ++ replicate (room - wireBytes * length list) 0) ≡ wired n terms (take setBytes (drop (setBytes * i) bytes)) room
+      record-wired =
           let a = found .accepted in
-          let s = getD (setsAt n terms o) i [] in
-          let wired-so = recorded-wired n terms (a .range .ranged) (a .measured) (a .flawless) s (l .recordable) (l .quadratic) room q in
-          let list = listIn n terms (setRecord s) in
-          rw record-at (ap (λ (x : ℕ). outcome (Done x (length list) 0) (wireList list ++ replicate (room - wireBytes * length list) 0)) (sym (l .size)) ∙ wired-so)
+          laid-wired n terms (a .range .ranged) (a .measured) (a .flawless) o (setsAt n terms o) each c size bytes (found .laid) i h
 
       -- and so it is said
       pub record-wires : (room : ℕ) → wiresBytes ≤ room → (r : Reply) (left : List ℕ)
           → outcome r left ≡ wired n terms (take setBytes (drop (setBytes * i) bytes)) room
           → r ≡ Done o (length (listIn n terms (take setBytes (drop (setBytes * i) bytes)))) 0
-      record-wires room q r left w =
-          let set = getD (setsAt n terms o) i [] in
-          rw record-at (listed-wires n cap limit terms size (found .accepted) o set record-listed room q r left (rw record-at at w))
+      record-wires =
+          let a = found .accepted in
+          laid-wires n terms (a .range .ranged) (a .measured) (a .flawless) o (setsAt n terms o) each c size bytes (found .laid) i h
 
   -- no reply counts more sets than the buffer holds
   pub count-fits : (r : Reply) (bytes : List ℕ) → outcome r bytes ≡ planned n cap limit terms size → setBytes * numbers r .count ≤ size

@@ -1,5 +1,5 @@
 -- `decide` meets its contract, by its own at a smaller measure: the number of undecided signals. Assumes nothing.
-use mathlib.Core.Path.{_≡_, sym, subst, _∙_}
+use mathlib.Core.Path.{_≡_, sym, subst}
 use native.Mathlib.Omega.{arith}
 use lib.ListN.{length}
 use Rattle.wiring.specs.Panel.{cards}

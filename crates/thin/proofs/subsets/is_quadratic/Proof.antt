@@ -1,9 +1,7 @@
 -- `is_quadratic` meets its contract: the code of the judgement is 0 exactly where there is no nonsquare. Assumes nothing.
-use mathlib.Core.Path.{_≡_, ap, _∙_}
-use mathlib.Core.Bool.{Bool}
+use mathlib.Core.Path.{ap, _∙_}
 use Prim.Native.Nat.{ℕ}
 use lib.Dec.{eqb}
-use lib.ListN.{getD}
 use Rattle.wiring.specs.Reply.{numbers}
 use Rattle.wiring.specs.Sets.{monomialsOf}
 use Rattle.wiring.specs.Terms.{records, system}

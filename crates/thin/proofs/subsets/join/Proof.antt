@@ -1,7 +1,7 @@
 -- `join` meets its contract: the record stands behind the others, or there is no room for it. Assumes nothing.
 use mathlib.Core.Path.{_≡_, ap₂, _∙_}
-use mathlib.Core.List.{List, [], _∷_, _++_}
-use Prim.Native.Nat.{ℕ, _*_, _/_, _<_}
+use mathlib.Core.List.{List}
+use Prim.Native.Nat.{ℕ, _*_}
 use native.Mathlib.Omega.{arith}
 use lib.ListN.{length}
 use lib.Seq.{paste}

@@ -1,16 +1,13 @@
 -- `meet` meets its contract: the tests of the code are those of the tally. Assumes nothing.
+use mathlib.Core.List.{[]}
 use mathlib.Core.Path.{_≡_, refl, sym, ap, _∙_}
-use mathlib.Core.Bool.{true, false}
-use mathlib.Core.List.{List, [], _∷_, _++_}
 use native.Mathlib.Omega.{arith}
 use borrow.Author.Tests.{not-true, not-false}
 use Prim.Native.Nat.{ℕ}
 use lib.ListN.{length, replicate}
 use Rattle.wiring.specs.Panel.{cards}
 use Rattle.wiring.specs.Sets.{monomialsOf}
-use Rattle.wiring.specs.Terms.{records, system}
 use Rattle.wiring.proofs.signals.Laws.{array-length}
-use Rattle.thin.specs.Subsets.{isQuadratic, Begun}
 use Rattle.thin.proofs.subsets.Listing.{begun-none}
 use Rattle.thin.proofs.subsets.Meeting.{set-size, set-recorded, met-not, met-larger, meets-passed, meets-smaller, meets-alike}
 use borrow.Author.Needs.{needs}

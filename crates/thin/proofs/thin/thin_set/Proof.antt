@@ -1,5 +1,5 @@
 -- `thin_set` meets its contract: when all subsets are met, the list has room or it has not. Assumes nothing.
-use mathlib.Core.Path.{_≡_, refl, sym, ap, _∙_}
+use mathlib.Core.Path.{_≡_}
 use lib.ListN.{length}
 use Rattle.wiring.specs.Panel.{cards}
 use Rattle.wiring.proofs.signals.Laws.{array-length}

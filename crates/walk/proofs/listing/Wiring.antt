@@ -1,0 +1,60 @@
+-- Records of quadratic sets in a buffer: each of them, handed to checking or wiring, is accepted. Assumes nothing.
+use mathlib.Core.Path.{_≡_, sym, ap, _∙_}
+use mathlib.Core.List.{List, [], _++_}
+use Prim.Native.Nat.{ℕ, _*_, _-_, _≤_, _<_}
+use lib.ListN.{length, getD, take, drop, replicate}
+use Rattle.monomial.specs.Monomial.{Mono}
+use Rattle.monomial.specs.Claims.{_∈_}
+use Rattle.monomial.proofs.Counting.{at-in}
+use Rattle.wiring.specs.Panel.{setBytes, wireBytes, wiresBytes}
+use Rattle.wiring.specs.Reply.{numbers, outcome}
+use Rattle.wiring.specs.Terms.{records, system}
+use Rattle.wiring.specs.Sets.{setRecord}
+use Rattle.wiring.specs.Wires.{wireList}
+use Rattle.wiring.specs.Answers.{checked, wired}
+use Rattle.wiring.specs.Claims.{Measured, Flawless, beyond, Ranged, Recordable, listIn}
+use Rattle.wiring.specs.declared.reply.Reply.{Reply}
+use Rattle.wiring.specs.declared.reply.Reply.the-variants.{Done}
+use Rattle.wiring.proofs.answers.Recorded.{recorded-checks, recorded-wired, recorded-wires}
+use Rattle.walk.specs.Walk.{Finds}
+use Rattle.walk.specs.Claims.{QuadraticList, Laid}
+
+-- a quadratic set of that many monomials that can stand in a record
+pub record Usable (n : ℕ) (terms : List ℕ) (o : ℕ) (s : List Mono) : Type 0 where
+  pub recordable : Recordable n s
+  pub quadratic : QuadraticList n (system (records terms)) s
+  pub size : length s ≡ o
+
+module _ (n : ℕ) (terms : List ℕ) (ranged : Ranged n) (measured : Measured terms) (flawless : Flawless n (records terms) beyond) (o : ℕ) where
+  module _ (s : List Mono) (u : Usable n terms o s) where
+    pub usable-checks : numbers (Done o 0 0) ≡ checked n terms (setRecord s)
+    usable-checks = ap (λ (x : ℕ). numbers (Done x 0 0)) (sym (u .size)) ∙ recorded-checks n terms ranged measured flawless s (u .recordable) (u .quadratic)
+
+    -- into 1,792 bytes or more
+    pub usable-wires : (room : ℕ) → wiresBytes ≤ room → (r : Reply) (bytes : List ℕ) → outcome r bytes ≡ wired n terms (setRecord s) room
+        → r ≡ Done o (length (listIn n terms (setRecord s))) 0
+    usable-wires room h r bytes e =
+        recorded-wires n terms ranged measured flawless s (u .recordable) (u .quadratic) room h r bytes e
+        ∙ ap (λ (x : ℕ). Done x (length (listIn n terms (setRecord s))) 0) (u .size)
+
+  -- record number i of a list of such sets
+  module _ (l : Finds) (each : (s : List Mono) → s ∈ l → Usable n terms o s) (count size : ℕ) (bytes : List ℕ) (laid : Laid l count size bytes) (i : ℕ) (h : i < count) where
+    abbrev set : List Mono
+    set = getD l i []
+
+    usable : Usable n terms o set
+    usable = each set (at-in l i [] (rw (← laid .counted) h))
+
+    -- wired into so many bytes, or more, it is done: its list, then zeros
+    pub laid-wired : (room : ℕ) → wiresBytes ≤ room
+        → let list = listIn n terms (setRecord set) in
+        outcome (Done o (length list) 0) (wireList list ++ replicate (room - wireBytes * length list) 0) ≡ wired n terms (take setBytes (drop (setBytes * i) bytes)) room
+    laid-wired room q =
+        let list = listIn n terms (setRecord set) in
+        let done = recorded-wired n terms ranged measured flawless set (usable .recordable) (usable .quadratic) room q in
+        rw (laid .written i h) (ap (λ (x : ℕ). outcome (Done x (length list) 0) (wireList list ++ replicate (room - wireBytes * length list) 0)) (sym (usable .size)) ∙ done)
+
+    -- and so it is said
+    pub laid-wires : (room : ℕ) → wiresBytes ≤ room → (r : Reply) (left : List ℕ) → outcome r left ≡ wired n terms (take setBytes (drop (setBytes * i) bytes)) room
+        → r ≡ Done o (length (listIn n terms (take setBytes (drop (setBytes * i) bytes)))) 0
+    laid-wires room q r left w = rw (laid .written i h) (usable-wires set usable room q r left (rw (laid .written i h) at w))
