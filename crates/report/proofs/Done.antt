@@ -1,5 +1,5 @@
 -- What a report says: after a refusal the reply alone; after code 0 every set of the list by its record, in order, and
--- then the wiring list of the set that is asked for. Planning lists all smallest sets. Assumes nothing.
+-- then the wiring list of the set that is asked for. Assumes nothing.
 use mathlib.Core.Path.{_≡_, refl, sym, ap, _∙_}
 use mathlib.Core.Logic.{_⊎_, inl, inr}
 use mathlib.Core.List.{List, [], _∷_, _++_, map, map-map}
@@ -27,10 +27,13 @@ use Rattle.walk.specs.Plan.{planned}
 use Rattle.walk.specs.Claims.{setsAt, Laid}
 use Rattle.walk.proofs.plan.Exact.{plan-finds}
 use Rattle.walk.proofs.plan.Records.{record-wired}
+use Rattle.thin.specs.Thin.{thinned}
+use Rattle.thin.specs.Claims.{thinnestIn}
+use Rattle.thin.proofs.thin.Exact.{thin-finds, thin-wired}
 use Rattle.lines.specs.Answer.{replyLine, setLine, wireLine}
 use Rattle.report.specs.declared.prepare.Settings.{Settings}
-use Rattle.report.specs.Prepare.{counted, slot, wiringOf, resultsOf, results}
-use Rattle.report.specs.Report.{slots, setLines, wireLines, linesOf, report}
+use Rattle.report.specs.Prepare.{counted, slot, wiringOf, resultsOf, results, thinResults}
+use Rattle.report.specs.Report.{slots, setLines, wireLines, linesOf, report, thinReport}
 use Rattle.report.proofs.prepare.Laws.{wires-zero, wires-beyond, wires-there}
 use Rattle.report.proofs.line.Laws.{slots-length, slots-at}
 
@@ -130,3 +133,24 @@ module _ (s : Settings) (terms : List ℕ) where
     wiring-lines low high =
         let wires = record-wired (s .n) (s .cap) (s .limit) terms size o c k bytes e (s .which - 1) (omega arith) wiresBytes (omega arith) in
         listed-wires (s .n) terms (s .which) c bytes low high o _ wires
+
+-- ---- thinning
+module _ (n which : ℕ) (terms set : List ℕ) (size : ℕ) where
+  pub thin-report-refused : (r : Reply) (bytes : List ℕ) → outcome r bytes ≡ thinned n terms set size → (numbers r .code ≡ 0 → ⊥)
+      → thinReport n which terms set size ≡ replyLine (inOrder (numbers r)) ∷ []
+  unfolding thinReport thinResults
+  thin-report-refused r bytes e f = refused-line n terms which r bytes e f
+
+  module _ (o c k : ℕ) (bytes : List ℕ) (e : outcome (Done o c k) bytes ≡ thinned n terms set size) where
+    -- the list is that of the smallest quadratic subsets
+    pub thin-report-done : thinReport n which terms set size ≡ replyLine (0 ∷ o ∷ c ∷ k ∷ 0 ∷ [])
+        ∷ map (λ x. setLine (setRecord x) o) (thinnestIn n terms set)
+        ++ wireLines (wiringOf n terms which c bytes)
+    unfolding thinReport thinResults
+    thin-report-done = listed-lines n terms which c bytes o k e (thinnestIn n terms set) (thin-finds n terms set size o c k bytes e .laid)
+
+    pub thin-wiring-lines : 1 ≤ which → which ≤ c
+        → wireLines (wiringOf n terms which c bytes) ≡ map (λ w. wireLine (wireRecord w)) (listIn n terms (setRecord (getD (thinnestIn n terms set) (which - 1) [])))
+    thin-wiring-lines low high =
+        let wires = thin-wired n terms set size o c k bytes e (which - 1) (omega arith) wiresBytes (omega arith) in
+        listed-wires n terms which c bytes low high o _ wires

@@ -5,15 +5,16 @@ use Prim.Native.Nat.{ℕ, _+_, _*_, _-_, _/_, _≤_, _<_, min}
 use native.Mathlib.Omega.{arith}
 use borrow.Author.Tests.{le-leb, lt-leb}
 use lib.ListN.{length, getD, take, drop, replicate, drop-of-length-le}
-use lib.Seq.{take-at, drop-at, take-length, length-take-le}
+use lib.Seq.{take-at, drop-at, take-all, length-take-le}
 use Rattle.wiring.specs.Panel.{setBytes, wiresBytes}
 use Rattle.wiring.specs.Reply.{Outcome, numbers, inOrder, outcome}
 use Rattle.wiring.specs.Answers.{wired}
 use Rattle.wiring.specs.declared.reply.Reply.{Reply}
+use Rattle.wiring.specs.declared.reply.Reply.the-variants.{Done, Setting, Length, Term, Twice, Nothing, Full, Spent, BadSet, NotQuadratic}
 use Rattle.walk.specs.Plan.{planned}
 use Rattle.thin.specs.Thin.{thinned}
-use Rattle.walk.proofs.plan.Exact.{plan-length}
-use Rattle.walk.proofs.plan.Records.{count-fits}
+use Rattle.thin.proofs.thin.Exact.{thin-finds, thin-length}
+use Rattle.walk.proofs.plan.Exact.{plan-finds, plan-length}
 use Rattle.report.specs.declared.prepare.Settings.{Settings}
 use Rattle.report.specs.declared.prepare.Prepared.{Prepared}
 use Rattle.report.specs.Prepare.{Counted, counted, slot, wiringOf, Results, resultsOf, results, thinResults, fitted, Prepares, PreparesThin}
@@ -48,6 +49,19 @@ results-are n terms which reply bytes five e f count out w =
     let wiring : counted count out ≡ wiringOf n terms which (numbers reply .count) bytes = rw f at w in
     ap (laid (outcome reply bytes)) wiring ∙ ap (λ (x : Outcome). laid x (wiringOf n terms which (x .said .count) (x .bytes))) e
 
+-- only done counts sets: where those have room, what any reply counts has
+done-counts : (size : ℕ) (r : Reply) → ((o c k : ℕ) → r ≡ Done o c k → setBytes * c ≤ size) → setBytes * numbers r .count ≤ size
+done-counts size (Done o c k) h = h o c k refl
+done-counts size Setting h = omega arith
+done-counts size Length h = omega arith
+done-counts size (Term p) h = omega arith
+done-counts size (Twice p) h = omega arith
+done-counts size (Nothing o k) h = omega arith
+done-counts size (Full o k) h = omega arith
+done-counts size (Spent o k) h = omega arith
+done-counts size BadSet h = omega arith
+done-counts size (NotQuadratic o p) h = omega arith
+
 -- ---- a buffer of which planning was lent the front
 module _ (s : Settings) (terms sets : List ℕ) (room : ℕ) (fits : room ≡ min (s .room) (length sets / setBytes)) where
   pub lent-front : length (take (setBytes * room) sets) ≡ setBytes * room
@@ -66,7 +80,10 @@ module _ (s : Settings) (terms sets : List ℕ) (room : ℕ) (fits : room ≡ mi
     module _ (five : List ℕ) (f : five ≡ inOrder (numbers reply)) where
       -- the sets that are counted lie in it
       pub front-holds : setBytes * getD five 2 0 ≤ length (take (setBytes * room) (bytes ++ drop (setBytes * room) sets))
-      front-holds = rw (front-is, lent-long, f) (rw lent-front at (count-fits (s .n) (s .cap) (s .limit) terms _ reply bytes e))
+      front-holds = rw (front-is, lent-long, f) (done-counts (setBytes * room) reply listed)
+        where
+          listed : (o c k : ℕ) → reply ≡ Done o c k → setBytes * c ≤ setBytes * room
+          listed o c k d = plan-finds (s .n) (s .cap) (s .limit) terms (setBytes * room) o c k bytes (rw (lent-front, d) at e) .laid .fits
 
       pub prepares : (count : ℕ) (out : List ℕ)
           → counted count out ≡ wiringOf (s .n) terms (s .which) (getD five 2 0) (take (setBytes * room) (bytes ++ drop (setBytes * room) sets))
@@ -82,17 +99,23 @@ module _ (s : Settings) (terms sets : List ℕ) (room : ℕ) (fits : room ≡ mi
           }
 
 -- ---- a buffer of which thinning was lent all
-module _ (n which : ℕ) (terms set sets : List ℕ) (reply : Reply) (bytes : List ℕ) (e : outcome reply bytes ≡ thinned n terms set (length sets)) where
-  module _ (five : List ℕ) (f : five ≡ inOrder (numbers reply)) where
-    pub thin-holds : length bytes ≡ length sets → setBytes * getD five 2 0 ≤ length bytes
-    thin-holds same = rw (same, f) ?
+module _ (n : ℕ) (terms set sets : List ℕ) (reply : Reply) (bytes : List ℕ) (e : outcome reply bytes ≡ thinned n terms set (length sets)) where
+  same : length bytes ≡ length sets
+  same = thin-length n terms set (length sets) reply bytes e
 
-    pub prepares-thin : length bytes ≡ length sets → (count : ℕ) (out : List ℕ) → counted count out ≡ wiringOf n terms which (getD five 2 0) bytes
+  module _ (five : List ℕ) (f : five ≡ inOrder (numbers reply)) where
+    pub thin-holds : setBytes * getD five 2 0 ≤ length bytes
+    thin-holds = rw (f, same) (done-counts (length sets) reply listed)
+      where
+        listed : (o c k : ℕ) → reply ≡ Done o c k → setBytes * c ≤ length sets
+        listed o c k d = thin-finds n terms set (length sets) o c k bytes (rw d at e) .laid .fits
+
+    pub prepares-thin : (which count : ℕ) (out : List ℕ) → counted count out ≡ wiringOf n terms which (getD five 2 0) bytes
         → PreparesThin n which terms set (record { reply = reply; lent = length sets; wires = count }) sets bytes out
     unfolding thinResults
-    prepares-thin same count out w =
-        let whole : take (length sets) bytes ≡ bytes = rw (← same) (take-length bytes) in
-        let short : length bytes ≤ length sets = omega arith in
+    prepares-thin which count out w =
+        let whole : take (length sets) bytes ≡ bytes = take-all (length sets) bytes (omega (arith, same)) in
+        let short : length bytes ≤ length sets = omega (arith, same) in
         let full : length sets ≤ length sets = omega arith in
         record {
           lent = refl;
