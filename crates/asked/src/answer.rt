@@ -5,14 +5,17 @@ use report::prepare;
 use report::prepare::Prepared;
 use report::write;
 use wiring::panel::SET_BYTES;
+use wiring::panel::TERMS_BYTES;
 use wiring::panel::WIRES_BYTES;
 use wiring::reply::Reply;
 ghost use mathlib.Core.Path.{_≡_};
-ghost use lib.ListN.{length};
-ghost use Prim.Native.Nat.{_*_};
+ghost use lib.ListN.{length, take, drop};
+ghost use Prim.Native.Nat.{_*_, _≤_};
+ghost use Rattle.io.specs.Counts.{Counts};
 ghost use Rattle.wiring.specs.Panel.{setBytes};
 ghost use Rattle.asked.specs.Settings.{mostSets};
-ghost use Rattle.asked.specs.Answer.{Answers};
+ghost use Rattle.report.specs.Prepare.{PreparesThin};
+ghost use Rattle.asked.specs.Answer.{mostInput, Answers};
 
 // A buffer for the most sets that can be asked for.
 pub(crate) const SETS_BYTES: usize = SET_BYTES * MOST_SETS;
@@ -23,17 +26,57 @@ pub(crate) fn large_buffer() -> [u8; SETS_BYTES]
     [0u8; SETS_BYTES]
 }
 
-// Plans and wires as it is asked for; of wrong words only the reply is told.
-pub(crate) fn prepare_asked(
-    a: Asked,
-    terms: &[u8],
+// A buffer for the most input: a set record, and term records behind it. One byte more than can be right tells that
+// there are more.
+pub(crate) const INPUT_BYTES: usize = SET_BYTES + TERMS_BYTES + 1;
+
+// How many bytes are read at most.
+fn most_input(a: Asked) -> usize
+    ensures { λ r. ⌜ r ≡ mostInput a ⌝ }
+{
+    match a {
+        Asked::Plan(_) => TERMS_BYTES + 1,
+        Asked::Thin { n, which } => INPUT_BYTES,
+        Asked::Wrong => TERMS_BYTES + 1,
+    }
+}
+
+// Reads the input into the front of a buffer, and gives its length.
+pub(crate) fn read_input(a: Asked, input: &mut [u8]) -> usize
+    ensures { λ r. ⌜ Counts r (now (input .exit)) ⌝ }
+    ensures { λ r. ⌜ r ≤ mostInput a ⌝ }
+{
+    let most = prepare::least(most_input(a), input.len());
+    io::read_full(0, &mut input[..most])
+}
+
+// Thins the set record that the input begins with. Where there are fewer bytes, all of them are the set, which is refused.
+fn prepare_given(
+    n: u64,
+    which: u64,
+    input: &[u8],
     sets: &mut [u8; SETS_BYTES],
     out: &mut [u8; WIRES_BYTES],
 ) -> Prepared
-    ensures { λ r. ⌜ Answers a (now (terms .entry)) r (now (sets .entry)) (now (sets .exit)) (now (out .entry)) (now (out .exit)) ⌝ }
+    ensures { λ r. ⌜ PreparesThin n which (drop setBytes (now (input .entry))) (take setBytes (now (input .entry))) r
+        (now (sets .entry)) (now (sets .exit)) (now (out .exit)) ⌝ }
+{
+    let at = prepare::least(SET_BYTES, input.len());
+    prepare::prepare_thin(n, which, &input[at..], &input[..at], sets, out)
+}
+
+// Plans or thins, and wires as it is asked for; of wrong words only the reply is told.
+pub(crate) fn prepare_asked(
+    a: Asked,
+    input: &[u8],
+    sets: &mut [u8; SETS_BYTES],
+    out: &mut [u8; WIRES_BYTES],
+) -> Prepared
+    ensures { λ r. ⌜ Answers a (now (input .entry)) r (now (sets .entry)) (now (sets .exit)) (now (out .entry)) (now (out .exit)) ⌝ }
 {
     match a {
-        Asked::Right(s) => prepare::prepare(s, terms, sets, out),
+        Asked::Plan(s) => prepare::prepare(s, input, sets, out),
+        Asked::Thin { n, which } => prepare_given(n, which, input, sets, out),
         Asked::Wrong => Prepared {
             reply: Reply::Setting,
             lent: 0,

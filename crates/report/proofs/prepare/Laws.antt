@@ -39,15 +39,15 @@ module _ (n : ℕ) (terms : List ℕ) (which count : ℕ) (sets : List ℕ) (siz
       rw (le-leb 1 which low, le-leb which count high, f) (ap (λ (x : Outcome). counted (x .said .count) (x .bytes)) whole)
 
 -- ---- an outcome and the wiring of one of its sets are its results
-abbrev laid : Outcome → Counted → Results
-laid o w = record { listed = o; wiring = w }
+abbrev asResults : Outcome → Counted → Results
+asResults o w = record { listed = o; wiring = w }
 
 results-are : (n : ℕ) (terms : List ℕ) (which : ℕ) {o : Outcome} (reply : Reply) (bytes five : List ℕ) → outcome reply bytes ≡ o → five ≡ inOrder (numbers reply)
-    → (count : ℕ) (out : List ℕ) → counted count out ≡ wiringOf n terms which (getD five 2 0) bytes → laid (outcome reply bytes) (counted count out) ≡ resultsOf n terms which o
+    → (count : ℕ) (out : List ℕ) → counted count out ≡ wiringOf n terms which (getD five 2 0) bytes → asResults (outcome reply bytes) (counted count out) ≡ resultsOf n terms which o
 unfolding resultsOf
 results-are n terms which reply bytes five e f count out w =
     let wiring : counted count out ≡ wiringOf n terms which (numbers reply .count) bytes = rw f at w in
-    ap (laid (outcome reply bytes)) wiring ∙ ap (λ (x : Outcome). laid x (wiringOf n terms which (x .said .count) (x .bytes))) e
+    ap (asResults (outcome reply bytes)) wiring ∙ ap (λ (x : Outcome). asResults x (wiringOf n terms which (x .said .count) (x .bytes))) e
 
 -- only done counts sets: where those have room, what any reply counts has
 done-counts : (size : ℕ) (r : Reply) → ((o c k : ℕ) → r ≡ Done o c k → setBytes * c ≤ size) → setBytes * numbers r .count ≤ size
