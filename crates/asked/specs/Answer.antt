@@ -1,9 +1,9 @@
--- What the program reads and writes: the report that was asked for, or of wrong words the reply of code 1. Assumes nothing.
+-- What the program writes: the report that was asked for, or of wrong words the reply of code 1. Assumes nothing.
 use mathlib.Core.Path.{_≡_}
 use mathlib.Core.List.{List, [], _∷_}
-use Prim.Native.Nat.{ℕ, _+_, _*_}
+use Prim.Native.Nat.{ℕ, _*_}
 use lib.ListN.{length, take, drop}
-use Rattle.wiring.specs.Panel.{setBytes, termsBytes}
+use Rattle.wiring.specs.Panel.{setBytes}
 use Rattle.wiring.specs.Reply.{numbers, inOrder}
 use Rattle.wiring.specs.declared.reply.Reply.the-variants.{Setting}
 use Rattle.lines.specs.Answer.{replyLine}
@@ -14,13 +14,7 @@ use Rattle.asked.specs.declared.settings.Asked.{Asked}
 use Rattle.asked.specs.declared.settings.Asked.the-variants.{Plan, Thin, Wrong}
 use Rattle.asked.specs.Settings.{mostSets}
 
--- so much of the input is read: what can be right, and one byte more, which tells that there are more
-abbrev pub mostInput : Asked → ℕ
-mostInput (Plan s) = termsBytes + 1
-mostInput (Thin n which) = setBytes + termsBytes + 1
-mostInput Wrong = termsBytes + 1
-
--- by what was read: term records; to be thinned, a set record before them
+-- the input is term records; where a set is to be thinned, its record comes before them
 unfoldable pub answered : Asked → List ℕ → List (List ℕ)
 answered (Plan s) input = report s input
 answered (Thin n which) input = thinReport n which (drop setBytes input) (take setBytes input) (setBytes * mostSets)

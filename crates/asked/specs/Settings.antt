@@ -1,4 +1,5 @@
--- What is asked for by words that are numbers: by five a plan, with room for at most 20,000 sets; by two the thinning of a set. Assumes nothing.
+-- What words ask for, each a number: five a plan, with room for at most 20,000 sets; two the thinning of a set.
+-- Assumes nothing.
 use mathlib.Core.Bool.{cond}
 use Prim.Native.Nat.{ℕ, _≤_}
 use lib.Dec.{leb}

@@ -5,17 +5,15 @@ use report::prepare;
 use report::prepare::Prepared;
 use report::write;
 use wiring::panel::SET_BYTES;
-use wiring::panel::TERMS_BYTES;
 use wiring::panel::WIRES_BYTES;
 use wiring::reply::Reply;
 ghost use mathlib.Core.Path.{_≡_};
 ghost use lib.ListN.{length, take, drop};
-ghost use Prim.Native.Nat.{_*_, _≤_};
-ghost use Rattle.io.specs.Counts.{Counts};
+ghost use Prim.Native.Nat.{_*_};
 ghost use Rattle.wiring.specs.Panel.{setBytes};
-ghost use Rattle.asked.specs.Settings.{mostSets};
 ghost use Rattle.report.specs.Prepare.{PreparesThin};
-ghost use Rattle.asked.specs.Answer.{mostInput, Answers};
+ghost use Rattle.asked.specs.Settings.{mostSets};
+ghost use Rattle.asked.specs.Answer.{Answers};
 
 // A buffer for the most sets that can be asked for.
 pub(crate) const SETS_BYTES: usize = SET_BYTES * MOST_SETS;
@@ -26,31 +24,8 @@ pub(crate) fn large_buffer() -> [u8; SETS_BYTES]
     [0u8; SETS_BYTES]
 }
 
-// A buffer for the most input: a set record, and term records behind it. One byte more than can be right tells that
-// there are more.
-pub(crate) const INPUT_BYTES: usize = SET_BYTES + TERMS_BYTES + 1;
-
-// How many bytes are read at most.
-fn most_input(a: Asked) -> usize
-    ensures { λ r. ⌜ r ≡ mostInput a ⌝ }
-{
-    match a {
-        Asked::Plan(_) => TERMS_BYTES + 1,
-        Asked::Thin { n, which } => INPUT_BYTES,
-        Asked::Wrong => TERMS_BYTES + 1,
-    }
-}
-
-// Reads the input into the front of a buffer, and gives its length.
-pub(crate) fn read_input(a: Asked, input: &mut [u8]) -> usize
-    ensures { λ r. ⌜ Counts r (now (input .exit)) ⌝ }
-    ensures { λ r. ⌜ r ≤ mostInput a ⌝ }
-{
-    let most = prepare::least(most_input(a), input.len());
-    io::read_full(0, &mut input[..most])
-}
-
-// Thins the set record that the input begins with. Where there are fewer bytes, all of them are the set, which is refused.
+// Thins the set record that the input begins with. Where there are fewer bytes, all of them are the set, and thinning
+// refuses it.
 fn prepare_given(
     n: u64,
     which: u64,

@@ -87,7 +87,7 @@ table =
     ∷ row (wiring-set 2 0) example ("0 2 2 23 0" ∷ "2.0.0.0.0.0 3.0.0.0.0.0" ∷ "3.0.0.0.0.0 4.0.0.0.0.0" ∷ [])
     ∷ row (wiring-set 2 3) example ("0 2 2 23 0" ∷ "2.0.0.0.0.0 3.0.0.0.0.0" ∷ "3.0.0.0.0.0 4.0.0.0.0.0" ∷ [])
     ∷ row (wiring-set 1 1) example ("6 2 0 15 0" ∷ [])
-    -- thinning: of three signals one is not needed; the second subset wired; there is no subset 3; room for one is not enough
+    -- thinning: of three signals two are needed; the second subset wired; no subset 3; room for one is not enough
     ∷ thinRow 2 1 example (2 ∷ 3 ∷ 4 ∷ [])
     ("0 2 2 8 0"
     ∷ "2.0.0.0.0.0 3.0.0.0.0.0"
@@ -112,7 +112,7 @@ table =
     ∷ [])
     ∷ thinRow 2 3 example (2 ∷ 3 ∷ 4 ∷ []) ("0 2 2 8 0" ∷ "2.0.0.0.0.0 3.0.0.0.0.0" ∷ "3.0.0.0.0.0 4.0.0.0.0.0" ∷ [])
     ∷ thinRow 1 1 example (2 ∷ 3 ∷ 4 ∷ []) ("6 2 0 8 0" ∷ [])
-    -- x' = x needs none of its signals: the empty set; x' = x^4 with x^2 is not quadratic; 36 bytes are a set, 42 are not
+    -- x' = x needs no new signal: the empty set; x' = x^4 with x^2 is not quadratic; 42 bytes are no set
     ∷ thinRow 1 1 (plus 1 (1 ∷ [])) (2 ∷ 3 ∷ []) ("0 0 1 4 0" ∷ "" ∷ "1 0 1 1" ∷ [])
     ∷ thinRow 1 1 (plus 1 (4 ∷ [])) (2 ∷ []) ("9 1 0 0 2" ∷ [])
     ∷ thinRow 1 1 example (2 ∷ 3 ∷ 4 ∷ 5 ∷ 6 ∷ 7 ∷ 8 ∷ []) ("2 0 0 0 0" ∷ [])

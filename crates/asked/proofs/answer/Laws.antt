@@ -1,13 +1,12 @@
--- An input that is cut where its set ends, and one that was read into the front of a buffer. Assumes nothing.
+-- An input that is cut where its set ends. Assumes nothing.
 use mathlib.Core.Path.{_≡_, sym, _∙_}
-use mathlib.Core.List.{List, _++_}
+use mathlib.Core.List.{List}
 use Prim.Native.Nat.{ℕ, _-_, _≤_, _<_, min}
 use native.Mathlib.Omega.{arith}
 use borrow.Author.Tests.{leb-true, leb-false}
 use lib.Dec.{leb}
-use lib.ListN.{length, take, drop, length-append, length-drop, drop-of-length-le}
-use lib.Seq.{take-all, length-take-le}
-use Rattle.io.specs.Counts.{Counts}
+use lib.ListN.{length, take, drop, length-drop, drop-of-length-le}
+use lib.Seq.{take-all}
 use Rattle.monomial.proofs.Tests.{Tested, passed, failed, test}
 
 -- what stands behind the first n, or behind all where there are fewer
@@ -21,8 +20,3 @@ rest-within l n at e = let all : length (drop at l) ≤ length l - at = simp len
         let over : length l ≤ at = omega arith in
         let far : length l ≤ n = omega arith in
         drop-of-length-le l over ∙ sym (drop-of-length-le l far)
-
-pub counts-front : (n : ℕ) (front rest : List ℕ) → Counts n front → Counts n (front ++ rest)
-counts-front n front rest h =
-    let low : n ≤ length (front ++ rest) = omega (arith, length-append front rest, h .0) in
-    (low, sym (length-take-le n (front ++ rest) low))

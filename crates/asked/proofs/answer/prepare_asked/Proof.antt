@@ -1,4 +1,4 @@
--- `prepare_asked` meets its contract: a plan or a thinning is prepared for; wrong words leave the buffers. Assumes nothing.
+-- `prepare_asked` meets its contract: a plan or a thinning is prepared; wrong words leave the buffers. Assumes nothing.
 use mathlib.Core.Path.{refl}
 use borrow.Author.Needs.{needs}
 use Rattle.asked.proofs.answer.prepare_asked.Statement.{statement}

@@ -2,10 +2,10 @@
 use mathlib.Core.Path.{sym}
 use native.Mathlib.Omega.{arith}
 use lib.Seq.{length-take-le}
-use Rattle.asked.proofs.answer.Laws.{counts-front}
+use Rattle.asked.proofs.input.Laws.{counts-front}
 use borrow.Author.Needs.{needs}
-use Rattle.asked.proofs.answer.read_input.Statement.{statement}
-use Rattle.asked.proofs.answer.read_input.Tie as tie
+use Rattle.asked.proofs.input.read_input.Statement.{statement}
+use Rattle.asked.proofs.input.read_input.Tie as tie
 
 most-input-requires : tie.Need-most-input-requires
 most-input-requires c κs = search needs
