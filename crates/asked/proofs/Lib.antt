@@ -1,2 +1,2 @@
--- Laws that belong to no module of src/. Those of a module stand under its name: settings, answer.
+-- Laws that belong to no module of src/. Those of a module stand under its name: settings, input, answer.
 pub mod Samples

@@ -1,4 +1,4 @@
--- Five words beside what they ask for: one table, one claim. Assumes nothing.
+-- Five words or two beside what they ask for: one table, one claim. Assumes nothing.
 use mathlib.Core.Path.{_≡_, refl}
 use mathlib.Core.List.{List, [], _∷_, map}
 use Prim.Native.Nat.{ℕ}
@@ -8,8 +8,8 @@ use Rattle.lines.specs.Number.{extended, numberFrom, numberOf}
 use Rattle.lines.specs.declared.number.Number.{Number}
 use Rattle.lines.proofs.Samples.{written}
 use Rattle.asked.specs.declared.settings.Asked.{Asked}
-use Rattle.asked.specs.declared.settings.Asked.the-variants.{Right, Wrong}
-use Rattle.asked.specs.Settings.{asked}
+use Rattle.asked.specs.declared.settings.Asked.the-variants.{Plan, Thin, Wrong}
+use Rattle.asked.specs.Settings.{asked, askedThin}
 
 record Row : Type 0 where
   got : Asked
@@ -21,8 +21,11 @@ number word = numberOf (written word)
 row : String → String → String → String → String → Asked → Row
 row a b c d e want = record { got = asked (number a) (number b) (number c) (number d) (number e); want = want }
 
+thinRow : String → String → Asked → Row
+thinRow a b want = record { got = askedThin (number a) (number b); want = want }
+
 right : ℕ → ℕ → ℕ → ℕ → ℕ → Asked
-right n cap limit room which = Right (record { n = n; cap = cap; limit = limit; room = room; which = which })
+right n cap limit room which = Plan (record { n = n; cap = cap; limit = limit; room = room; which = which })
 
 table : List Row
 table =
@@ -36,8 +39,12 @@ table =
     ∷ row "1" "2" "3x" "4" "5" Wrong
     ∷ row "1" "2" "3" "18446744073709551616" "5" Wrong
     ∷ row "1" "2" "3" "4" "1.5" Wrong
+    -- N and WHICH
+    ∷ thinRow "6" "2" (Thin 6 2)
+    ∷ thinRow "x" "2" Wrong
+    ∷ thinRow "6" "" Wrong
     ∷ []
 
 sampled : map (λ r. r .got) table ≡ map (λ r. r .want) table
-unfolding table row number right written asked numberOf numberFrom extended some all
+unfolding table row thinRow number right written asked askedThin numberOf numberFrom extended some all
 sampled = refl

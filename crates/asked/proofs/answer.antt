@@ -1,2 +1,3 @@
 -- The laws of the module answer.
+pub mod Laws
 pub mod Exact

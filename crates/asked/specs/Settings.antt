@@ -1,11 +1,12 @@
--- What is asked for by five words: five numbers, of which the room is at most 20,000 sets. Assumes nothing.
+-- What words ask for, each a number: five a plan, with room for at most 20,000 sets; two the thinning of a set.
+-- Assumes nothing.
 use mathlib.Core.Bool.{cond}
 use Prim.Native.Nat.{ℕ, _≤_}
 use lib.Dec.{leb}
 use Rattle.lines.specs.declared.number.Number.{Number}
 use Rattle.lines.specs.declared.number.Number.the-variants.{Of, Nothing}
 use Rattle.asked.specs.declared.settings.Asked.{Asked}
-use Rattle.asked.specs.declared.settings.Asked.the-variants.{Right, Wrong}
+use Rattle.asked.specs.declared.settings.Asked.the-variants.{Plan, Thin, Wrong}
 
 abbrev pub mostSets : ℕ
 mostSets = 20000
@@ -17,13 +18,18 @@ numbered Nothing f = Wrong
 
 abbrev pub within : ℕ → ℕ → ℕ → ℕ → ℕ → Asked
 within n cap limit sets which =
-    cond (leb sets mostSets) (Right (record { n = n; cap = cap; limit = limit; room = sets; which = which })) Wrong
+    cond (leb sets mostSets) (Plan (record { n = n; cap = cap; limit = limit; room = sets; which = which })) Wrong
 
 -- the words in their order: N, K, LIMIT, SETS, WHICH
 unfoldable pub asked : Number → Number → Number → Number → Number → Asked
 asked a b c d e = numbered a (λ n. numbered b (λ cap. numbered c (λ limit. numbered d (λ sets. numbered e (within n cap limit sets)))))
 
+-- N, WHICH
+unfoldable pub askedThin : Number → Number → Asked
+askedThin a b = numbered a (λ n. numbered b (Thin n))
+
 -- what the buffer has room for
 abbrev pub Roomy : Asked → Type 0
-Roomy (Right s) = s .room ≤ mostSets
+Roomy (Plan s) = s .room ≤ mostSets
+Roomy (Thin n which) = Unit
 Roomy Wrong = Unit

@@ -8,9 +8,10 @@ use wiring::panel::SET_BYTES;
 use wiring::panel::WIRES_BYTES;
 use wiring::reply::Reply;
 ghost use mathlib.Core.Path.{_≡_};
-ghost use lib.ListN.{length};
+ghost use lib.ListN.{length, take, drop};
 ghost use Prim.Native.Nat.{_*_};
 ghost use Rattle.wiring.specs.Panel.{setBytes};
+ghost use Rattle.report.specs.Prepare.{PreparesThin};
 ghost use Rattle.asked.specs.Settings.{mostSets};
 ghost use Rattle.asked.specs.Answer.{Answers};
 
@@ -23,17 +24,34 @@ pub(crate) fn large_buffer() -> [u8; SETS_BYTES]
     [0u8; SETS_BYTES]
 }
 
-// Plans and wires as it is asked for; of wrong words only the reply is told.
-pub(crate) fn prepare_asked(
-    a: Asked,
-    terms: &[u8],
+// Thins the set record that the input begins with. Where there are fewer bytes, all of them are the set, and thinning
+// refuses it.
+fn prepare_given(
+    n: u64,
+    which: u64,
+    input: &[u8],
     sets: &mut [u8; SETS_BYTES],
     out: &mut [u8; WIRES_BYTES],
 ) -> Prepared
-    ensures { λ r. ⌜ Answers a (now (terms .entry)) r (now (sets .entry)) (now (sets .exit)) (now (out .entry)) (now (out .exit)) ⌝ }
+    ensures { λ r. ⌜ PreparesThin n which (drop setBytes (now (input .entry))) (take setBytes (now (input .entry))) r
+        (now (sets .entry)) (now (sets .exit)) (now (out .exit)) ⌝ }
+{
+    let at = prepare::least(SET_BYTES, input.len());
+    prepare::prepare_thin(n, which, &input[at..], &input[..at], sets, out)
+}
+
+// Plans or thins, and wires as it is asked for; of wrong words only the reply is told.
+pub(crate) fn prepare_asked(
+    a: Asked,
+    input: &[u8],
+    sets: &mut [u8; SETS_BYTES],
+    out: &mut [u8; WIRES_BYTES],
+) -> Prepared
+    ensures { λ r. ⌜ Answers a (now (input .entry)) r (now (sets .entry)) (now (sets .exit)) (now (out .entry)) (now (out .exit)) ⌝ }
 {
     match a {
-        Asked::Right(s) => prepare::prepare(s, terms, sets, out),
+        Asked::Plan(s) => prepare::prepare(s, input, sets, out),
+        Asked::Thin { n, which } => prepare_given(n, which, input, sets, out),
         Asked::Wrong => Prepared {
             reply: Reply::Setting,
             lent: 0,

@@ -1,18 +1,20 @@
-// Document 01's program with settings as arguments: plans and wires once, and writes the lines of the report.
+// Document 01's program with settings as arguments: plans, or thins a given set, and wires once; and writes the lines of
+// the report.
 //
 //     asked N K LIMIT SETS WHICH < term-records
+//     asked N WHICH < set-record term-records
 mod answer;
+mod input;
 mod settings;
 
-use wiring::panel::TERMS_BYTES;
 use wiring::panel::WIRES_BYTES;
 
 fn main() {
-    // One byte more than can be right tells that there are more.
-    let mut input = [0u8; TERMS_BYTES + 1];
-    let n = io::read_full(0, &mut input);
+    let a = settings::read();
+    let mut bytes = [0u8; input::INPUT_BYTES];
+    let n = input::read_input(a, &mut bytes);
     let mut sets = answer::large_buffer();
     let mut wires = [0u8; WIRES_BYTES];
-    let p = answer::prepare_asked(settings::read(), &input[..n], &mut sets, &mut wires);
+    let p = answer::prepare_asked(a, &bytes[..n], &mut sets, &mut wires);
     answer::write_asked(p, &sets, &wires);
 }

@@ -1,19 +1,20 @@
-// What is asked for: five numbers, each a word of the command line.
+// What is asked for by numbers, each a word of the command line: five ask for a plan, two for the thinning of a set.
 use lines::number;
 use lines::number::Number;
 use report::prepare::Settings;
 ghost use mathlib.Core.Path.{_≡_};
-ghost use Rattle.asked.specs.Settings.{asked, Roomy};
+ghost use Rattle.asked.specs.Settings.{asked, askedThin, Roomy};
 
 // The most sets that there is room for.
 pub(crate) const MOST_SETS: usize = 20000;
 
 pub enum Asked {
-    Right(Settings),
+    Plan(Settings),
+    Thin { n: u64, which: u64 },
     Wrong,
 }
 
-// The settings that five words give, read as numbers.
+// The plan that five words ask for, read as numbers.
 fn settings_of(n: Number, cap: Number, limit: Number, sets: Number, which: Number) -> Asked
     ensures { λ r. ⌜ r ≡ asked n cap limit sets which ⌝ }
 {
@@ -35,13 +36,26 @@ fn settings_of(n: Number, cap: Number, limit: Number, sets: Number, which: Numbe
     if (MOST_SETS as u64) < sets {
         return Asked::Wrong;
     }
-    Asked::Right(Settings {
+    Asked::Plan(Settings {
         n,
         cap,
         limit,
         room: sets as usize,
         which,
     })
+}
+
+// The thinning that two words ask for, read as numbers.
+fn thinning_of(n: Number, which: Number) -> Asked
+    ensures { λ r. ⌜ r ≡ askedThin n which ⌝ }
+{
+    let Number::Of(n) = n else {
+        return Asked::Wrong;
+    };
+    let Number::Of(which) = which else {
+        return Asked::Wrong;
+    };
+    Asked::Thin { n, which }
 }
 
 // Word number i of the command line. One that is missing or over 4,096 bytes comes as an empty word, which is no number.
@@ -51,11 +65,15 @@ fn number_at(i: usize) -> Number {
     number::number_of(&word[..length])
 }
 
-// The settings of the command line, which has the program's name before them.
+// What the command line asks for, which has the program's name before the words.
 pub(crate) fn read() -> Asked
     ensures { λ r. ⌜ Roomy r ⌝ }
 {
-    if os::arg_count() != 6 {
+    let words = os::arg_count();
+    if words == 3 {
+        return thinning_of(number_at(1), number_at(2));
+    }
+    if words != 6 {
         return Asked::Wrong;
     }
     settings_of(

@@ -1,5 +1,5 @@
--- What a report says: after a refusal the reply alone; after code 0 every smallest set by its record, in order, and then
--- the wiring list of the set that is asked for. Assumes nothing.
+-- What a report says: after a refusal the reply alone; after code 0 every set of the list by its record, in order, and
+-- then the wiring list of the set that is asked for. Assumes nothing.
 use mathlib.Core.Path.{_≡_, refl, sym, ap, _∙_}
 use mathlib.Core.Logic.{_⊎_, inl, inr}
 use mathlib.Core.List.{List, [], _∷_, _++_, map, map-map}
@@ -12,7 +12,7 @@ use lib.Seq.{ext-getD}
 use Rattle.monomial.specs.Lists.{below}
 use Rattle.monomial.proofs.Members.{map-at}
 use Rattle.wiring.specs.Panel.{setBytes, wireBytes, wiresBytes}
-use Rattle.wiring.specs.Reply.{numbers, inOrder, outcome}
+use Rattle.wiring.specs.Reply.{numbers, inOrder, Outcome, outcome}
 use Rattle.wiring.specs.Sets.{setRecord}
 use Rattle.wiring.specs.Wires.{Wire, wireRecord, wireList}
 use Rattle.wiring.specs.Answers.{wired}
@@ -24,13 +24,16 @@ use Rattle.wiring.proofs.wires.Correct.{list-at}
 use Rattle.wiring.proofs.answers.Wired.{wire-length}
 use Rattle.walk.specs.Walk.{Finds}
 use Rattle.walk.specs.Plan.{planned}
-use Rattle.walk.specs.Claims.{setsAt}
-use Rattle.walk.proofs.plan.Exact.{plan-finds, plan-length}
-use Rattle.walk.proofs.plan.Records.{records-fit, record-at, record-wired}
+use Rattle.walk.specs.Claims.{setsAt, Laid}
+use Rattle.walk.proofs.plan.Exact.{plan-finds}
+use Rattle.walk.proofs.plan.Records.{record-wired}
+use Rattle.thin.specs.Thin.{thinned}
+use Rattle.thin.specs.Claims.{thinnestIn}
+use Rattle.thin.proofs.thin.Exact.{thin-finds, thin-wired}
 use Rattle.lines.specs.Answer.{replyLine, setLine, wireLine}
 use Rattle.report.specs.declared.prepare.Settings.{Settings}
-use Rattle.report.specs.Prepare.{counted, slot, wiringOf, results}
-use Rattle.report.specs.Report.{slots, setLines, wireLines, linesOf, report}
+use Rattle.report.specs.Prepare.{counted, slot, wiringOf, resultsOf, results, thinResults}
+use Rattle.report.specs.Report.{slots, setLines, wireLines, linesOf, report, thinReport}
 use Rattle.report.proofs.prepare.Laws.{wires-zero, wires-beyond, wires-there}
 use Rattle.report.proofs.line.Laws.{slots-length, slots-at}
 
@@ -51,75 +54,103 @@ slots-are f l d size count bytes many fits each =
 unwritten : Wire
 unwritten = record { left = 0; a = 0; b = 0; coefficient = pos 0 }
 
-module _ (s : Settings) (terms : List ℕ) where
+-- ---- an outcome, and the wiring of set number `which`
+module _ (n : ℕ) (terms : List ℕ) (which : ℕ) where
   -- after any code but 0 only the first line
-  pub report-refused : (r : Reply) (bytes : List ℕ)
-      → outcome r bytes ≡ planned (s .n) (s .cap) (s .limit) terms (setBytes * s .room) → (numbers r .code ≡ 0 → ⊥)
-      → report s terms ≡ replyLine (inOrder (numbers r)) ∷ []
-  unfolding report results linesOf
-  report-refused r bytes e f = rw (← e, ne-eqb (numbers r .code) 0 f)
+  refused-line : {x : Outcome} (r : Reply) (bytes : List ℕ) → outcome r bytes ≡ x → (numbers r .code ≡ 0 → ⊥)
+      → linesOf (resultsOf n terms which x) ≡ replyLine (inOrder (numbers r)) ∷ []
+  unfolding resultsOf linesOf
+  refused-line r bytes e f = rw (← e, ne-eqb (numbers r .code) 0 f)
 
-  module _ (o c k : ℕ) (bytes : List ℕ) (e : outcome (Done o c k) bytes ≡ planned (s .n) (s .cap) (s .limit) terms (setBytes * s .room)) where
-    abbrev size : ℕ
-    size = setBytes * s .room
-
-    abbrev found : Finds
-    found = setsAt (s .n) terms o
-
-    -- the records that are counted are those of the sets
-    records : slots setBytes c bytes ≡ map setRecord found
-    records =
-        let long : length bytes ≡ size = plan-length (s .n) (s .cap) (s .limit) terms size (Done o c k) bytes e in
-        let fits : setBytes * c ≤ size = records-fit (s .n) (s .cap) (s .limit) terms size o c k bytes e in
-        let many : c ≡ length found = plan-finds (s .n) (s .cap) (s .limit) terms size o c k bytes e .laid .counted in
-        slots-are setRecord found [] setBytes c bytes many (omega arith) (record-at (s .n) (s .cap) (s .limit) terms size o c k bytes e)
-
-    -- the reply, a line for each smallest set, and then the wiring
-    pub report-done : report s terms ≡ replyLine (0 ∷ o ∷ c ∷ k ∷ 0 ∷ [])
-        ∷ map (λ x. setLine (setRecord x) o) (setsAt (s .n) terms o)
-        ++ wireLines (wiringOf (s .n) terms (s .which) c bytes)
-    unfolding report results linesOf setLines
-    report-done = rw (← e, records, map-map (λ b. setLine b o) setRecord found)
+  module _ (c : ℕ) (bytes : List ℕ) where
+    -- the reply, a line for each set of a list that is laid in the buffer, and then the wiring
+    listed-lines : {x : Outcome} (o k : ℕ) → outcome (Done o c k) bytes ≡ x → (l : Finds) {size : ℕ} → Laid l c size bytes
+        → linesOf (resultsOf n terms which x)
+        ≡ replyLine (0 ∷ o ∷ c ∷ k ∷ 0 ∷ []) ∷ map (λ s. setLine (setRecord s) o) l ++ wireLines (wiringOf n terms which c bytes)
+    unfolding resultsOf linesOf setLines
+    listed-lines o k e l laid = rw (← e, records, map-map (λ b. setLine b o) setRecord l)
+      where
+        records : slots setBytes c bytes ≡ map setRecord l
+        records = slots-are setRecord l [] setBytes c bytes (laid .counted) (omega (arith, laid .fits, laid .long)) (laid .written)
 
     -- no set of that number: nothing is wired
-    pub nothing-wired : (s .which ≡ 0) ⊎ (c < s .which) → wireLines (wiringOf (s .n) terms (s .which) c bytes) ≡ []
+    pub nothing-wired : (which ≡ 0) ⊎ (c < which) → wireLines (wiringOf n terms which c bytes) ≡ []
     unfolding wireLines slots below
     nothing-wired h = rw (← unwired h) (empty-lines (replicate wiresBytes 0))
       where
         empty-lines : (zeros : List ℕ) → map wireLine (slots wireBytes 0 zeros) ≡ []
         empty-lines zeros = let no : min 0 (length zeros / wireBytes) ≡ 0 = omega arith in rw no
 
-        unwired : (s .which ≡ 0) ⊎ (c < s .which) → counted 0 (replicate wiresBytes 0) ≡ wiringOf (s .n) terms (s .which) c bytes
-        unwired (inl low) = wires-zero (s .n) terms (s .which) c bytes wiresBytes refl (replicate wiresBytes 0) refl (omega arith)
-        unwired (inr high) = wires-beyond (s .n) terms (s .which) c bytes wiresBytes refl (replicate wiresBytes 0) refl (omega arith) high
+        unwired : (which ≡ 0) ⊎ (c < which) → counted 0 (replicate wiresBytes 0) ≡ wiringOf n terms which c bytes
+        unwired (inl low) = wires-zero n terms which c bytes wiresBytes refl (replicate wiresBytes 0) refl (omega arith)
+        unwired (inr high) = wires-beyond n terms which c bytes wiresBytes refl (replicate wiresBytes 0) refl (omega arith) high
 
-    module _ (low : 1 ≤ s .which) (high : s .which ≤ c) where
-      abbrev list : List Wire
-      list = listIn (s .n) terms (setRecord (getD found (s .which - 1) []))
-
+    -- the record of that number, where a list is its wiring: a line for each record of the list
+    module _ (low : 1 ≤ which) (high : which ≤ c) (o : ℕ) (list : List Wire) where
       abbrev left : List ℕ
       left = wireList list ++ replicate (wiresBytes - wireBytes * length list) 0
 
-      wires : outcome (Done o (length list) 0) left ≡ wired (s .n) terms (slot setBytes bytes (s .which - 1)) wiresBytes
-      wires = record-wired (s .n) (s .cap) (s .limit) terms size o c k bytes e (s .which - 1) (omega arith) wiresBytes (omega arith)
+      module _ (wires : outcome (Done o (length list) 0) left ≡ wired n terms (slot setBytes bytes (which - 1)) wiresBytes) where
+        filed : counted (length list) left ≡ wiringOf n terms which c bytes
+        filed =
+            wires-there n terms which c bytes wiresBytes refl low high (setBytes * (which - 1)) refl (Done o (length list) 0) left _ (rw same wires) refl
+          where
+            same : setBytes * (which - 1) + setBytes - setBytes * (which - 1) ≡ setBytes
+            same = omega arith
 
-      filed : counted (length list) left ≡ wiringOf (s .n) terms (s .which) c bytes
-      filed =
-          wires-there (s .n) terms (s .which) c bytes wiresBytes refl low high (setBytes * (s .which - 1)) refl (Done o (length list) 0) left _
-          (rw same wires) refl
-        where
-          same : setBytes * (s .which - 1) + setBytes - setBytes * (s .which - 1) ≡ setBytes
-          same = omega arith
+        listed-wires : wireLines (wiringOf n terms which c bytes) ≡ map (λ w. wireLine (wireRecord w)) list
+        unfolding wireLines
+        listed-wires =
+            let long : length left ≡ wiresBytes = wire-length n terms _ wiresBytes (Done o (length list) 0) left wires in
+            let zeros : List ℕ = replicate (wiresBytes - wireBytes * length list) 0 in
+            let most : wireBytes * length list ≤ wiresBytes = omega (arith, length-append (wireList list) zeros, list-length list) in
+            let at : (j : ℕ) → j < length list → slot wireBytes left j ≡ wireRecord (getD list j unwritten) = λ j h. list-at list zeros j unwritten h in
+            let each = slots-are wireRecord list unwritten wireBytes (length list) left refl (omega arith) at in
+            rw (← filed) (ap (map wireLine) each ∙ map-map wireLine wireRecord list)
 
-      -- the set of that number: a line for each record of its list
-      pub wiring-lines : wireLines (wiringOf (s .n) terms (s .which) c bytes)
-          ≡ map (λ w. wireLine (wireRecord w))
-          (listIn (s .n) terms (setRecord (getD (setsAt (s .n) terms o) (s .which - 1) [])))
-      unfolding wireLines
-      wiring-lines =
-          let long : length left ≡ wiresBytes = wire-length (s .n) terms _ wiresBytes (Done o (length list) 0) left wires in
-          let zeros : List ℕ = replicate (wiresBytes - wireBytes * length list) 0 in
-          let most : wireBytes * length list ≤ wiresBytes = omega (arith, length-append (wireList list) zeros, list-length list) in
-          let at : (j : ℕ) → j < length list → slot wireBytes left j ≡ wireRecord (getD list j unwritten) = λ j h. list-at list zeros j unwritten h in
-          let each = slots-are wireRecord list unwritten wireBytes (length list) left refl (omega arith) at in
-          rw (← filed) (ap (map wireLine) each ∙ map-map wireLine wireRecord list)
+-- ---- planning
+module _ (s : Settings) (terms : List ℕ) where
+  abbrev size : ℕ
+  size = setBytes * s .room
+
+  pub report-refused : (r : Reply) (bytes : List ℕ) → outcome r bytes ≡ planned (s .n) (s .cap) (s .limit) terms size → (numbers r .code ≡ 0 → ⊥)
+      → report s terms ≡ replyLine (inOrder (numbers r)) ∷ []
+  unfolding report results
+  report-refused r bytes e f = refused-line (s .n) terms (s .which) r bytes e f
+
+  module _ (o c k : ℕ) (bytes : List ℕ) (e : outcome (Done o c k) bytes ≡ planned (s .n) (s .cap) (s .limit) terms size) where
+    -- the list is that of the smallest sets
+    pub report-done : report s terms ≡ replyLine (0 ∷ o ∷ c ∷ k ∷ 0 ∷ [])
+        ∷ map (λ x. setLine (setRecord x) o) (setsAt (s .n) terms o)
+        ++ wireLines (wiringOf (s .n) terms (s .which) c bytes)
+    unfolding report results
+    report-done =
+        listed-lines (s .n) terms (s .which) c bytes o k e (setsAt (s .n) terms o) (plan-finds (s .n) (s .cap) (s .limit) terms size o c k bytes e .laid)
+
+    pub wiring-lines : 1 ≤ s .which → s .which ≤ c
+        → wireLines (wiringOf (s .n) terms (s .which) c bytes)
+        ≡ map (λ w. wireLine (wireRecord w)) (listIn (s .n) terms (setRecord (getD (setsAt (s .n) terms o) (s .which - 1) [])))
+    wiring-lines low high =
+        let wires = record-wired (s .n) (s .cap) (s .limit) terms size o c k bytes e (s .which - 1) (omega arith) wiresBytes (omega arith) in
+        listed-wires (s .n) terms (s .which) c bytes low high o _ wires
+
+-- ---- thinning
+module _ (n which : ℕ) (terms set : List ℕ) (size : ℕ) where
+  pub thin-report-refused : (r : Reply) (bytes : List ℕ) → outcome r bytes ≡ thinned n terms set size → (numbers r .code ≡ 0 → ⊥)
+      → thinReport n which terms set size ≡ replyLine (inOrder (numbers r)) ∷ []
+  unfolding thinReport thinResults
+  thin-report-refused r bytes e f = refused-line n terms which r bytes e f
+
+  module _ (o c k : ℕ) (bytes : List ℕ) (e : outcome (Done o c k) bytes ≡ thinned n terms set size) where
+    -- the list is that of the smallest quadratic subsets
+    pub thin-report-done : thinReport n which terms set size ≡ replyLine (0 ∷ o ∷ c ∷ k ∷ 0 ∷ [])
+        ∷ map (λ x. setLine (setRecord x) o) (thinnestIn n terms set)
+        ++ wireLines (wiringOf n terms which c bytes)
+    unfolding thinReport thinResults
+    thin-report-done = listed-lines n terms which c bytes o k e (thinnestIn n terms set) (thin-finds n terms set size o c k bytes e .laid)
+
+    pub thin-wiring-lines : 1 ≤ which → which ≤ c
+        → wireLines (wiringOf n terms which c bytes) ≡ map (λ w. wireLine (wireRecord w)) (listIn n terms (setRecord (getD (thinnestIn n terms set) (which - 1) [])))
+    thin-wiring-lines low high =
+        let wires = thin-wired n terms set size o c k bytes e (which - 1) (omega arith) wiresBytes (omega arith) in
+        listed-wires n terms which c bytes low high o _ wires

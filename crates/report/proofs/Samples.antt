@@ -1,9 +1,9 @@
 -- Reports beside their lines, by hand: one table, one claim. Assumes nothing.
 use mathlib.Core.Path.{_≡_, refl}
 use mathlib.Core.List.{List, [], _∷_, _++_, map}
-use Prim.Native.Nat.{ℕ}
+use Prim.Native.Nat.{ℕ, _*_, _-_}
 use Prim.Native.String.{String}
-use lib.ListN.{replicate}
+use lib.ListN.{length, replicate}
 use Rattle.monomial.specs.Lists.{any, some, all, keep, place, gather, below, pairwise, pointwise, dictionary, insertBy, arrangeBy}
 use Rattle.monomial.specs.Monomial.{vars}
 use Rattle.monomial.specs.Divisors.{divisors, score, pairs}
@@ -20,12 +20,14 @@ use Rattle.wiring.specs.Answers.{countRight, firstUnmet, judged, recordJudged, 
 use Rattle.walk.specs.Walk.{added, child, opens, ends, tried, after, opened, level, kept, onward, run}
 use Rattle.walk.specs.Plan.{settled, levels, plan, setsBytes, said, settingsRight, planned}
 use Rattle.walk.proofs.Worked.{padded, plus, minus}
+use Rattle.thin.specs.Subsets.{subsets}
+use Rattle.thin.specs.Thin.{leastSize, quadraticOnes, least, thinnest, thinning, thinned}
 use Rattle.lines.specs.Text.{decimalWithin, decimal, signedText, joined}
 use Rattle.lines.specs.Answer.{replyLine, exponents, setText, wireLine}
 use Rattle.lines.proofs.Samples.{written, line}
 use Rattle.report.specs.declared.prepare.Settings.{Settings}
-use Rattle.report.specs.Prepare.{wiringOf, results}
-use Rattle.report.specs.Report.{slots, setLines, wireLines, linesOf, report}
+use Rattle.report.specs.Prepare.{wiringOf, resultsOf, results, thinResults}
+use Rattle.report.specs.Report.{slots, setLines, wireLines, linesOf, report, thinReport}
 use Rattle.report.specs.Program.{program}
 
 record Row : Type 0 where
@@ -34,6 +36,12 @@ record Row : Type 0 where
 
 row : Settings → List ℕ → List String → Row
 row s terms want = record { got = report s terms; want = map line want }
+
+-- thinning a set of one variable, by its powers, with room for so many sets, of which one is wired
+thinRow : ℕ → ℕ → List ℕ → List ℕ → List String → Row
+thinRow room which terms powers want =
+    let set : List ℕ = gather (λ p. padded (p ∷ [])) powers ++ replicate (36 - 6 * length powers) 0 in
+    record { got = thinReport 1 which terms set (36 * room); want = map line want }
 
 -- x' = x^4 + x^3, with room for so many sets, of which one is wired
 example : List ℕ
@@ -79,11 +87,40 @@ table =
     ∷ row (wiring-set 2 0) example ("0 2 2 23 0" ∷ "2.0.0.0.0.0 3.0.0.0.0.0" ∷ "3.0.0.0.0.0 4.0.0.0.0.0" ∷ [])
     ∷ row (wiring-set 2 3) example ("0 2 2 23 0" ∷ "2.0.0.0.0.0 3.0.0.0.0.0" ∷ "3.0.0.0.0.0 4.0.0.0.0.0" ∷ [])
     ∷ row (wiring-set 1 1) example ("6 2 0 15 0" ∷ [])
+    -- thinning: of three signals two are needed; the second subset wired; no subset 3; room for one is not enough
+    ∷ thinRow 2 1 example (2 ∷ 3 ∷ 4 ∷ [])
+    ("0 2 2 8 0"
+    ∷ "2.0.0.0.0.0 3.0.0.0.0.0"
+    ∷ "3.0.0.0.0.0 4.0.0.0.0.0"
+    ∷ "1 0 3 1"
+    ∷ "1 1 3 1"
+    ∷ "2 1 3 2"
+    ∷ "2 2 3 2"
+    ∷ "3 2 3 3"
+    ∷ "3 3 3 3"
+    ∷ [])
+    ∷ thinRow 2 2 example (2 ∷ 3 ∷ 4 ∷ [])
+    ("0 2 2 8 0"
+    ∷ "2.0.0.0.0.0 3.0.0.0.0.0"
+    ∷ "3.0.0.0.0.0 4.0.0.0.0.0"
+    ∷ "1 0 2 1"
+    ∷ "1 0 3 1"
+    ∷ "2 1 3 3"
+    ∷ "2 2 2 3"
+    ∷ "3 2 2 4"
+    ∷ "3 2 3 4"
+    ∷ [])
+    ∷ thinRow 2 3 example (2 ∷ 3 ∷ 4 ∷ []) ("0 2 2 8 0" ∷ "2.0.0.0.0.0 3.0.0.0.0.0" ∷ "3.0.0.0.0.0 4.0.0.0.0.0" ∷ [])
+    ∷ thinRow 1 1 example (2 ∷ 3 ∷ 4 ∷ []) ("6 2 0 8 0" ∷ [])
+    -- x' = x needs no new signal: the empty set; x' = x^4 with x^2 is not quadratic; 42 bytes are no set
+    ∷ thinRow 1 1 (plus 1 (1 ∷ [])) (2 ∷ 3 ∷ []) ("0 0 1 4 0" ∷ "" ∷ "1 0 1 1" ∷ [])
+    ∷ thinRow 1 1 (plus 1 (4 ∷ [])) (2 ∷ []) ("9 1 0 0 2" ∷ [])
+    ∷ thinRow 1 1 example (2 ∷ 3 ∷ 4 ∷ 5 ∷ 6 ∷ 7 ∷ 8 ∷ []) ("2 0 0 0 0" ∷ [])
     ∷ []
 
 sampled : map (λ r. r .got) table ≡ map (λ r. r .want) table
-unfolding table row padded plus minus example wiring-set written line report linesOf setLines wireLines slots results wiringOf decimalWithin decimal
-    signedText joined replyLine exponents setText wireLine planned settingsRight said setsBytes plan levels settled run onward
+unfolding table row thinRow padded plus minus example wiring-set written line report thinReport linesOf setLines wireLines slots resultsOf results thinResults wiringOf decimalWithin decimal
+    signedText joined replyLine exponents setText wireLine planned thinned thinning thinnest least quadraticOnes leastSize subsets settingsRight said setsBytes plan levels settled run onward
     kept level opened after ends tried opens child added cheaper chosen pairs divisors score setRecord wired listed verdict recordJudged judged firstUnmet
     countRight records lengthRight exponentsRight coefficientRight termRight faultFrom equation system places sizeOf setOf ascending monomialRight
     setRight firstOf secondOf rowOf rowsFrom wiring wireRecord signals factor inV2 unmet nonsquares partsFrom derivative coeff times support signed

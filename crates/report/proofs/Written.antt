@@ -14,9 +14,9 @@ use Rattle.monomial.proofs.Members.{map-same}
 use Rattle.lines.specs.Text.{Stands}
 use Rattle.report.specs.declared.prepare.Settings.{Settings}
 use Rattle.report.specs.declared.prepare.Prepared.{Prepared}
-use Rattle.report.specs.Prepare.{Results, resultsIn, Prepares}
-use Rattle.report.specs.Report.{linesOf, report, lineAt}
-use Rattle.report.proofs.prepare.Exact.{prepared-lines}
+use Rattle.report.specs.Prepare.{Results, resultsIn, Prepares, PreparesThin}
+use Rattle.report.specs.Report.{linesOf, report, thinReport, lineAt}
+use Rattle.report.proofs.prepare.Exact.{prepared-lines, thin-prepared-lines}
 use Rattle.report.proofs.line.Exact.{line-none, all-lines}
 
 -- line number k as it was told: its length, and the lent line before and after; and the number at which none was told
@@ -41,11 +41,15 @@ module _ (r : Results) (ends : ℕ → ℕ) (before line : ℕ → List ℕ) (st
       map-same (λ k. take (ends k) (line k)) (lineAt (linesOf r)) (below stop) (λ k h. let low : k < stop = below-out stop k h in told k (omega arith) .1 .front)
       ∙ rw all-told (all-lines (linesOf r))
 
--- the bytes that were told, one line behind the other
-pub report-written : (s : Settings) (terms : List ℕ) {p : Prepared} {sets after wires : List ℕ} → Prepares s terms p sets after wires
-    → (ends : ℕ → ℕ) (before line : ℕ → List ℕ) (stop : ℕ)
-    → ((k : ℕ) → k ≤ stop → Stands (lineAt (linesOf (resultsIn p after wires)) k) (ends k) (before k) (line k))
-    → ((k : ℕ) → k < stop → ends k ≡ 0 → ⊥) → ends stop ≡ 0
-    → map (λ k. take (ends k) (line k)) (below stop) ≡ report s terms
-report-written s terms {p} {sets} {after} {wires} a ends before line stop told some none =
-    lines-written (resultsIn p after wires) ends before line stop told some none ∙ prepared-lines s terms a
+-- the bytes that were told, one line behind the other, after preparing for planning or for thinning
+module _ {p : Prepared} {sets after wires : List ℕ} (ends : ℕ → ℕ) (before line : ℕ → List ℕ) (stop : ℕ)
+    (told : (k : ℕ) → k ≤ stop → Stands (lineAt (linesOf (resultsIn p after wires)) k) (ends k) (before k) (line k))
+    (some : (k : ℕ) → k < stop → ends k ≡ 0 → ⊥) (none : ends stop ≡ 0) where
+  pub report-written : (s : Settings) (terms : List ℕ) → Prepares s terms p sets after wires
+      → map (λ k. take (ends k) (line k)) (below stop) ≡ report s terms
+  report-written s terms a = lines-written (resultsIn p after wires) ends before line stop told some none ∙ prepared-lines s terms a
+
+  pub thin-report-written : (n which : ℕ) (terms set : List ℕ) → PreparesThin n which terms set p sets after wires
+      → map (λ k. take (ends k) (line k)) (below stop) ≡ thinReport n which terms set (length sets)
+  thin-report-written n which terms set a =
+      lines-written (resultsIn p after wires) ends before line stop told some none ∙ thin-prepared-lines n which terms set a

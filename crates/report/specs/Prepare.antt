@@ -1,14 +1,15 @@
--- What planning and wiring leave for a report, by settings and term records. Assumes nothing.
+-- What planning or thinning, and then wiring, leave for a report. Assumes nothing.
 use mathlib.Core.Path.{_≡_}
 use mathlib.Core.Bool.{cond, _&&_}
 use mathlib.Core.List.{List}
 use Prim.Native.Nat.{ℕ, _*_, _-_, _/_, min}
 use lib.Dec.{leb}
-use lib.ListN.{take, drop, replicate}
+use lib.ListN.{length, take, drop, replicate}
 use Rattle.wiring.specs.Panel.{setBytes, wiresBytes}
 use Rattle.wiring.specs.Reply.{Outcome, outcome}
 use Rattle.wiring.specs.Answers.{wired}
 use Rattle.walk.specs.Plan.{planned}
+use Rattle.thin.specs.Thin.{thinned}
 use Rattle.report.specs.declared.prepare.Settings.{Settings}
 use Rattle.report.specs.declared.prepare.Prepared.{Prepared}
 
@@ -30,26 +31,38 @@ wiringOf n terms which count sets =
     let w = wired n terms (slot setBytes sets (which - 1)) wiresBytes in
     cond (leb 1 which && leb which count) (counted (w .said .count) (w .bytes)) (counted 0 (replicate wiresBytes 0))
 
--- the outcome of planning, and the wiring of one of its sets
+-- the outcome of an operation that lists sets, and the wiring of one of them
 pub record Results : Type 0 where
-  pub plan : Outcome
+  pub listed : Outcome
   pub wiring : Counted
 
-unfoldable pub results : Settings → List ℕ → Results
-results s terms =
-    let o = planned (s .n) (s .cap) (s .limit) terms (setBytes * s .room) in
-    record { plan = o; wiring = wiringOf (s .n) terms (s .which) (o .said .count) (o .bytes) }
+unfoldable pub resultsOf : ℕ → List ℕ → ℕ → Outcome → Results
+resultsOf n terms which o = record { listed = o; wiring = wiringOf n terms which (o .said .count) (o .bytes) }
 
--- ---- as the code has them: the results in two buffers, of which planning was lent a part
+-- of planning; and of thinning into a buffer of so many bytes
+unfoldable pub results : Settings → List ℕ → Results
+results s terms = resultsOf (s .n) terms (s .which) (planned (s .n) (s .cap) (s .limit) terms (setBytes * s .room))
+
+unfoldable pub thinResults : ℕ → ℕ → List ℕ → List ℕ → ℕ → Results
+thinResults n which terms set size = resultsOf n terms which (thinned n terms set size)
+
+-- ---- as the code has them: the results in two buffers, of which the first was lent for the sets, as far as is said
 abbrev pub resultsIn : Prepared → List ℕ → List ℕ → Results
-resultsIn p sets wires = record { plan = outcome (p .reply) (take (p .lent) sets); wiring = counted (p .wires) wires }
+resultsIn p sets wires = record { listed = outcome (p .reply) (take (p .lent) sets); wiring = counted (p .wires) wires }
 
 -- the settings, with no more room than a buffer of so many bytes has
 abbrev pub fitted : Settings → ℕ → Settings
 fitted s size = record { n = s .n; cap = s .cap; limit = s .limit; room = min (s .room) (size / setBytes); which = s .which }
 
--- preparing leaves the results; what planning was not lent is as it was
-pub record Prepares (s : Settings) (terms : List ℕ) (p : Prepared) (sets after wires : List ℕ) : Type 0 where
-  pub lent : p .lent ≡ setBytes * s .room
-  pub left : resultsIn p after wires ≡ results s terms
+-- results are left, of which the sets were lent so many bytes; what was not lent is as it was
+pub record Leaves (size : ℕ) (r : Results) (p : Prepared) (sets after wires : List ℕ) : Type 0 where
+  pub lent : p .lent ≡ size
+  pub left : resultsIn p after wires ≡ r
   pub rest : drop (p .lent) after ≡ drop (p .lent) sets
+
+-- preparing leaves the results of planning into the room that is asked for; or of thinning into all of the buffer
+abbrev pub Prepares : Settings → List ℕ → Prepared → List ℕ → List ℕ → List ℕ → Type 0
+Prepares s terms = Leaves (setBytes * s .room) (results s terms)
+
+abbrev pub PreparesThin : ℕ → ℕ → List ℕ → List ℕ → Prepared → List ℕ → List ℕ → List ℕ → Type 0
+PreparesThin n which terms set p sets = Leaves (length sets) (thinResults n which terms set (length sets)) p sets

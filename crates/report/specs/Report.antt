@@ -8,7 +8,7 @@ use Rattle.monomial.specs.Lists.{below}
 use Rattle.wiring.specs.Panel.{setBytes, wireBytes}
 use Rattle.wiring.specs.Reply.{Outcome, inOrder}
 use Rattle.lines.specs.Answer.{replyLine, setLine, wireLine}
-use Rattle.report.specs.Prepare.{Counted, slot, Results, results}
+use Rattle.report.specs.Prepare.{Counted, slot, Results, results, thinResults}
 use Rattle.report.specs.declared.prepare.Settings.{Settings}
 
 -- the first `count` records of a buffer, as many of them as it holds
@@ -24,10 +24,14 @@ wireLines w = map wireLine (slots wireBytes (w .count) (w .bytes))
 
 -- the reply, and after code 0 the sets and the wiring
 unfoldable pub linesOf : Results → List (List ℕ)
-linesOf r = replyLine (inOrder (r .plan .said)) ∷ cond (eqb (r .plan .said .code) 0) (setLines (r .plan) ++ wireLines (r .wiring)) []
+linesOf r = replyLine (inOrder (r .listed .said)) ∷ cond (eqb (r .listed .said .code) 0) (setLines (r .listed) ++ wireLines (r .wiring)) []
 
+-- of planning; and of thinning into a buffer of so many bytes
 unfoldable pub report : Settings → List ℕ → List (List ℕ)
 report s terms = linesOf (results s terms)
+
+unfoldable pub thinReport : ℕ → ℕ → List ℕ → List ℕ → ℕ → List (List ℕ)
+thinReport n which terms set size = linesOf (thinResults n which terms set size)
 
 -- line number k, from 0; nothing behind the last
 abbrev pub lineAt : List (List ℕ) → ℕ → List ℕ

@@ -1,6 +1,7 @@
-// All that a program writes: plans and wires once, and then gives the lines one by one. Only `write_lines` writes, and nothing reads.
+// All that a program writes: plans or thins, and wires once, and then gives the lines one by one. Only `write_lines`
+// writes, and nothing reads.
 //
-// Rests on what the crates lines, walk and wiring promise.
+// Rests on what the crates lines, thin, walk and wiring promise.
 pub mod line;
 pub mod prepare;
 pub mod program;

@@ -61,7 +61,7 @@ fn line_in(
     k: usize,
     line: &mut [u8; LINE_BYTES],
 ) -> usize
-    ensures { λ r. ⌜ Stands (lineAt (linesOf (record { plan = outcome reply (now (sets .entry)); wiring = counted count (now (wires .entry)) })) k)
+    ensures { λ r. ⌜ Stands (lineAt (linesOf (record { listed = outcome reply (now (sets .entry)); wiring = counted count (now (wires .entry)) })) k)
         r (now (line .entry)) (now (line .exit)) ⌝ }
 {
     let five = reply::numbers(reply);

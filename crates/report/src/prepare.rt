@@ -1,4 +1,5 @@
-// Plans and wires once, into lent buffers: what the lines of a report are made of.
+// Plans or thins, and wires once, into lent buffers: what the lines of a report are made of.
+use thin::thin as thinning;
 use walk::plan;
 use wiring::answers;
 use wiring::buffer;
@@ -10,9 +11,9 @@ ghost use mathlib.Core.Path.{_≡_};
 ghost use Prim.Native.Nat.{_*_, _≤_, min};
 ghost use lib.ListN.{length};
 ghost use Rattle.wiring.specs.Panel.{setBytes};
-ghost use Rattle.report.specs.Prepare.{counted, wiringOf, fitted, Prepares};
+ghost use Rattle.report.specs.Prepare.{counted, wiringOf, fitted, Prepares, PreparesThin};
 
-// Room is in sets. The set that is wired goes by its number, from 1.
+// What planning is asked for. Room is in sets. The set that is wired goes by its number, from 1.
 pub struct Settings {
     pub n: u64,
     pub cap: u64,
@@ -21,14 +22,14 @@ pub struct Settings {
     pub which: u64,
 }
 
-// The reply of planning, how many bytes of the buffer it was lent, and the number of wiring records.
+// The reply of planning or thinning, how many bytes of the buffer it was lent, and the number of wiring records.
 pub struct Prepared {
     pub reply: Reply,
     pub lent: usize,
     pub wires: u64,
 }
 
-pub(crate) fn least(a: usize, b: usize) -> usize
+pub fn least(a: usize, b: usize) -> usize
     ensures { λ r. ⌜ r ≡ min a b ⌝ }
 {
     if a < b { a } else { b }
@@ -71,5 +72,24 @@ pub fn prepare(s: Settings, terms: &[u8], sets: &mut [u8], out: &mut [u8; WIRES_
     let reply = plan::plan(s.n, s.cap, s.limit, terms, &mut sets[..lent]);
     let five = reply::numbers(reply);
     let wires = wire_set(s.n, terms, s.which, five[2], &sets[..lent], out);
+    Prepared { reply, lent, wires }
+}
+
+// Thins the given set into all of `sets`; and wires one of the subsets that are listed.
+pub fn prepare_thin(
+    n: u64,
+    which: u64,
+    terms: &[u8],
+    set: &[u8],
+    sets: &mut [u8],
+    out: &mut [u8; WIRES_BYTES],
+) -> Prepared
+    ensures { λ r. ⌜ PreparesThin n which (now (terms .entry)) (now (set .entry)) r
+        (now (sets .entry)) (now (sets .exit)) (now (out .exit)) ⌝ }
+{
+    let lent = sets.len();
+    let reply = thinning::thin(n, terms, set, sets);
+    let five = reply::numbers(reply);
+    let wires = wire_set(n, terms, which, five[2], sets, out);
     Prepared { reply, lent, wires }
 }

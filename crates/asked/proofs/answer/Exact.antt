@@ -3,26 +3,29 @@ use mathlib.Core.Path.{_≡_, sym, _∙_}
 use mathlib.Core.List.{List}
 use Prim.Native.Nat.{ℕ, _*_}
 use native.Mathlib.Omega.{arith}
-use lib.ListN.{length}
+use lib.ListN.{length, take, drop}
 use Rattle.wiring.specs.Panel.{setBytes}
 use Rattle.report.specs.declared.prepare.Prepared.{Prepared}
-use Rattle.report.specs.Prepare.{resultsIn, fitted}
+use Rattle.report.specs.Prepare.{resultsIn}
 use Rattle.report.specs.Report.{linesOf}
 use Rattle.report.proofs.prepare.Laws.{roomy}
-use Rattle.report.proofs.prepare.Exact.{prepare-determined, prepared-lines, setting-line}
+use Rattle.report.proofs.prepare.Exact.{prepare-determined, prepared-lines, thin-prepared-lines, setting-line}
 use Rattle.asked.specs.declared.settings.Asked.{Asked}
-use Rattle.asked.specs.declared.settings.Asked.the-variants.{Right, Wrong}
+use Rattle.asked.specs.declared.settings.Asked.the-variants.{Plan, Thin, Wrong}
 use Rattle.asked.specs.Settings.{mostSets, Roomy}
 use Rattle.asked.specs.Answer.{answered, Answers}
 
-pub answered-lines : (a : Asked) (terms : List ℕ) (p : Prepared) (sets setsAfter wires wiresAfter : List ℕ) → Roomy a
-    → length sets ≡ setBytes * mostSets → Answers a terms p sets setsAfter wires wiresAfter → linesOf (resultsIn p setsAfter wiresAfter) ≡ answered a terms
+pub answered-lines : (a : Asked) (input : List ℕ) (p : Prepared) (sets setsAfter wires wiresAfter : List ℕ) → Roomy a
+    → length sets ≡ setBytes * mostSets → Answers a input p sets setsAfter wires wiresAfter → linesOf (resultsIn p setsAfter wiresAfter) ≡ answered a input
 unfolding answered
-answered-lines (Right s) terms p sets setsAfter wires wiresAfter h long e =
-    prepared-lines s terms (roomy s (omega arith) e)
-answered-lines Wrong terms p sets setsAfter wires wiresAfter h long e = rw (e .0) (setting-line setsAfter wiresAfter)
+answered-lines (Plan s) input p sets setsAfter wires wiresAfter h long e =
+    prepared-lines s input (roomy s input (omega arith) e)
+answered-lines (Thin n which) input p sets setsAfter wires wiresAfter h long e =
+    rw (← long) (thin-prepared-lines n which (drop setBytes input) (take setBytes input) e)
+answered-lines Wrong input p sets setsAfter wires wiresAfter h long e = rw (e .0) (setting-line setsAfter wiresAfter)
 
-pub asked-determined : (a : Asked) (terms sets wires : List ℕ) (p p' : Prepared) (b b' w w' : List ℕ)
-    → Answers a terms p sets b wires w → Answers a terms p' sets b' wires w' → (p ≡ p') × (b ≡ b') × (w ≡ w')
-asked-determined (Right s) terms sets wires p p' b b' w w' e e' = prepare-determined (fitted s (length sets)) terms e e'
-asked-determined Wrong terms sets wires p p' b b' w w' e e' = (e .0 ∙ sym (e' .0), e .1 ∙ sym (e' .1), e .2 ∙ sym (e' .2))
+pub asked-determined : (a : Asked) (input sets wires : List ℕ) (p p' : Prepared) (b b' w w' : List ℕ)
+    → Answers a input p sets b wires w → Answers a input p' sets b' wires w' → (p ≡ p') × (b ≡ b') × (w ≡ w')
+asked-determined (Plan s) input sets wires p p' b b' w w' e e' = prepare-determined e e'
+asked-determined (Thin n which) input sets wires p p' b b' w w' e e' = prepare-determined e e'
+asked-determined Wrong input sets wires p p' b b' w w' e e' = (e .0 ∙ sym (e' .0), e .1 ∙ sym (e' .1), e .2 ∙ sym (e' .2))

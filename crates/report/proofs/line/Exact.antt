@@ -49,26 +49,26 @@ filled-at (x ∷ l) (suc k) a h = filled-at l k (a .1) (omega arith)
 
 module _ (r : Results) where
   abbrev later : List (List ℕ)
-  later = setLines (r .plan) ++ wireLines (r .wiring)
+  later = setLines (r .listed) ++ wireLines (r .wiring)
 
   lines-filled : Filled (linesOf r)
   unfolding linesOf setLines wireLines
   lines-filled =
-      let o = r .plan .said .order in
-      let sets = filled-made (λ bytes. setLine bytes o) (λ x. set-some x o) (slots setBytes (r .plan .said .count) (r .plan .bytes)) in
+      let o = r .listed .said .order in
+      let sets = filled-made (λ bytes. setLine bytes o) (λ x. set-some x o) (slots setBytes (r .listed .said .count) (r .listed .bytes)) in
       let wires = filled-made wireLine wire-some (slots wireBytes (r .wiring .count) (r .wiring .bytes)) in
-      let both : Filled later = filled-both (setLines (r .plan)) (wireLines (r .wiring)) sets wires in
-      (reply-some (inOrder (r .plan .said)), cond-cases Filled (eqb (r .plan .said .code) 0) later [] (λ _. both) (λ _. tt))
+      let both : Filled later = filled-both (setLines (r .listed)) (wireLines (r .wiring)) sets wires in
+      (reply-some (inOrder (r .listed .said)), cond-cases Filled (eqb (r .listed .said .code) 0) later [] (λ _. both) (λ _. tt))
 
   -- as many as the buffers hold, and the reply
-  pub lines-most : length (linesOf r) ≤ suc (length (r .plan .bytes) / setBytes + length (r .wiring .bytes) / wireBytes)
+  pub lines-most : length (linesOf r) ≤ suc (length (r .listed .bytes) / setBytes + length (r .wiring .bytes) / wireBytes)
   unfolding linesOf
   lines-most =
       let both : length later ≡ shownSets r + shownWires r =
-      length-append (setLines (r .plan)) (wireLines (r .wiring)) ∙ omega (arith, sets-length r, wires-length r) in
-      let most : ℕ = length (r .plan .bytes) / setBytes + length (r .wiring .bytes) / wireBytes in
-      let rest : length (cond (eqb (r .plan .said .code) 0) later []) ≤ most =
-      cond-cases (λ l. length l ≤ most) (eqb (r .plan .said .code) 0) later [] (λ _. omega arith) (λ _. omega arith) in
+      length-append (setLines (r .listed)) (wireLines (r .wiring)) ∙ omega (arith, sets-length r, wires-length r) in
+      let most : ℕ = length (r .listed .bytes) / setBytes + length (r .wiring .bytes) / wireBytes in
+      let rest : length (cond (eqb (r .listed .said .code) 0) later []) ≤ most =
+      cond-cases (λ l. length l ≤ most) (eqb (r .listed .said .code) 0) later [] (λ _. omega arith) (λ _. omega arith) in
       omega arith
 
   module _ (k : ℕ) {end : ℕ} {l m : List ℕ} (s : Stands (lineAt (linesOf r) k) end l m) where

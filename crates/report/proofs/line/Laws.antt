@@ -50,50 +50,50 @@ module _ (f : List ℕ → List ℕ) (size count : ℕ) (bytes : List ℕ) where
 -- ---- the lines of a report
 module _ (r : Results) where
   abbrev pub shownSets : ℕ
-  shownSets = min (r .plan .said .count) (length (r .plan .bytes) / setBytes)
+  shownSets = min (r .listed .said .count) (length (r .listed .bytes) / setBytes)
 
   abbrev pub shownWires : ℕ
   shownWires = min (r .wiring .count) (length (r .wiring .bytes) / wireBytes)
 
-  pub sets-length : length (setLines (r .plan)) ≡ shownSets
+  pub sets-length : length (setLines (r .listed)) ≡ shownSets
   unfolding setLines
-  sets-length = each-length (λ bytes. setLine bytes (r .plan .said .order)) setBytes (r .plan .said .count) (r .plan .bytes)
+  sets-length = each-length (λ bytes. setLine bytes (r .listed .said .order)) setBytes (r .listed .said .count) (r .listed .bytes)
 
   pub wires-length : length (wireLines (r .wiring)) ≡ shownWires
   unfolding wireLines
   wires-length = each-length wireLine wireBytes (r .wiring .count) (r .wiring .bytes)
 
-  pub reply-first : (k : ℕ) → k ≡ 0 → replyLine (inOrder (r .plan .said)) ≡ lineAt (linesOf r) k
+  pub reply-first : (k : ℕ) → k ≡ 0 → replyLine (inOrder (r .listed .said)) ≡ lineAt (linesOf r) k
   unfolding linesOf
   reply-first k e = rw e
 
-  pub refused-none : (k : ℕ) → (k ≡ 0 → ⊥) → (r .plan .said .code ≡ 0 → ⊥) → [] ≡ lineAt (linesOf r) k
+  pub refused-none : (k : ℕ) → (k ≡ 0 → ⊥) → (r .listed .said .code ≡ 0 → ⊥) → [] ≡ lineAt (linesOf r) k
   unfolding linesOf
   refused-none zero h f = absurd (h refl)
-  refused-none (suc k) h f = rw (ne-eqb (r .plan .said .code) 0 f)
+  refused-none (suc k) h f = rw (ne-eqb (r .listed .said .code) 0 f)
 
-  module _ (done : r .plan .said .code ≡ 0) where
+  module _ (done : r .listed .said .code ≡ 0) where
     -- the lines behind the reply
-    later : (k : ℕ) → (k ≡ 0 → ⊥) → lineAt (linesOf r) k ≡ getD (setLines (r .plan) ++ wireLines (r .wiring)) (k - 1) []
+    later : (k : ℕ) → (k ≡ 0 → ⊥) → lineAt (linesOf r) k ≡ getD (setLines (r .listed) ++ wireLines (r .wiring)) (k - 1) []
     unfolding linesOf
     later zero h = absurd (h refl)
     later (suc k) h =
-        rw (eq-eqb (r .plan .said .code) 0 done) (ap (λ (i : ℕ). getD (setLines (r .plan) ++ wireLines (r .wiring)) i []) (omega arith))
+        rw (eq-eqb (r .listed .said .code) 0 done) (ap (λ (i : ℕ). getD (setLines (r .listed) ++ wireLines (r .wiring)) i []) (omega arith))
 
     pub set-next : (k : ℕ) → (k ≡ 0 → ⊥) → k - 1 < shownSets
-        → setLine (slot setBytes (r .plan .bytes) (k - 1)) (r .plan .said .order) ≡ lineAt (linesOf r) k
+        → setLine (slot setBytes (r .listed .bytes) (k - 1)) (r .listed .said .order) ≡ lineAt (linesOf r) k
     unfolding setLines
     set-next k h i =
-        let f : List ℕ → List ℕ = λ bytes. setLine bytes (r .plan .said .order) in
-        let inside : k - 1 < length (setLines (r .plan)) = rw sets-length i in
-        sym (later k h ∙ List·getD-append (setLines (r .plan)) (wireLines (r .wiring)) [] (k - 1) inside
-        ∙ each-at f setBytes (r .plan .said .count) (r .plan .bytes) (k - 1) i)
+        let f : List ℕ → List ℕ = λ bytes. setLine bytes (r .listed .said .order) in
+        let inside : k - 1 < length (setLines (r .listed)) = rw sets-length i in
+        sym (later k h ∙ List·getD-append (setLines (r .listed)) (wireLines (r .wiring)) [] (k - 1) inside
+        ∙ each-at f setBytes (r .listed .said .count) (r .listed .bytes) (k - 1) i)
 
     behind-sets : (k : ℕ) → (k ≡ 0 → ⊥) → shownSets ≤ k - 1 → lineAt (linesOf r) k ≡ getD (wireLines (r .wiring)) (k - 1 - shownSets) []
     behind-sets k h i =
-        let at : k - 1 ≡ length (setLines (r .plan)) + (k - 1 - shownSets) = omega (arith, sets-length) in
-        later k h ∙ ap (λ (j : ℕ). getD (setLines (r .plan) ++ wireLines (r .wiring)) j []) at
-        ∙ getD-append-add (setLines (r .plan)) (wireLines (r .wiring)) (k - 1 - shownSets) []
+        let at : k - 1 ≡ length (setLines (r .listed)) + (k - 1 - shownSets) = omega (arith, sets-length) in
+        later k h ∙ ap (λ (j : ℕ). getD (setLines (r .listed) ++ wireLines (r .wiring)) j []) at
+        ∙ getD-append-add (setLines (r .listed)) (wireLines (r .wiring)) (k - 1 - shownSets) []
 
     pub wire-next : (k : ℕ) → (k ≡ 0 → ⊥) → shownSets ≤ k - 1 → k - 1 - shownSets < shownWires
         → wireLine (slot wireBytes (r .wiring .bytes) (k - 1 - shownSets)) ≡ lineAt (linesOf r) k

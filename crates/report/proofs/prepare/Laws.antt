@@ -1,21 +1,23 @@
--- The wiring of one set, and planning into the front of a buffer. Assumes nothing.
-use mathlib.Core.Path.{_≡_, ap, _∙_}
+-- The wiring of one set, planning into the front of a buffer, and thinning into all of one. Assumes nothing.
+use mathlib.Core.Path.{_≡_, refl, sym, ap, _∙_}
 use mathlib.Core.List.{List, _++_}
 use Prim.Native.Nat.{ℕ, _+_, _*_, _-_, _/_, _≤_, _<_, min}
 use native.Mathlib.Omega.{arith}
 use borrow.Author.Tests.{le-leb, lt-leb}
-use lib.ListN.{length, getD, take, drop, replicate}
-use lib.Seq.{take-at, drop-at, length-take-le}
+use lib.ListN.{length, getD, take, drop, replicate, drop-of-length-le}
+use lib.Seq.{take-at, drop-at, take-all, length-take-le}
 use Rattle.wiring.specs.Panel.{setBytes, wiresBytes}
 use Rattle.wiring.specs.Reply.{Outcome, numbers, inOrder, outcome}
 use Rattle.wiring.specs.Answers.{wired}
 use Rattle.wiring.specs.declared.reply.Reply.{Reply}
+use Rattle.wiring.specs.declared.reply.Reply.the-variants.{Done, Setting, Length, Term, Twice, Nothing, Full, Spent, BadSet, NotQuadratic}
 use Rattle.walk.specs.Plan.{planned}
-use Rattle.walk.proofs.plan.Exact.{plan-length}
-use Rattle.walk.proofs.plan.Records.{count-fits}
+use Rattle.thin.specs.Thin.{thinned}
+use Rattle.thin.proofs.thin.Exact.{thin-finds, thin-length}
+use Rattle.walk.proofs.plan.Exact.{plan-finds, plan-length}
 use Rattle.report.specs.declared.prepare.Settings.{Settings}
 use Rattle.report.specs.declared.prepare.Prepared.{Prepared}
-use Rattle.report.specs.Prepare.{Counted, counted, slot, wiringOf, Results, results, fitted, Prepares}
+use Rattle.report.specs.Prepare.{Counted, counted, slot, wiringOf, Results, resultsOf, results, thinResults, fitted, Prepares, PreparesThin}
 
 -- ---- the wiring of set number `which`, into a buffer of so many bytes
 module _ (n : ℕ) (terms : List ℕ) (which count : ℕ) (sets : List ℕ) (size : ℕ) (long : size ≡ wiresBytes) where
@@ -36,6 +38,30 @@ module _ (n : ℕ) (terms : List ℕ) (which count : ℕ) (sets : List ℕ) (siz
       let whole : outcome r out ≡ wired n terms (slot setBytes sets (which - 1)) wiresBytes = rw (same, from, long) at e in
       rw (le-leb 1 which low, le-leb which count high, f) (ap (λ (x : Outcome). counted (x .said .count) (x .bytes)) whole)
 
+-- ---- an outcome and the wiring of one of its sets are its results
+abbrev asResults : Outcome → Counted → Results
+asResults o w = record { listed = o; wiring = w }
+
+results-are : (n : ℕ) (terms : List ℕ) (which : ℕ) {o : Outcome} (reply : Reply) (bytes five : List ℕ) → outcome reply bytes ≡ o → five ≡ inOrder (numbers reply)
+    → (count : ℕ) (out : List ℕ) → counted count out ≡ wiringOf n terms which (getD five 2 0) bytes → asResults (outcome reply bytes) (counted count out) ≡ resultsOf n terms which o
+unfolding resultsOf
+results-are n terms which reply bytes five e f count out w =
+    let wiring : counted count out ≡ wiringOf n terms which (numbers reply .count) bytes = rw f at w in
+    ap (asResults (outcome reply bytes)) wiring ∙ ap (λ (x : Outcome). asResults x (wiringOf n terms which (x .said .count) (x .bytes))) e
+
+-- only done counts sets: where those have room, what any reply counts has
+done-counts : (size : ℕ) (r : Reply) → ((o c k : ℕ) → r ≡ Done o c k → setBytes * c ≤ size) → setBytes * numbers r .count ≤ size
+done-counts size (Done o c k) h = h o c k refl
+done-counts size Setting h = omega arith
+done-counts size Length h = omega arith
+done-counts size (Term p) h = omega arith
+done-counts size (Twice p) h = omega arith
+done-counts size (Nothing o k) h = omega arith
+done-counts size (Full o k) h = omega arith
+done-counts size (Spent o k) h = omega arith
+done-counts size BadSet h = omega arith
+done-counts size (NotQuadratic o p) h = omega arith
+
 -- ---- a buffer of which planning was lent the front
 module _ (s : Settings) (terms sets : List ℕ) (room : ℕ) (fits : room ≡ min (s .room) (length sets / setBytes)) where
   pub lent-front : length (take (setBytes * room) sets) ≡ setBytes * room
@@ -54,7 +80,10 @@ module _ (s : Settings) (terms sets : List ℕ) (room : ℕ) (fits : room ≡ mi
     module _ (five : List ℕ) (f : five ≡ inOrder (numbers reply)) where
       -- the sets that are counted lie in it
       pub front-holds : setBytes * getD five 2 0 ≤ length (take (setBytes * room) (bytes ++ drop (setBytes * room) sets))
-      front-holds = rw (front-is, lent-long, f) (rw lent-front at (count-fits (s .n) (s .cap) (s .limit) terms _ reply bytes e))
+      front-holds = rw (front-is, lent-long, f) (done-counts (setBytes * room) reply listed)
+        where
+          listed : (o c k : ℕ) → reply ≡ Done o c k → setBytes * c ≤ setBytes * room
+          listed o c k d = plan-finds (s .n) (s .cap) (s .limit) terms (setBytes * room) o c k bytes (rw (lent-front, d) at e) .laid .fits
 
       pub prepares : (count : ℕ) (out : List ℕ)
           → counted count out ≡ wiringOf (s .n) terms (s .which) (getD five 2 0) (take (setBytes * room) (bytes ++ drop (setBytes * room) sets))
@@ -62,17 +91,39 @@ module _ (s : Settings) (terms sets : List ℕ) (room : ℕ) (fits : room ≡ mi
           (bytes ++ drop (setBytes * room) sets) out
       unfolding results
       prepares count out w =
-          let laid : Outcome → Counted → Results = λ o w. record { plan = o; wiring = w } in
-          let whole : Outcome → Results = λ o. laid o (wiringOf (s .n) terms (s .which) (o .said .count) (o .bytes)) in
           let plan : outcome reply bytes ≡ planned (s .n) (s .cap) (s .limit) terms (setBytes * room) = rw lent-front at e in
-          let wiring : counted count out ≡ wiringOf (s .n) terms (s .which) (numbers reply .count) bytes = rw (front-is, f) at w in
           record {
             lent = ap (λ (x : ℕ). setBytes * x) fits;
-            left = rw (front-is, ← fits) (ap (laid (outcome reply bytes)) wiring ∙ ap whole plan);
+            left = rw (front-is, ← fits) (results-are (s .n) terms (s .which) reply bytes five plan f count out (rw front-is at w));
             rest = drop-at bytes (drop (setBytes * room) sets) (setBytes * room) lent-long;
           }
 
+-- ---- a buffer of which thinning was lent all
+module _ (n : ℕ) (terms set sets : List ℕ) (reply : Reply) (bytes : List ℕ) (e : outcome reply bytes ≡ thinned n terms set (length sets)) where
+  same : length bytes ≡ length sets
+  same = thin-length n terms set (length sets) reply bytes e
+
+  module _ (five : List ℕ) (f : five ≡ inOrder (numbers reply)) where
+    pub thin-holds : setBytes * getD five 2 0 ≤ length bytes
+    thin-holds = rw (f, same) (done-counts (length sets) reply listed)
+      where
+        listed : (o c k : ℕ) → reply ≡ Done o c k → setBytes * c ≤ length sets
+        listed o c k d = thin-finds n terms set (length sets) o c k bytes (rw d at e) .laid .fits
+
+    pub prepares-thin : (which count : ℕ) (out : List ℕ) → counted count out ≡ wiringOf n terms which (getD five 2 0) bytes
+        → PreparesThin n which terms set (record { reply = reply; lent = length sets; wires = count }) sets bytes out
+    unfolding thinResults
+    prepares-thin which count out w =
+        let whole : take (length sets) bytes ≡ bytes = take-all (length sets) bytes (omega (arith, same)) in
+        let short : length bytes ≤ length sets = omega (arith, same) in
+        let full : length sets ≤ length sets = omega arith in
+        record {
+          lent = refl;
+          left = rw whole (results-are n terms which reply bytes five e f count out w);
+          rest = drop-of-length-le bytes short ∙ sym (drop-of-length-le sets full);
+        }
+
 -- settings whose room the buffer has are taken as they are
-pub roomy : (s : Settings) {terms sets after wires : List ℕ} {p : Prepared} → setBytes * s .room ≤ length sets
+pub roomy : (s : Settings) (terms : List ℕ) {sets after wires : List ℕ} {p : Prepared} → setBytes * s .room ≤ length sets
     → Prepares (fitted s (length sets)) terms p sets after wires → Prepares s terms p sets after wires
-roomy s {terms} {sets} h e = let whole : min (s .room) (length sets / setBytes) ≡ s .room = omega arith in rw whole at e
+roomy s terms {sets} h e = let whole : min (s .room) (length sets / setBytes) ≡ s .room = omega arith in rw whole at e

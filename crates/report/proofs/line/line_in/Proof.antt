@@ -12,7 +12,7 @@ use Rattle.report.proofs.line.line_in.Statement.{statement}
 use Rattle.report.proofs.line.line_in.Tie as tie
 
 abbrev resultsFor : Reply → List ℕ → ℕ → List ℕ → Results
-resultsFor reply sets count wires = record { plan = outcome reply sets; wiring = counted count wires }
+resultsFor reply sets count wires = record { listed = outcome reply sets; wiring = counted count wires }
 
 numbers-requires : tie.Need-numbers-requires
 numbers-requires c κs = search needs
@@ -35,7 +35,7 @@ returns-2 c =
     let given = c .before .before in
     let start = given .before .before .before in
     let r = resultsFor (start .args .reply) (start .args .sets .now) (start .args .count) (start .args .wires .now) in
-    let refused : r .plan .said .code ≡ 0 → ⊥ = rw (given .numbers .ensures) at (c .if2 .taken) in
+    let refused : r .listed .said .code ≡ 0 → ⊥ = rw (given .numbers .ensures) at (c .if2 .taken) in
     rw (← refused-none r (start .args .k) (c .before .if1 .left) refused) (stands-nothing _)
 
 sub-i : tie.Need-sub-i
@@ -61,7 +61,7 @@ returns-3 c =
     let start = given .before .before .before in
     let r = resultsFor (start .args .reply) (start .args .sets .now) (start .args .count) (start .args .wires .now) in
     let five = given .numbers .ensures in
-    let done : r .plan .said .code ≡ 0 = rw five at (later .if2 .left) in
+    let done : r .listed .said .code ≡ 0 = rw five at (later .if2 .left) in
     let low : start .args .k - 1 < shownSets r = rw (rw five at (tested .before .held .ensures)) at (tested .if3 .taken) in
     rw (five, set-next r done (start .args .k) (later .before .if1 .left) low) at (c .set-at .ensures)
 
@@ -81,7 +81,7 @@ returns-4 c =
     let k = start .args .k in
     let r = resultsFor (start .args .reply) (start .args .sets .now) (start .args .count) (start .args .wires .now) in
     let five = given .numbers .ensures in
-    let done : r .plan .said .code ≡ 0 = rw five at (later .if2 .left) in
+    let done : r .listed .said .code ≡ 0 = rw five at (later .if2 .left) in
     let sets : passed .before .held .result ≡ shownSets r = rw five at (passed .before .held .ensures) in
     let high : shownSets r ≤ k - 1 = rw sets at (passed .if3 .left) in
     let low : k - 1 - shownSets r < shownWires r = rw (sets, tested .before .held2 .ensures) at (tested .if4 .taken) in
@@ -96,7 +96,7 @@ returns-5 c =
     let k = start .args .k in
     let r = resultsFor (start .args .reply) (start .args .sets .now) (start .args .count) (start .args .wires .now) in
     let five = given .numbers .ensures in
-    let done : r .plan .said .code ≡ 0 = rw five at (later .if2 .left) in
+    let done : r .listed .said .code ≡ 0 = rw five at (later .if2 .left) in
     let sets : passed .before .held .result ≡ shownSets r = rw five at (passed .before .held .ensures) in
     let high : shownSets r ≤ k - 1 = rw sets at (passed .if3 .left) in
     let all : shownWires r ≤ k - 1 - shownSets r = rw (sets, c .before .held2 .ensures) at (c .if4 .left) in

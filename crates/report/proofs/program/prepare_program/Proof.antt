@@ -15,9 +15,9 @@ prepare-requires c κs = search needs
 
 returns : tie.Need-returns
 returns c =
-    let sets = c .before .before .before .before .args .sets .now in
-    let long : length sets ≡ setBytes * program .room = search needs in
-    roomy program (omega arith) (c .prepare .ensures)
+    let start = c .before .before .before .before in
+    let long : length (start .args .sets .now) ≡ setBytes * program .room = search needs in
+    roomy program (start .args .terms .now) (omega arith) (c .prepare .ensures)
 
 pub prepare-program-spec : {M : Type 1} → statement M
 prepare-program-spec = tie.close (tie.spec prepare-requires returns)

@@ -1,0 +1,37 @@
+-- `thinning_of` meets its contract: word by word. Assumes nothing.
+use Rattle.asked.specs.Settings.{askedThin}
+use borrow.Author.Needs.{needs}
+use Rattle.asked.proofs.settings.thinning_of.Statement.{statement}
+use Rattle.asked.proofs.settings.thinning_of.Tie as tie
+
+enum-known-n : tie.Need-enum-known-n
+enum-known-n c = search needs
+
+enum-told : tie.Need-enum-told
+enum-told c = search needs
+
+returns : tie.Need-returns
+unfolding askedThin
+returns c = rw (c .enum-told .given .1)
+
+enum-known-which : tie.Need-enum-known-which
+enum-known-which c = search needs
+
+enum-told-2 : tie.Need-enum-told-2
+enum-told-2 c = search needs
+
+returns-2 : tie.Need-returns-2
+unfolding askedThin
+returns-2 c =
+    let first = c .before .before .before in
+    rw (first .n .given .1, c .enum-told2 .given .1)
+
+returns-3 : tie.Need-returns-3
+unfolding askedThin
+returns-3 c =
+    let second = c .before in
+    let first = second .before .before .before in
+    rw (first .n .given .1, second .which .given .1)
+
+pub thinning-of-spec : {M : Type 1} → statement M
+thinning-of-spec = tie.close (tie.spec enum-known-n enum-told returns enum-known-which enum-told-2 returns-2 returns-3)
