@@ -10,7 +10,8 @@ use Rattle.wiring.specs.Panel.{setBytes, wiresBytes}
 use Rattle.wiring.specs.Reply.{Outcome, numbers, inOrder, outcome}
 use Rattle.wiring.specs.Answers.{wired}
 use Rattle.wiring.specs.declared.reply.Reply.{Reply}
-use Rattle.wiring.specs.declared.reply.Reply.the-variants.{Done, Setting, Length, Term, Twice, Nothing, Full, Spent, BadSet, NotQuadratic}
+use Rattle.wiring.specs.declared.reply.Reply.the-variants.{Done}
+use Rattle.wiring.proofs.reply.Laws.{done-counts}
 use Rattle.walk.specs.Plan.{planned}
 use Rattle.thin.specs.Thin.{thinned}
 use Rattle.thin.proofs.thin.Exact.{thin-finds, thin-length}
@@ -49,19 +50,6 @@ results-are n terms which reply bytes five e f count out w =
     let wiring : counted count out ≡ wiringOf n terms which (numbers reply .count) bytes = rw f at w in
     ap (asResults (outcome reply bytes)) wiring ∙ ap (λ (x : Outcome). asResults x (wiringOf n terms which (x .said .count) (x .bytes))) e
 
--- only done counts sets: where those have room, what any reply counts has
-done-counts : (size : ℕ) (r : Reply) → ((o c k : ℕ) → r ≡ Done o c k → setBytes * c ≤ size) → setBytes * numbers r .count ≤ size
-done-counts size (Done o c k) h = h o c k refl
-done-counts size Setting h = omega arith
-done-counts size Length h = omega arith
-done-counts size (Term p) h = omega arith
-done-counts size (Twice p) h = omega arith
-done-counts size (Nothing o k) h = omega arith
-done-counts size (Full o k) h = omega arith
-done-counts size (Spent o k) h = omega arith
-done-counts size BadSet h = omega arith
-done-counts size (NotQuadratic o p) h = omega arith
-
 -- ---- a buffer of which planning was lent the front
 module _ (s : Settings) (terms sets : List ℕ) (room : ℕ) (fits : room ≡ min (s .room) (length sets / setBytes)) where
   pub lent-front : length (take (setBytes * room) sets) ≡ setBytes * room
@@ -80,7 +68,7 @@ module _ (s : Settings) (terms sets : List ℕ) (room : ℕ) (fits : room ≡ mi
     module _ (five : List ℕ) (f : five ≡ inOrder (numbers reply)) where
       -- the sets that are counted lie in it
       pub front-holds : setBytes * getD five 2 0 ≤ length (take (setBytes * room) (bytes ++ drop (setBytes * room) sets))
-      front-holds = rw (front-is, lent-long, f) (done-counts (setBytes * room) reply listed)
+      front-holds = rw (front-is, lent-long, f) (done-counts (λ (c : ℕ). setBytes * c ≤ setBytes * room) reply (omega arith) listed)
         where
           listed : (o c k : ℕ) → reply ≡ Done o c k → setBytes * c ≤ setBytes * room
           listed o c k d = plan-finds (s .n) (s .cap) (s .limit) terms (setBytes * room) o c k bytes (rw (lent-front, d) at e) .laid .fits
@@ -105,7 +93,7 @@ module _ (n : ℕ) (terms set sets : List ℕ) (reply : Reply) (bytes : List ℕ
 
   module _ (five : List ℕ) (f : five ≡ inOrder (numbers reply)) where
     pub thin-holds : setBytes * getD five 2 0 ≤ length bytes
-    thin-holds = rw (f, same) (done-counts (length sets) reply listed)
+    thin-holds = rw (f, same) (done-counts (λ (c : ℕ). setBytes * c ≤ length sets) reply (omega arith) listed)
       where
         listed : (o c k : ℕ) → reply ≡ Done o c k → setBytes * c ≤ length sets
         listed o c k d = thin-finds n terms set (length sets) o c k bytes (rw d at e) .laid .fits

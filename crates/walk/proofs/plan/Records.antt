@@ -3,17 +3,16 @@
 use mathlib.Core.Path.{_≡_}
 use mathlib.Core.List.{List, [], _++_}
 use Prim.Native.Nat.{ℕ, _*_, _-_, _≤_, _<_}
-use native.Mathlib.Omega.{arith}
 use lib.ListN.{length, getD, take, drop, replicate}
 use Rattle.monomial.specs.Monomial.{Mono}
 use Rattle.monomial.specs.Claims.{_∈_}
 use Rattle.wiring.specs.Panel.{setBytes, wireBytes, wiresBytes}
-use Rattle.wiring.specs.Reply.{numbers, outcome}
+use Rattle.wiring.specs.Reply.{outcome}
 use Rattle.wiring.specs.Sets.{setRecord}
 use Rattle.wiring.specs.Wires.{wireList}
 use Rattle.wiring.specs.Answers.{wired}
 use Rattle.wiring.specs.declared.reply.Reply.{Reply}
-use Rattle.wiring.specs.declared.reply.Reply.the-variants.{Done, Setting, Length, Term, Twice, Nothing, Full, Spent, BadSet, NotQuadratic}
+use Rattle.wiring.specs.declared.reply.Reply.the-variants.{Done}
 use Rattle.wiring.specs.Claims.{listIn}
 use Rattle.walk.specs.Plan.{planned}
 use Rattle.walk.specs.Claims.{Planned, setsAt}
@@ -51,16 +50,3 @@ module _ (n cap limit : ℕ) (terms : List ℕ) (size : ℕ) where
       record-wires =
           let a = found .accepted in
           laid-wires n terms (a .range .ranged) (a .measured) (a .flawless) o (setsAt n terms o) each c size bytes (found .laid) i h
-
-  -- no reply counts more sets than the buffer holds
-  pub count-fits : (r : Reply) (bytes : List ℕ) → outcome r bytes ≡ planned n cap limit terms size → setBytes * numbers r .count ≤ size
-  count-fits (Done o c k) bytes e = records-fit o c k bytes e
-  count-fits Setting bytes e = omega arith
-  count-fits Length bytes e = omega arith
-  count-fits (Term p) bytes e = omega arith
-  count-fits (Twice p) bytes e = omega arith
-  count-fits (Nothing o k) bytes e = omega arith
-  count-fits (Full o k) bytes e = omega arith
-  count-fits (Spent o k) bytes e = omega arith
-  count-fits BadSet bytes e = omega arith
-  count-fits (NotQuadratic o p) bytes e = omega arith

@@ -56,3 +56,16 @@ code-done (Full o s) e = let z : ⊥ = omega arith in absurd z
 code-done (Spent o s) e = let z : ⊥ = omega arith in absurd z
 code-done BadSet e = let z : ⊥ = omega arith in absurd z
 code-done (NotQuadratic o p) e = let z : ⊥ = omega arith in absurd z
+
+-- only done counts anything: what holds of 0 and of its count holds of what any reply counts
+pub done-counts : (P : ℕ → Type 0) (r : Reply) → P 0 → ((o c k : ℕ) → r ≡ Done o c k → P c) → P (numbers r .count)
+done-counts P (Done o c k) z h = h o c k refl
+done-counts P Setting z h = z
+done-counts P Length z h = z
+done-counts P (Term p) z h = z
+done-counts P (Twice p) z h = z
+done-counts P (Nothing o k) z h = z
+done-counts P (Full o k) z h = z
+done-counts P (Spent o k) z h = z
+done-counts P BadSet z h = z
+done-counts P (NotQuadratic o p) z h = z
