@@ -5,13 +5,14 @@ use mathlib.Core.Logic.{_↔_}
 use mathlib.Core.List.{List, [], _++_}
 use Prim.Native.Nat.{ℕ, _*_, _-_, _/_, _^_, _≤_, _<_}
 use native.Mathlib.Omega.{arith}
+use native.Mathlib.Nat.{pow-le-pow-right}
 use borrow.Author.Tests.{ne-eqb, eqb-true, eqb-false, leb-true, leb-false}
 use lib.Dec.{eqb, leb}
 use lib.ListN.{length, getD, take, drop, replicate, length-replicate}
 use Rattle.monomial.specs.Monomial.{Mono}
 use Rattle.monomial.specs.Claims.{_∈_}
 use Rattle.monomial.proofs.Tests.{Tested, passed, failed, test}
-use Rattle.wiring.specs.Panel.{setBytes, wireBytes, wiresBytes}
+use Rattle.wiring.specs.Panel.{cards, setBytes, wireBytes, wiresBytes}
 use Rattle.wiring.specs.Reply.{numbers, Outcome, outcome}
 use Rattle.wiring.specs.Terms.{records, system}
 use Rattle.wiring.specs.Sets.{setOf, setRecord}
@@ -30,7 +31,7 @@ use Rattle.walk.proofs.plan.Laws.{said-done, said-full}
 use Rattle.thin.specs.Thin.{thinned}
 use Rattle.thin.specs.Claims.{Thinnest, leastIn, thinnestIn, Thinnable, ThinSays, thinLeaves, Thinned, Overfull}
 use Rattle.thin.proofs.thin.Laws.{thinned-refused, thinned-done, thinning-done, thinning-full}
-use Rattle.thin.proofs.thin.Smallest.{thin-smallest}
+use Rattle.thin.proofs.thin.Smallest.{thinnest-most, thin-smallest}
 
 module _ (n : ℕ) (terms set : List ℕ) (size : ℕ) where
   -- ---- what holds is said
@@ -152,6 +153,15 @@ module _ (n : ℕ) (terms set : List ℕ) (size : ℕ) where
         over = says .0 .3;
         zeros = says .1;
       }
+
+  -- room for as many sets as there are subsets of a set of all cards is enough for every list
+  pub thin-enough : setBytes * 2 ^ cards ≤ size → (o k : ℕ) (bytes : List ℕ) → outcome (Full o k) bytes ≡ thinned n terms set size → ⊥
+  thin-enough h o k bytes e =
+      let full = thin-overfull o k bytes e in
+      let formed = full .given .formed in
+      let few = right-recordable n set (right-iff n set .1 (formed .right)) (formed .lengths .long) .few in
+      let most : 2 ^ length (setOf set) ≤ 2 ^ cards = pow-le-pow-right {n = 2} (omega arith) {i = length (setOf set)} {j = cards} few in
+      omega (arith, full .over, thinnest-most n (system (records terms)) (setOf set))
 
   -- the buffer keeps its length
   pub thin-length : (r : Reply) (bytes : List ℕ) → outcome r bytes ≡ thinned n terms set size → length bytes ≡ size

@@ -3,7 +3,7 @@ use mathlib.Core.Path.{_≡_, refl, sym, ap, subst}
 use mathlib.Core.Logic.{_⊎_, inl, inr}
 use mathlib.Core.Bool.{Bool}
 use mathlib.Core.List.{List, [], _∷_, List·Memᴰ·not-nil, List·Memᴰ·cases-cons}
-use Prim.Native.Nat.{ℕ, _≤_, min}
+use Prim.Native.Nat.{ℕ, _^_, _≤_, min}
 use native.Mathlib.Omega.{arith}
 use borrow.Author.Tests.{eq-eqb, ltb-true, ltb-false}
 use lib.Dec.{T, eqb, ltb, eqb→eq, T-not}
@@ -13,7 +13,7 @@ use Rattle.monomial.specs.Monomial.{Mono}
 use Rattle.monomial.specs.Order.{same, before, beforeSet}
 use Rattle.monomial.specs.Claims.{_∈_, _⊆_, Ascending}
 use Rattle.monomial.proofs.Tests.{Tested, passed, failed, test, is→T}
-use Rattle.monomial.proofs.Members.{here, there, some-none, keep-in, keep-out, keep-swap}
+use Rattle.monomial.proofs.Members.{here, there, some-none, keep-in, keep-out, keep-swap, keep-length}
 use Rattle.monomial.proofs.order.Laws.{mono-order}
 use Rattle.monomial.proofs.order.Ascending.{arrange-asc, arrange-out, arrange-length, keep-asc}
 use Rattle.wiring.specs.Poly.{Poly}
@@ -27,6 +27,7 @@ use Rattle.walk.proofs.Smallest.{no-gap, gapless, arranged-quadratic}
 use Rattle.thin.specs.Subsets.{subsets, isQuadratic}
 use Rattle.thin.specs.Thin.{leastSize, quadraticOnes, least, thinnest}
 use Rattle.thin.specs.Claims.{ThinSet, Thinnest}
+use Rattle.thin.proofs.subsets.Laws.{subsets-count}
 use Rattle.thin.proofs.subsets.Members.{subset-part, subset-asc, subset-all, subsets-asc}
 
 -- ---- the least size
@@ -54,6 +55,13 @@ least-reached b (u ∷ l) = go (test (ltb (length u) (leastSize b l))) (least-re
     go (passed p) ih = inr (record { set = u; member = here; size = omega (arith, ltb-true (length u) (leastSize b l) p) })
     go (failed p) (inl e) = inl (omega (arith, ltb-false (length u) (leastSize b l) p))
     go (failed p) (inr r) = inr (record { set = r .set; member = there (r .member); size = omega (arith, r .size, ltb-false (length u) (leastSize b l) p) })
+
+-- no more are listed than there are subsets
+pub thinnest-most : (n : ℕ) (fs : List (Poly Mono)) (s : List Mono) → length (thinnest n fs s) ≤ 2 ^ length s
+unfolding thinnest quadraticOnes
+thinnest-most n fs s =
+    let fit : Finds = keep (isQuadratic n fs) (subsets s) in
+    omega (arith, keep-length (λ (x : List Mono). eqb (length x) (least n fs s)) fit, keep-length (isQuadratic n fs) (subsets s), subsets-count s)
 
 module _ (n : ℕ) (fs : List (Poly Mono)) where
   -- ---- the test is Definition 1
