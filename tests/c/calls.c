@@ -189,18 +189,26 @@ static void check(const char *name, uint64_t n, const uint8_t *system, size_t le
     expect(unchanged(&terms, system) && unchanged(&set, record), name, "changed what it read");
 }
 
-static void wire(const char *name, uint64_t n, const uint8_t *system, size_t len, const uint8_t *record, size_t record_len, size_t room,
+/* A call that lists something of a given set: wiring and thinning. */
+typedef void lister(uint64_t n, const uint8_t *terms, size_t terms_len, const uint8_t *set, size_t set_len, uint8_t *out, size_t out_len, uint64_t *five);
+
+static void list(lister call, const char *name, uint64_t n, const uint8_t *system, size_t len, const uint8_t *record, size_t record_len, size_t room,
                  const uint64_t *five, const uint8_t *is, size_t is_len) {
     cases++;
     lend(&terms, system, len);
     lend(&set, record, record_len);
     lend(&out, 0, room);
     lend_row();
-    siragumon_wire(n, bytes(&terms), len, bytes(&set), record_len, bytes(&out), room, row + 1);
+    call(n, bytes(&terms), len, bytes(&set), record_len, bytes(&out), room, row + 1);
     expect_row(name, five);
     expect(holds(&out, is, is_len), name, "another buffer");
     expect(guarded(&out) && guarded(&terms) && guarded(&set), name, "wrote beside the buffer");
     expect(unchanged(&terms, system) && unchanged(&set, record), name, "changed what it read");
+}
+
+static void wire(const char *name, uint64_t n, const uint8_t *system, size_t len, const uint8_t *record, size_t record_len, size_t room,
+                 const uint64_t *five, const uint8_t *is, size_t is_len) {
+    list(siragumon_wire, name, n, system, len, record, record_len, room, five, is, is_len);
 }
 
 /* The smallest quadratic subsets of a set, by checking each subset alone. A mask has a bit for each signal, the first
@@ -237,17 +245,7 @@ static struct lent listed;
 /* Where it is done, the list is also what checking each subset gives, and each of its sets is wired. */
 static void thin(const char *name, uint64_t n, const uint8_t *system, size_t len, const uint8_t *record, size_t record_len, size_t room,
                  const uint64_t *five, const uint8_t *is, size_t is_len) {
-    cases++;
-    lend(&terms, system, len);
-    lend(&set, record, record_len);
-    lend(&out, 0, room);
-    lend_row();
-    siragumon_thin(n, bytes(&terms), len, bytes(&set), record_len, bytes(&out), room, row + 1);
-    expect_row(name, five);
-    expect(holds(&out, is, is_len), name, "another buffer");
-    expect(guarded(&out) && guarded(&terms) && guarded(&set), name, "wrote beside the buffer");
-    expect(unchanged(&terms, system) && unchanged(&set, record), name, "changed what it read");
-
+    list(siragumon_thin, name, n, system, len, record, record_len, room, five, is, is_len);
     if (five[SIRAGUMON_CODE] != SIRAGUMON_DONE && five[SIRAGUMON_CODE] != SIRAGUMON_FULL) return;
     siragumon_check(n, system, len, record, record_len, row + 1);
     check_subsets(n, system, len, record, row[1 + SIRAGUMON_ORDER]);
