@@ -101,14 +101,14 @@ module _ (n : ℕ) (fs : List (Poly Mono)) where
         listed-in u h (omega (arith, at-least u h, arrange-length same before t))
 
     -- ---- a listed one
-    pub record Listable (t : List Mono) : Type 0 where
+    pub record OfLeast (t : List Mono) : Type 0 where
       pub subset : t ∈ subsets s
       pub none : missing n fs t ≡ []
       pub size : length t ≡ least n fs s
 
-    listable : (t : List Mono) → t ∈ thinnest n fs s → Listable t
+    of-least : (t : List Mono) → t ∈ thinnest n fs s → OfLeast t
     unfolding thinnest quadraticOnes
-    listable t h =
+    of-least t h =
         let a = keep-out (λ (x : List Mono). eqb (length x) (least n fs s)) (keep (isQuadratic n fs) (subsets s)) h in
         let b = keep-out (isQuadratic n fs) (subsets s) (a .0) in
         record { subset = b .0; none = meant t (b .1); size = eqb→eq (length t) (least n fs s) (a .1) }
@@ -150,6 +150,6 @@ thin-smallest n terms s r q = record {
 
     one : (t : List Mono) → t ∈ thinnest n (system (records terms)) s → ThinSet n terms s (least n (system (records terms)) s) t
     one t h =
-        let c = listable n fs s up t h in
+        let c = of-least n fs s up t h in
         let part : t ⊆ s = subset-part s t (c .subset) in
         record { part = part; recordable = recordable-part n s r t (subset-asc s t up (c .subset)) part; quadratic = gapless n fs t (c .none); size = c .size }

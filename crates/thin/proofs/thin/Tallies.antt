@@ -1,10 +1,11 @@
 -- The tally of all subsets of a set holds the quadratic ones of the least size, in their order. Assumes nothing.
-use mathlib.Core.Path.{_≡_, refl, sym, ap, ap₂, subst, _∙_}
+use mathlib.Core.Path.{_≡_, refl, sym, ap, ap₂, _∙_}
 use mathlib.Core.Logic.{⊎-elim}
 use mathlib.Core.List.{List, [], _∷_, _++_, append-nil, append-assoc, List·Memᴰ·not-nil, List·Memᴰ·cases-cons, List·Memᴰ·append-cases}
 use Prim.Native.Nat.{ℕ, suc, _+_, _^_, _<_, _≤_, min}
 use native.Mathlib.Omega.{arith}
-use lib.Dec.{T, eqb, ltb, eqb→eq, eqb-refl, ltb→lt}
+use borrow.Author.Tests.{eq-eqb}
+use lib.Dec.{T, eqb, ltb, eqb→eq, ltb→lt}
 use lib.ListN.{length}
 use Rattle.monomial.specs.Lists.{keep}
 use Rattle.monomial.specs.Monomial.{Mono}
@@ -32,9 +33,6 @@ least-lower a b [] h = omega arith
 least-lower a b (t ∷ l) h = let ih : leastSize a l ≡ min a (leastSize b l) = least-lower a b l h in omega arith
 
 -- ---- those of one size
-eq→eqb : (a b : ℕ) → a ≡ b → T (eqb a b)
-eq→eqb a b e = subst (λ (c : ℕ). T (eqb a c)) e (eqb-refl a)
-
 size-no : (k : ℕ) (s : List Mono) (l : Finds) → (length s ≡ k → ⊥) → ofSize k (s ∷ l) ≡ ofSize k l
 size-no k s l n = keep-no (λ (t : List Mono). eqb (length t) k) s l (λ t. n (eqb→eq (length s) k t))
 
@@ -43,7 +41,7 @@ abbrev OneSize : ℕ → Finds → Type 0
 OneSize k l = (s : List Mono) → s ∈ l → length s ≡ k
 
 size-all : (k : ℕ) (l : Finds) → OneSize k l → ofSize k l ≡ l
-size-all k l h = keep-all (λ (t : List Mono). eqb (length t) k) l (λ s m. eq→eqb (length s) k (h s m))
+size-all k l h = keep-all (λ (t : List Mono). eqb (length t) k) l (λ s m. is→T (eqb (length s) k) (eq-eqb (length s) k (h s m)))
 
 size-none : (j k : ℕ) (l : Finds) → OneSize j l → (j ≡ k → ⊥) → ofSize k l ≡ []
 size-none j k l h n = keep-none (λ (t : List Mono). eqb (length t) k) l (λ s m t. n (sym (h s m) ∙ eqb→eq (length s) k t))
