@@ -1,18 +1,18 @@
 -- Wiring, step by step: what each test of the code says of the reply. Assumes nothing.
 use mathlib.Core.Path.{_≡_, refl, sym, ap, ap₂, _∙_, subst}
+use mathlib.Core.Logic.{_⊎_, inl, inr, ⊎-elim}
 use mathlib.Core.Bool.{Bool, true, false, not, _&&_}
 use mathlib.Core.List.{List, [], _++_, List·Memᴰ·not-nil}
 use Prim.Native.Nat.{ℕ, _*_, _-_, _<_, _≤_}
 use native.Mathlib.Omega.{arith}
-use borrow.Author.Tests.{eq-eqb, ne-eqb, eqb-true, eqb-false, le-leb, lt-leb}
-use lib.Dec.{T, eqb, leb, leb→le, eqb→eq}
-use lib.ListN.{length, getD, replicate}
+use borrow.Author.Tests.{eq-eqb, ne-eqb, le-leb, lt-leb}
+use lib.Dec.{T, leb, leb→le}
+use lib.ListN.{length, replicate}
 use Rattle.monomial.specs.Lists.{any, some, place, gather}
 use Rattle.monomial.specs.Monomial.{Mono, width}
 use Rattle.monomial.specs.Claims.{_∈_}
-use Rattle.monomial.proofs.Tests.{and-l, and-r, T→is, nT→is, is→T, is→nT, Tested, passed, failed, test}
+use Rattle.monomial.proofs.Tests.{and-r, T→is, nT→is, is→T, is→nT, Tested, passed, failed, test}
 use Rattle.monomial.proofs.Counting.{place-lt, place-any}
-use Rattle.monomial.proofs.Members.{some-none}
 use Rattle.monomial.proofs.order.Laws.{mono-order}
 use Rattle.wiring.specs.Panel.{setBytes, setExponent, wireBytes}
 use Rattle.wiring.specs.declared.answers.Given.{Given}
@@ -20,7 +20,7 @@ use Rattle.wiring.specs.declared.reply.Reply.{Reply}
 use Rattle.wiring.specs.declared.reply.Reply.the-variants.{Done, Setting, Length, Full, BadSet, NotQuadratic}
 use Rattle.wiring.specs.declared.terms.Fault.{Fault}
 use Rattle.wiring.specs.declared.terms.Fault.the-variants.{Clean}
-use Rattle.wiring.specs.Reply.{numbers, outcome, refused}
+use Rattle.wiring.specs.Reply.{Numbers, numbers, Outcome, outcome, refused}
 use Rattle.wiring.specs.Poly.{Poly, plain}
 use Rattle.wiring.specs.Derivative.{derivative}
 use Rattle.wiring.specs.Quadratic.{inV2, unmet}
@@ -29,8 +29,9 @@ use Rattle.wiring.specs.Signals.{signals, Fitting}
 use Rattle.wiring.specs.Terms.{records, lengthRight, fault, system}
 use Rattle.wiring.specs.Sets.{setOf, setRight, monomialsOf}
 use Rattle.wiring.specs.Wires.{Wire, wireRecord, Sheet, Met}
-use Rattle.wiring.specs.Answers.{unless, unlessFault, countRight, missing, firstUnmet, judged, recordJudged, verdict, listed, told, wires, wired, Reads, Takes, Gives}
+use Rattle.wiring.specs.Answers.{unlessFault, countRight, missing, firstUnmet, judged, recordJudged, verdict, listed, told, wires, wired, Reads, Takes, Gives}
 use Rattle.wiring.proofs.quadratic.Laws.{some-nonsquares, unmet-in, nonsquares-in}
+use Rattle.wiring.proofs.reply.Laws.{same-reply}
 use Rattle.wiring.proofs.sets.Laws.{right-fits}
 use Rattle.wiring.proofs.terms.Laws.{clean-widens}
 
@@ -63,16 +64,6 @@ module _ (n : ℕ) (fs : List (Poly Mono)) (s : List Mono) where
   pub judged-done : (at : ℕ) → at ≡ firstUnmet n fs s → length (signals width n s) ≤ at → Done (length s) 0 0 ≡ judged n fs s
   unfolding judged
   judged-done at e h = rw (first-none at e h)
-
-  -- the code of the reply is 0 exactly where there is no nonsquare
-  pub judged-code : eqb (numbers (judged n fs s) .code) 0 ≡ not (some (missing n fs s))
-  unfolding judged
-  judged-code = go (test (some (missing n fs s)))
-    where
-      go : Tested (some (missing n fs s)) → eqb (numbers (unless (not (some (missing n fs s))) (NotQuadratic (length s) (firstUnmet n fs s)) (Done (length s) 0 0)) .code) 0
-          ≡ not (some (missing n fs s))
-      go (passed e) = rw e
-      go (failed e) = rw e
 
   -- every monomial of every derivative is then in V2
   pub none-met : missing n fs s ≡ [] → Met plain (signals width n s) (derivative plain fs)
@@ -158,6 +149,49 @@ module _ (n : ℕ) (fs : List (Poly Mono)) (s : List Mono) (size : ℕ) where
   pub told-met : firstUnmet n fs s ≡ length (signals width n s) → listed (length s) list size ≡ told (judged n fs s) list size
   told-met e =
       sym (told-listed (length s) 0 0 list size) ∙ ap (λ (r : Reply). told r list size) (judged-done n fs s (firstUnmet n fs s) refl (omega arith))
+
+-- a reply with a list tells the verdict: not quadratic exactly where there is a nonsquare
+listed-code : (order : ℕ) (l : List Wire) (size : ℕ) → (listed order l size .said .code ≡ 0) ⊎ (listed order l size .said .code ≡ 6)
+unfolding listed
+listed-code order l size = go (test (leb (wireBytes * length l) size))
+  where
+    go : Tested (leb (wireBytes * length l) size) → (listed order l size .said .code ≡ 0) ⊎ (listed order l size .said .code ≡ 6)
+    go (passed e) = inl (rw e)
+    go (failed e) = inr (rw e)
+
+module _ (n : ℕ) (fs : List (Poly Mono)) (s : List Mono) (size : ℕ) (r : Reply) (e : numbers r ≡ told (judged n fs s) (wires n fs s) size .said) where
+  abbrev first : ℕ
+  first = firstUnmet n fs s
+
+  missing-said : some (missing n fs s) ≡ true → r ≡ NotQuadratic (length s) first
+  unfolding judged
+  missing-said t =
+      same-reply r (NotQuadratic (length s) first)
+      (e ∙ rw t (ap (λ (o : Outcome). o .said) (told-refused (NotQuadratic (length s) first) (wires n fs s) size (λ z. omega arith))))
+
+  none-said : some (missing n fs s) ≡ false → (o p : ℕ) → r ≡ NotQuadratic o p → ⊥
+  unfolding judged
+  none-said t o p q =
+      let code : numbers r .code ≡ 9 = ap (λ (x : Reply). numbers x .code) q in
+      let same : numbers r ≡ listed (length s) (wires n fs s) size .said = e ∙ rw t (ap (λ (x : Outcome). x .said) (told-listed (length s) 0 0 (wires n fs s) size)) in
+      let codes : numbers r .code ≡ listed (length s) (wires n fs s) size .said .code = ap (λ (x : Numbers). x .code) same in
+      ⊎-elim (λ z. omega arith) (λ z. omega arith) (listed-code (length s) (wires n fs s) size)
+
+  pub says-missing : (o p : ℕ) → r ≡ NotQuadratic o p → (some (missing n fs s) ≡ true) × (r ≡ judged n fs s)
+  unfolding judged
+  says-missing o p q = go (test (some (missing n fs s)))
+    where
+      go : Tested (some (missing n fs s)) → (some (missing n fs s) ≡ true) × (r ≡ judged n fs s)
+      go (passed t) = (t, rw t (missing-said t))
+      go (failed t) = absurd (none-said t o p q)
+
+  pub says-none : ((o p : ℕ) → r ≡ NotQuadratic o p → ⊥) → (some (missing n fs s) ≡ false) × (Done (length s) 0 0 ≡ judged n fs s)
+  unfolding judged
+  says-none f = go (test (some (missing n fs s)))
+    where
+      go : Tested (some (missing n fs s)) → (some (missing n fs s) ≡ false) × (Done (length s) 0 0 ≡ judged n fs s)
+      go (passed t) = absurd (f (length s) first (missing-said t))
+      go (failed t) = (t, rw t)
 
 -- ---- wiring
 module _ (n : ℕ) (terms set : List ℕ) (size : ℕ) where

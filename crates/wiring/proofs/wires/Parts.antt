@@ -1,18 +1,18 @@
 -- The monomials of a derivative, one after the other: those that the records give, and of these the ones with a coefficient. Assumes nothing.
 use mathlib.Core.Path.{_≡_, refl, sym, ap, ap₂, _∙_, subst}
 use mathlib.Core.Logic.{⊎-elim}
-use mathlib.Core.Bool.{Bool, true, false, not, _&&_, _||_}
-use mathlib.Core.List.{List, [], _∷_, map, List·Memᴰ·not-nil, Memᴰ·cast, Memᴰ·map, Memᴰ·of-map}
-use Prim.Native.Nat.{ℕ, _<_, _≤_}
+use mathlib.Core.Bool.{Bool, true, false, not, _||_}
+use mathlib.Core.List.{List, [], _∷_, map, Memᴰ·cast, Memᴰ·map, Memᴰ·of-map}
+use Prim.Native.Nat.{_<_}
 use native.Mathlib.Omega.{arith}
 use lib.Dec.{T, T-not, not-T, leb, le→leb}
 use lib.ListN.{length}
-use Rattle.monomial.specs.Lists.{keep, arrangeBy}
+use Rattle.monomial.specs.Lists.{keep}
 use Rattle.monomial.specs.Monomial.{Mono}
-use Rattle.monomial.specs.Order.{same, before}
+use Rattle.monomial.specs.Order.{before}
 use Rattle.monomial.specs.Claims.{_∈_, _⊆_, Ascending}
-use Rattle.monomial.proofs.Tests.{and-l, and-r, and-i, or-e, or-l, or-r, T→is, nT→is, is→T, is→nT, Tested, passed, failed, test}
-use Rattle.monomial.proofs.Members.{here, there, keep-in, keep-out, keep-yes, keep-no, keep-all, keep-swap}
+use Rattle.monomial.proofs.Tests.{and-l, and-r, and-i, or-e, or-l, or-r, is→T, is→nT, Tested, passed, failed, test}
+use Rattle.monomial.proofs.Members.{here, keep-in, keep-out, keep-yes, keep-no, keep-all, keep-swap}
 use Rattle.monomial.proofs.order.Laws.{mono-order, not-both}
 use Rattle.monomial.proofs.order.Ascending.{head-first, tail-asc, keep-asc, arrange-asc, arrange-in, arrange-out, sub-length, sub-equal}
 use Rattle.wiring.specs.Coefficient.{isZero}

@@ -1,5 +1,4 @@
 -- `enter` meets its contract: a record that has room is pasted behind the list, and a list without room stays too long. Assumes nothing.
-use mathlib.Core.Path.{_≡_}
 use mathlib.Core.Bool.{true, false}
 use mathlib.Core.List.{[], _∷_, _++_}
 use Prim.Native.Nat.{_+_, _*_, _≤_}

@@ -1,5 +1,5 @@
 -- `next_part` meets its contract: what is behind the pick and has a coefficient is what is asked for (`Parting`). Assumes nothing.
-use mathlib.Core.Path.{_≡_, refl, sym, ap, _∙_, subst}
+use mathlib.Core.Path.{sym, ap, _∙_, subst}
 use borrow.Author.Needs.{needs, sfits-of}
 use borrow.Author.Tests.{not-true, not-false}
 use lib.Dec.{T}

@@ -1,6 +1,5 @@
 -- `wire_row` meets its contract: the monomials up to the last one have their records, and each of them is in V2 (`Rowing`). Assumes nothing.
 use mathlib.Core.Path.{_≡_, refl, sym, _∙_}
-use mathlib.Core.Bool.{false}
 use mathlib.Core.List.{List, []}
 use Prim.Native.Nat.{ℕ}
 use native.Mathlib.Omega.{arith}
