@@ -71,14 +71,17 @@ impl Cover {
     /// What is lent to wiring, by the code that answers it.
     fn lent(&mut self, case: &Case, reply: &Reply) {
         let code = reply.code;
-        if case.buffer < WIRE_BYTES {
-            let name = format!("wire: code {code}, bytes without room");
+        if case.buffer <= WIRE_BYTES + 1 {
+            let name = format!("wire: code {code}, bytes about a record");
             self.number(name, case.buffer as u64);
-        } else if case.buffer < MOST_WIRES_BYTES {
-            self.count(format!("wire: code {code}, some room"));
-        } else {
-            self.count(format!("wire: code {code}, room for any list"));
         }
+        let room = match case.buffer {
+            0 => "no bytes",
+            1..WIRE_BYTES => "bytes without room",
+            WIRE_BYTES..MOST_WIRES_BYTES => "some room",
+            _ => "room for any list",
+        };
+        self.count(format!("wire: code {code}, {room}"));
     }
 
     fn setting(&mut self, case: &Case) {

@@ -366,8 +366,8 @@ impl Maker {
         members.into_iter().collect()
     }
 
-    /// Wires a good set record around the list's own length, often after its
-    /// verdict alone.
+    /// Wires a good set record around the list's own length, and often asks for
+    /// its verdict alone.
     fn with_set(&mut self, system: &System, set: &Set) {
         let wire = |buffer| {
             let set = write_set(set).to_vec();
@@ -761,9 +761,8 @@ mod tests {
         for n in 1..=VARIABLES {
             lines.push(format!("wire, n {n}: sizes with an empty list: 0-6 (7)"));
         }
-        // Whatever the code, nothing is lent, or less than a record.
         for code in CODES_WITH_A_SET {
-            lines.push(format!("wire: code {code}, bytes without room: 0-7 (8)"));
+            lines.push(format!("wire: code {code}, bytes about a record: 0-9 (10)"));
         }
         assert_lines(wire_cover(), lines);
     }
@@ -807,8 +806,10 @@ mod tests {
         }
         for code in CODES_WITH_A_SET {
             assert_count(report, &format!("wire: code {code} {}", NAMES[code]), 30);
-            assert_count(report, &format!("wire: code {code}, some room"), 3);
-            // No list is longer than the longest.
+            for room in ["no bytes", "bytes without room", "some room"] {
+                assert_count(report, &format!("wire: code {code}, {room}"), 3);
+            }
+            // The longest list has room there.
             if code != 6 {
                 assert_count(report, &format!("wire: code {code}, room for any list"), 3);
             }
