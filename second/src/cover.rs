@@ -492,6 +492,33 @@ mod tests {
     }
 
     #[test]
+    fn buffers_of_wiring_are_recognised() {
+        let input = write_terms(&terms("x1' = x1^3"));
+        let wire = |buffer| Case::wire(1, input.clone(), set_of(&["x1^2"]), buffer);
+        let text = report_of(&[0, 7, 8, 15, 16, 17, MOST_WIRES_BYTES].map(wire));
+        for line in [
+            "wire: code 0 done: 3",
+            "wire: code 6 full: 4",
+            "wire: code 6, no bytes: 1",
+            "wire: code 6, bytes without room: 1",
+            "wire: code 6, some room: 2",
+            "wire: code 6, bytes about a record: 0 7-8 (3)",
+            "wire: code 0, some room: 2",
+            "wire: code 0, room for any list: 1",
+            "wire: buffer one record short: 1",
+            "wire: buffer one byte short: 1",
+            "wire: list exactly as long as the buffer: 1",
+            "wire: buffer one byte longer: 1",
+            "wire: full with room for some: 2",
+            "wire: lengths of lists: 2 (1)",
+        ] {
+            assert!(text.lines().any(|l| l == line), "{line} in\n{text}");
+        }
+        let empty = Case::wire(1, Vec::new(), set_of(&["x1^2"]), 0);
+        assert!(report_of(&[empty]).contains("wire, n 1: sizes with an empty list: 1 (1)\n"));
+    }
+
+    #[test]
     fn buffers_of_thinning_are_recognised() {
         let input = write_terms(&terms("x1' = x1^4 + x1^3"));
         let set = set_of(&["x1^2", "x1^3", "x1^4"]);
