@@ -37,15 +37,16 @@ fn given(n: u64, text: &str, names: &'static [&'static str], number: usize) -> G
 /// Both grow by themselves too: x1 x2 has one record left.
 const CANCELLING_AND_GROWING: &str = "x1' = x1 + 1000000 x1 x3 x4; x2' = x2 - 1000000 x2 x3 x4";
 
-/// 32 records with the longest list that is known. It was searched for; the bound
-/// of 224 records would take 32 monomials in each derivative of a new one.
+/// 32 records with the longest list that a search has found; one of 224 would
+/// take 32 monomials in the derivative of each new one.
 const LONGEST: &str = "\
-    x1' = 1 + x5 + x5^2 + x4 x5 + x3 x5 + x3 x5^3 + x3 x4 x5^2 + x2 + x2 x5 + x2 x3 x5; \
-    x3' = 1 + x3 + x3 x5 + x3 x4 + x3^2 + x3^2 x5^2 + x3^2 x4 x5 + x2 x3 + x2 x3^2 + x1 x3 \
-        + x1 x3^2 x5 + x1 x3^2 x4 + x1^2 x3^2; \
-    x5' = 1 + x2 + x1 + x1 x4 + x1 x3 + x1 x2 + x1 x2 x3 + x1^2 + x1^2 x3 x4";
+    x1' = 1 + x6 + x6^2 + x5 + x5 x6 + x4 + x4 x6 + x3 + x3 x6 + x3 x6^2 + x3 x6^3 \
+        + x3 x4 x6 + x3 x4 x6^2 + x2 + x2 x6; \
+    x3' = 1 + x3 + x3 x6 + x3 x5 + x3 x4 + x3^2 + x3^2 x6 + x3^2 x6^2 + x3^2 x4 x6 + x2 x3 \
+        + x1 x3 + x1 x3^2 + x1 x3^2 x6 + x1^2 x3^2; \
+    x6' = 1 + x1 + x1^2";
 const LONGEST_SET: [&str; 6] = [
-    "x3 x5^2", "x3 x4 x5", "x2 x3", "x1 x3 x5", "x1 x3 x4", "x1^2 x3",
+    "x3 x6", "x3 x6^2", "x3 x4 x6", "x1 x3", "x1 x3 x6", "x1^2 x3",
 ];
 
 /// Quadratic sets. In the third to the eighth something vanishes: alone, before
@@ -65,7 +66,7 @@ fn quadratic() -> Vec<Given> {
         given(3, RABINOVICH_FABRIKANT, &["x2^2", "x1 x2", "x1^2"], 25),
         given(6, &own_variable_times_signals(), &SIX_SIGNALS, 80),
         given(2, &box_of_two(), &BOX_OF_TWO, 108),
-        given(5, LONGEST, &LONGEST_SET, 167),
+        given(6, LONGEST, &LONGEST_SET, 173),
     ]
 }
 
@@ -100,7 +101,7 @@ fn not_quadratic() -> Vec<Given> {
         ),
         given(2, &box_of_two(), &BOX_OF_TWO[..5], 5),
         given(2, &(box_of_two() + "; x1' = x1^4"), &BOX_OF_TWO, 6),
-        given(5, LONGEST, &LONGEST_SET[..5], 3),
+        given(6, LONGEST, &LONGEST_SET[..5], 9),
     ]
 }
 
