@@ -67,8 +67,8 @@ pub fn planned(n: usize, text: &str) -> Result<Answer, String> {
     listed(n, reply, &lines)
 }
 
-/// Reads what the program wrote of a given set, ascending, that was to be thinned. A set that is none of its subsets, or
-/// a number of steps that is not the number of its subsets, is no answer about it.
+/// Reads what the program wrote of a given set, ascending, that was to be thinned. A set that is none of its subsets,
+/// or a number of steps that is not the number of its subsets, is no answer about it.
 pub fn thinned(n: usize, given: &[Exponents], text: &str) -> Result<Answer, String> {
     let (reply, lines) = begun_of_set(n, given, text)?;
     let answer = listed(n, reply, &lines)?;

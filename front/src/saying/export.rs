@@ -135,9 +135,7 @@ fn set(report: &Report, number: usize) -> Json {
 fn wiring(report: &Report, patch: &Patch) -> Json {
     let wires = report.answer.wires.iter();
     let records = wires.map(|w| Json::list([w.left as i64, w.a as i64, w.b as i64, w.coefficient.into()]));
-    // A set that was only wired is none of a list.
-    let listed = report.system.aim() != Some(Aim::Wiring);
-    let which = listed.then(|| (report.thing(), whole(report.settings.which)));
+    let which = report.thing().map(|thing| (thing, whole(report.settings.which)));
     let own = [
         ("signals", Json::list(patch.signals.iter().cloned())),
         ("records", Json::List(records.collect())),

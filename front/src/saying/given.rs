@@ -45,17 +45,21 @@ fn refused(given: &Given, system: &System, sources: &[Source]) -> Said {
     "Refused: the given set breaks a rule of the box.".to_string().into()
 }
 
+/// The signals of the patch by number, where one of them cannot be wired.
+fn signals(reply: &Reply, given: &Given, system: &System) -> Option<Vec<Exponents>> {
+    given.set().filter(|_| reply.code == NOT_QUADRATIC).map(|set| system.signals(&set))
+}
+
 /// Why the set is not quadratic: a product in the derivative of the signal that the reply names, with its total
 /// coefficient. Nothing after any other reply, and where no such product is found.
 pub fn reason(reply: &Reply, given: &Given, system: &System) -> Option<(i64, Exponents)> {
-    let signals = system.signals(&given.set().filter(|_| reply.code == NOT_QUADRATIC)?);
-    unwired::product(&system.records().ok()?, &signals, reply.place as usize)
+    unwired::product(&system.records().ok()?, &signals(reply, given, system)?, reply.place as usize)
 }
 
 /// The same in words. The planner names the signal; where no product is found, nothing but that is said.
 fn why(reply: &Reply, given: &Given, system: &System) -> Option<String> {
     let place = reply.place as usize;
-    let signals = system.signals(&given.set().filter(|_| reply.code == NOT_QUADRATIC && 0 < place)?);
+    let signals = signals(reply, given, system).filter(|_| 0 < place)?;
     let monomial = algebra::monomial(&system.names, signals.get(place)?);
     let name = match place.checked_sub(system.names.len()) {
         None | Some(0) => monomial,

@@ -42,11 +42,12 @@ impl Report<'_> {
         said(&self.answer.reply, self.settings, self.system, self.sources)
     }
 
-    /// What is listed.
-    pub fn thing(&self) -> &'static str {
+    /// What is listed; nothing where the given set was only wired.
+    pub fn thing(&self) -> Option<&'static str> {
         match self.system.aim() {
-            Some(Aim::Thinning) => "subset",
-            Some(Aim::Wiring) | None => "set",
+            None => Some("set"),
+            Some(Aim::Thinning) => Some("subset"),
+            Some(Aim::Wiring) => None,
         }
     }
 
@@ -115,7 +116,7 @@ impl Report<'_> {
     pub fn no_such_set(&self) -> Option<String> {
         let (which, count) = (self.settings.which, self.answer.reply.count);
         let missing = self.answer.reply.code == DONE && self.patch.is_none();
-        let thing = self.thing();
+        let thing = self.thing()?;
         missing.then(|| format!("There is no {thing} {which}: the list has {}.", counted(count, thing)))
     }
 
@@ -157,17 +158,17 @@ impl Report<'_> {
         out
     }
 
-    /// The sets that were asked for. The empty one is told in words, and the given one stands above.
+    /// The sets that were asked for. Of the empty one the words have told.
     fn list(&self) -> String {
-        if self.answer.reply.order == 0 || self.system.aim() == Some(Aim::Wiring) {
+        let Some(thing) = self.thing().filter(|_| 0 < self.answer.reply.order) else {
             return String::new();
-        }
+        };
         let line = |number: usize| {
             let spare = match self.can_go(number)[..] {
                 [] => String::new(),
                 ref spare => format!("; {} can go", spare.join(", ")),
             };
-            format!("  {} {}: {}{spare}\n", self.thing(), number + 1, self.set(number).join(", "))
+            format!("  {thing} {}: {}{spare}\n", number + 1, self.set(number).join(", "))
         };
         (0..self.answer.sets.len()).map(line).collect()
     }
@@ -189,7 +190,7 @@ impl Report<'_> {
 
     /// How to wire another set, or why this one is not there.
     fn further(&self) -> Option<String> {
-        let (count, thing) = (self.answer.sets.len(), self.thing());
+        let (count, thing) = (self.answer.sets.len(), self.thing()?);
         let anew = if self.system.given.is_some() { "judges them" } else { "searches" };
         let others = || format!("--set N wires another {thing}, 1 to {count}; it {anew} anew.");
         self.no_such_set().or_else(|| (1 < count).then(others))

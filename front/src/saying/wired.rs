@@ -6,8 +6,7 @@ use crate::saying::words::{excluded, QUADRATIC};
 
 /// What was not asked. Of the empty set there is no such question.
 const UNASKED: &str =
-    "No other set was judged: whether fewer signals will do was not asked. --thin asks it of subsets, \
-                       planning of all sets.";
+    "No other set was judged: whether fewer signals will do was not asked. --thin asks that, and so does planning.";
 
 pub fn said(reply: &Reply) -> String {
     let said = match reply.code {
