@@ -10,8 +10,8 @@ use Rattle.wiring.proofs.reply.Laws.{same-reply}
 use Rattle.lines.specs.Answer.{replyLine}
 use Rattle.report.specs.declared.prepare.Settings.{Settings}
 use Rattle.report.specs.declared.prepare.Prepared.{Prepared}
-use Rattle.report.specs.Prepare.{Results, resultsIn, Leaves, Prepares, PreparesThin}
-use Rattle.report.specs.Report.{linesOf, report, thinReport}
+use Rattle.report.specs.Prepare.{Results, resultsIn, Leaves, Prepares, PreparesThin, PreparesWire}
+use Rattle.report.specs.Report.{linesOf, report, thinReport, wireReport}
 
 abbrev made : Reply → ℕ → ℕ → Prepared
 made reply lent wires = record { reply = reply; lent = lent; wires = wires }
@@ -29,6 +29,11 @@ module _ {p : Prepared} {sets after wires : List ℕ} where
       → linesOf (resultsIn p after wires) ≡ thinReport n which terms set (length sets)
   unfolding thinReport
   thin-prepared-lines n which terms set a = ap linesOf (a .left)
+
+  pub wire-prepared-lines : (n : ℕ) (terms set : List ℕ) → PreparesWire n terms set p sets after wires
+      → linesOf (resultsIn p after wires) ≡ wireReport n terms set
+  unfolding wireReport
+  wire-prepared-lines n terms set a = ap linesOf (a .left)
 
   -- two outcomes that a promise allows are equal: what is given, and every byte that was lent
   pub prepare-determined : {size : ℕ} {r : Results} {q : Prepared} {b w : List ℕ} → Leaves size r p sets after wires → Leaves size r q sets b w
