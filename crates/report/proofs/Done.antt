@@ -12,7 +12,7 @@ use lib.Seq.{ext-getD}
 use Rattle.monomial.specs.Lists.{below}
 use Rattle.monomial.proofs.Members.{map-at}
 use Rattle.wiring.specs.Panel.{setBytes, wireBytes, wiresBytes}
-use Rattle.wiring.specs.Reply.{Numbers, numbers, inOrder, Outcome, outcome}
+use Rattle.wiring.specs.Reply.{numbers, inOrder, Outcome, outcome}
 use Rattle.wiring.specs.Sets.{setRecord}
 use Rattle.wiring.specs.Wires.{Wire, wireRecord, wireList}
 use Rattle.wiring.specs.Answers.{wired}
@@ -74,42 +74,41 @@ unfolding linesOf
 refused-line x r e f = rw (← e, ne-eqb (numbers r .code) 0 f)
 
 -- ---- an outcome, and the wiring of set number `which`
-module _ (n : ℕ) (terms : List ℕ) (which : ℕ) where
-  module _ (c : ℕ) (bytes : List ℕ) where
-    -- the reply, a line for each set of a list that is laid in the buffer, and then the wiring
-    listed-lines : {x : Outcome} (o k : ℕ) → outcome (Done o c k) bytes ≡ x → (l : Finds) {size : ℕ} → Laid l c size bytes
-        → linesOf (resultsOf n terms which x)
-        ≡ replyLine (0 ∷ o ∷ c ∷ k ∷ 0 ∷ []) ∷ map (λ s. setLine (setRecord s) o) l ++ wireLines (wiringOf n terms which c bytes)
-    unfolding resultsOf linesOf setLines
-    listed-lines o k e l laid = rw (← e, records, map-map (λ b. setLine b o) setRecord l)
-      where
-        records : slots setBytes c bytes ≡ map setRecord l
-        records = slots-are setRecord l [] setBytes c bytes (laid .counted) (omega (arith, laid .fits, laid .long)) (laid .written)
+module _ (n : ℕ) (terms : List ℕ) (which c : ℕ) (bytes : List ℕ) where
+  -- the reply, a line for each set of a list that is laid in the buffer, and then the wiring
+  listed-lines : {x : Outcome} (o k : ℕ) → outcome (Done o c k) bytes ≡ x → (l : Finds) {size : ℕ} → Laid l c size bytes
+      → linesOf (resultsOf n terms which x)
+      ≡ replyLine (0 ∷ o ∷ c ∷ k ∷ 0 ∷ []) ∷ map (λ s. setLine (setRecord s) o) l ++ wireLines (wiringOf n terms which c bytes)
+  unfolding resultsOf linesOf setLines
+  listed-lines o k e l laid = rw (← e, records, map-map (λ b. setLine b o) setRecord l)
+    where
+      records : slots setBytes c bytes ≡ map setRecord l
+      records = slots-are setRecord l [] setBytes c bytes (laid .counted) (omega (arith, laid .fits, laid .long)) (laid .written)
 
-    -- no set of that number: nothing is wired
-    pub nothing-wired : (which ≡ 0) ⊎ (c < which) → wireLines (wiringOf n terms which c bytes) ≡ []
-    unfolding wireLines
-    nothing-wired h = rw (← unwired h, no-slots wireBytes 0 (replicate wiresBytes 0) (omega arith))
-      where
-        unwired : (which ≡ 0) ⊎ (c < which) → counted 0 (replicate wiresBytes 0) ≡ wiringOf n terms which c bytes
-        unwired (inl low) = wires-zero n terms which c bytes wiresBytes refl (replicate wiresBytes 0) refl (omega arith)
-        unwired (inr high) = wires-beyond n terms which c bytes wiresBytes refl (replicate wiresBytes 0) refl (omega arith) high
+  -- no set of that number: nothing is wired
+  pub nothing-wired : (which ≡ 0) ⊎ (c < which) → wireLines (wiringOf n terms which c bytes) ≡ []
+  unfolding wireLines
+  nothing-wired h = rw (← unwired h, no-slots wireBytes 0 (replicate wiresBytes 0) (omega arith))
+    where
+      unwired : (which ≡ 0) ⊎ (c < which) → counted 0 (replicate wiresBytes 0) ≡ wiringOf n terms which c bytes
+      unwired (inl low) = wires-zero n terms which c bytes wiresBytes refl (replicate wiresBytes 0) refl (omega arith)
+      unwired (inr high) = wires-beyond n terms which c bytes wiresBytes refl (replicate wiresBytes 0) refl (omega arith) high
 
-    -- the record of that number, where a list is its wiring: a line for each record of the list
-    module _ (low : 1 ≤ which) (high : which ≤ c) (o : ℕ) (list : List Wire) where
-      abbrev left : List ℕ
-      left = wireList list ++ replicate (wiresBytes - wireBytes * length list) 0
+  -- the record of that number, where a list is its wiring: a line for each record of the list
+  module _ (low : 1 ≤ which) (high : which ≤ c) (o : ℕ) (list : List Wire) where
+    abbrev left : List ℕ
+    left = wireList list ++ replicate (wiresBytes - wireBytes * length list) 0
 
-      module _ (wires : outcome (Done o (length list) 0) left ≡ wired n terms (slot setBytes bytes (which - 1)) wiresBytes) where
-        filed : counted (length list) left ≡ wiringOf n terms which c bytes
-        filed =
-            wires-there n terms which c bytes wiresBytes refl low high (setBytes * (which - 1)) refl (Done o (length list) 0) left _ (rw same wires) refl
-          where
-            same : setBytes * (which - 1) + setBytes - setBytes * (which - 1) ≡ setBytes
-            same = omega arith
+    module _ (wires : outcome (Done o (length list) 0) left ≡ wired n terms (slot setBytes bytes (which - 1)) wiresBytes) where
+      filed : counted (length list) left ≡ wiringOf n terms which c bytes
+      filed =
+          wires-there n terms which c bytes wiresBytes refl low high (setBytes * (which - 1)) refl (Done o (length list) 0) left _ (rw same wires) refl
+        where
+          same : setBytes * (which - 1) + setBytes - setBytes * (which - 1) ≡ setBytes
+          same = omega arith
 
-        listed-wires : wireLines (wiringOf n terms which c bytes) ≡ map (λ w. wireLine (wireRecord w)) list
-        listed-wires = rw (← filed) (list-lines list (replicate (wiresBytes - wireBytes * length list) 0))
+      listed-wires : wireLines (wiringOf n terms which c bytes) ≡ map (λ w. wireLine (wireRecord w)) list
+      listed-wires = rw (← filed) (list-lines list (replicate (wiresBytes - wireBytes * length list) 0))
 
 -- ---- planning
 module _ (s : Settings) (terms : List ℕ) where

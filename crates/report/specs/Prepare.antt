@@ -71,7 +71,7 @@ pub record Leaves (size : ℕ) (r : Results) (p : Prepared) (sets after wires : 
   pub rest : drop (p .lent) after ≡ drop (p .lent) sets
 
 -- preparing leaves the results of planning into the room that is asked for; of thinning into all of the buffer; or of
--- wiring, which lists no sets into none of it
+-- wiring into nothing of it
 abbrev pub Prepares : Settings → List ℕ → Prepared → List ℕ → List ℕ → List ℕ → Type 0
 Prepares s terms = Leaves (setBytes * s .room) (results s terms)
 

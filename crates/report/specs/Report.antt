@@ -1,5 +1,5 @@
--- All that a program writes, line by line: the reply, the sets that are listed, and the wiring of one set. Assumes
--- nothing.
+-- All that a program writes, line by line: the reply, the sets that are listed, and the wiring of one set.
+-- Assumes nothing.
 use mathlib.Core.Bool.{cond}
 use mathlib.Core.List.{List, [], _∷_, _++_, map}
 use Prim.Native.Nat.{ℕ, _/_, min}
