@@ -50,6 +50,11 @@ module _ {p : Prepared} {sets after wires : List ℕ} where
         ap (λ (r : Results). r .wiring .bytes) both,
       )
 
+-- so too of wiring, which no buffer is lent for sets
+pub wire-prepare-determined : (n : ℕ) (terms set : List ℕ) {p q : Prepared} {w v : List ℕ} → ((sets : List ℕ) → PreparesWire n terms set p sets sets w)
+    → ((sets : List ℕ) → PreparesWire n terms set q sets sets v) → (p ≡ q) × (w ≡ v)
+wire-prepare-determined n terms set a c = let both = prepare-determined (a []) (c []) in (both .0, both .2)
+
 -- of a refused setting only the reply is told
 pub setting-line : (sets wires : List ℕ)
     → linesOf (resultsIn (record { reply = Setting; lent = 0; wires = 0 }) sets wires) ≡ replyLine (inOrder (numbers Setting)) ∷ []
