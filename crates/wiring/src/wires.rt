@@ -6,19 +6,15 @@ use super::parts;
 use super::signals::Signals;
 use monomial::Monomial;
 ghost use mathlib.Core.Path.{_≡_};
-ghost use mathlib.Core.Bool.{true};
 ghost use mathlib.Core.List.{List, [], _∷_, _++_};
 ghost use Prim.Native.Nat.{_+_, _*_, _≤_, _<_};
 ghost use lib.ListN.{length, getD};
 ghost use lib.Seq.{paste};
-ghost use Rattle.monomial.specs.Lists.{keep};
-ghost use Rattle.monomial.specs.Product.{AtMost};
-ghost use Rattle.wiring.specs.Panel.{termBytes, setExponent, mostSignals, wireBytes};
-ghost use Rattle.wiring.specs.Poly.{plain, coeff, support};
-ghost use Rattle.wiring.specs.Derivative.{derivative, image, gives, images};
+ghost use Rattle.wiring.specs.Panel.{setExponent, mostSignals, wireBytes};
+ghost use Rattle.wiring.specs.Poly.{plain};
+ghost use Rattle.wiring.specs.Derivative.{derivative};
 ghost use Rattle.wiring.specs.Signals.{Fitting, signalsOf};
-ghost use Rattle.wiring.specs.Terms.{recordAt, records, system, CleanTerms};
-ghost use Rattle.wiring.specs.Choice.{Heads, beyond, Offered};
+ghost use Rattle.wiring.specs.Terms.{records, system, CleanTerms};
 ghost use Rattle.wiring.specs.Wires.{Wire, wireRecord, Sheet, Wrote, FirstPair, RowPassed, Passed};
 
 // The numbers of two signals, where some is true.
