@@ -1,22 +1,19 @@
 -- What C gets of each call, said of the five numbers and the bytes alone: whose reply they are and what it means; done, none, full and spent of
--- planning, done of checking and wiring, and done and full of thinning, by their numbers. Assumes nothing.
+-- planning, done of wiring, and done and full of thinning, by their numbers. Assumes nothing.
 use mathlib.Core.Path.{_≡_, sym, ap, _∙_}
 use mathlib.Core.Logic.{_↔_}
 use mathlib.Core.List.{List, [], _∷_}
 use Prim.Native.Nat.{ℕ, _/_}
-use lib.ListN.{length}
 use Rattle.wiring.specs.Panel.{setBytes}
 use Rattle.wiring.specs.Poly.{plain}
 use Rattle.wiring.specs.Quadratic.{Quadratic}
 use Rattle.wiring.specs.Reply.{numbers, inOrder, Outcome, outcome}
 use Rattle.wiring.specs.Terms.{records, system}
-use Rattle.wiring.specs.Sets.{setOf}
-use Rattle.wiring.specs.Answers.{verdict, checked, wired}
+use Rattle.wiring.specs.Answers.{wired}
 use Rattle.wiring.specs.declared.reply.Reply.{Reply}
 use Rattle.wiring.specs.declared.reply.Reply.the-variants.{Done, Setting, Length, Term, Twice, Nothing, Full, Spent, BadSet, NotQuadratic}
-use Rattle.wiring.specs.Claims.{WellFormed, signalsIn, derivativeIn, CheckSays, Patch}
+use Rattle.wiring.specs.Claims.{signalsIn, derivativeIn, Patch}
 use Rattle.wiring.proofs.reply.Laws.{same-reply}
-use Rattle.wiring.proofs.answers.Exact.{verdict-says, check-exact}
 use Rattle.wiring.proofs.answers.Wired.{wire-exact, wire-replies, wire-done}
 use Rattle.walk.specs.Walk.{bare}
 use Rattle.walk.specs.Plan.{planned}
@@ -97,21 +94,6 @@ module _ (n cap limit : ℕ) (terms : List ℕ) (size : ℕ) where
   pub siragumon-plan-spent : (o k : ℕ) (bytes : List ℕ) → (answer (7 ∷ o ∷ 0 ∷ k ∷ 0 ∷ []) bytes ≡ given (planned n cap limit terms size))
       ↔ Stopped n cap limit terms size (Spends bare n (system (records terms)) limit (size / setBytes) cap) o k bytes
   siragumon-plan-spent o k bytes = exactly (Spent o k) bytes (λ s. ((s .accepted, s .exact), s .zeros))
-
--- ---- checking
-module _ (n : ℕ) (terms set : List ℕ) where
-  pub siragumon-check-means : (five : List ℕ) → five ≡ inOrder (checked n terms set) → Heard (CheckSays n terms set) five
-  siragumon-check-means five e =
-      let says : CheckSays n terms set (verdict n terms set) = verdict-says n terms set in
-      record { reply = verdict n terms set; numbered = e ∙ ap inOrder (sym (check-exact n terms set (verdict n terms set) .1 says)); means = says }
-
-  -- 0, order, 0, 0, 0: exactly where Definition 1 holds of the given set
-  pub siragumon-check-done : (o c k : ℕ) → ((0 ∷ o ∷ c ∷ k ∷ 0 ∷ []) ≡ inOrder (checked n terms set))
-      ↔ (WellFormed n terms set × (o ≡ length (setOf set)) × (c ≡ 0) × (k ≡ 0) × Quadratic plain (signalsIn n set) (derivativeIn terms))
-  siragumon-check-done o c k = (
-    (λ e. check-exact n terms set (Done o c k) .0 (in-order-one (numbers (Done o c k)) (checked n terms set) e)),
-    λ h. ap inOrder (check-exact n terms set (Done o c k) .1 h),
-  )
 
 -- ---- wiring
 module _ (n : ℕ) (terms set : List ℕ) (size : ℕ) where
