@@ -1,5 +1,5 @@
-//! The front door: plans a patch from typed equations, or thins a given set. The planning and thinning itself is done
-//! by the proved program.
+//! The front door: plans a patch from typed equations, thins a given set, or judges and wires it as it is. All of this
+//! is done by the proved program; here it is asked, and its answer said and drawn.
 
 mod algebra;
 mod asking;
@@ -25,6 +25,7 @@ use saying::help::help;
 use saying::report::{Drawn, Report};
 use saying::watch::Watch;
 use saying::{export, report, words};
+use typed::given::Aim;
 use typed::options::Options;
 use typed::settings::Settings;
 use typed::system::{Record, System};
@@ -60,11 +61,11 @@ fn run() -> u8 {
             Err(why) => return not_understood(&sources, &Fault::nowhere(why), &options),
         }
     }
-    let typed = match options.thin.take() {
+    let typed = match options.given.take() {
         None => parser::parse(&sources),
-        Some(text) => {
+        Some((aim, text)) => {
             sources.push(Source { file: None, text });
-            parser::parse_with_set(&sources)
+            parser::parse_with_set(&sources, aim)
         }
     };
     match typed.and_then(|typed| System::of(&typed)) {
@@ -101,10 +102,10 @@ fn answer(sources: &[Source], system: &System, options: &Options) -> u8 {
     print(status, &if options.json { export::answer(&report) } else { report.for_a_person() })
 }
 
-/// Writes the drawing. Without a set there is nothing to draw, and the file is left as it is.
+/// Writes the drawing. Where nothing is wired there is nothing to draw, and the file is left as it is.
 fn draw(report: &Report, file: &str) -> Drawn {
     let Some(patch) = report.patch else {
-        return Drawn::NoSet(file.into());
+        return Drawn::NotWired(file.into());
     };
     let heading = Heading { equations: report.equations(), given: report.given_text(), which: report.which_set() };
     let drawing = sheet::draw(patch, &heading);
@@ -114,7 +115,7 @@ fn draw(report: &Report, file: &str) -> Drawn {
     }
 }
 
-/// Asks for the thinning of the given set; where there is none, for a plan. What fits no record is refused here, as the
+/// Asks what is asked of the given set; where there is none, for a plan. What fits no record is refused here, as the
 /// planner refuses a record.
 fn ask(system: &System, settings: &Settings) -> Result<Answer, String> {
     let records = match system.records() {
@@ -125,12 +126,13 @@ fn ask(system: &System, settings: &Settings) -> Result<Answer, String> {
         std::env::var(RUNNER).map_err(|_| format!("{RUNNER} does not say how to run the planner; use ./plan"))?;
     let terms = records.iter().flat_map(Record::bytes).collect();
     let planner = Planner { runner, n: system.names.len(), terms };
-    match &system.given {
-        None => plan(&planner, settings),
-        Some(given) => match given.set() {
-            Some(set) => planner.thin(&set, settings.which),
-            None => Ok(Answer::refused(SET, 0)),
-        },
+    let Some(given) = &system.given else {
+        return plan(&planner, settings);
+    };
+    match (given.set(), given.aim) {
+        (None, _) => Ok(Answer::refused(SET, 0)),
+        (Some(set), Aim::Thinning) => planner.thin(&set, settings.which),
+        (Some(set), Aim::Wiring) => planner.wire(&set),
     }
 }
 

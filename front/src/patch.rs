@@ -10,7 +10,7 @@ pub struct Patch {
     pub signals: Vec<String>,
     /// What each new signal is, as text over the variables.
     pub new: Vec<String>,
-    /// One row for each signal of the patch. A variable that stands nowhere has none.
+    /// One row for each signal of the patch. A variable that stands neither in an equation nor in the set has none.
     pub rows: Vec<Row>,
 }
 
@@ -31,7 +31,7 @@ impl Patch {
         signals.extend((1..=set.len()).map(|i| system.new_name(i)));
         let new = system.set(set);
         let rows = (1..signals.len())
-            .filter(|&s| n < s || system.used[s - 1])
+            .filter(|&s| n < s || system.used[s - 1] || set.iter().any(|new| new[s - 1] != 0))
             .map(|s| Row { signal: s, wires: answer.wires.iter().filter(|w| w.left == s).copied().collect() })
             .collect();
         Some(Patch { signals, new, rows })
@@ -78,8 +78,9 @@ impl Patch {
 #[cfg(test)]
 pub mod tests {
     use super::*;
-    use crate::asking::answer::{planned, tests::EXAMPLE};
-    use crate::typed::system::tests::system;
+    use crate::asking::answer::{planned, tests::EXAMPLE, wired};
+    use crate::typed::given::Aim;
+    use crate::typed::system::tests::{given, system};
 
     pub fn patch(text: &str, written: &str) -> Patch {
         let system = system(text);
@@ -113,6 +114,15 @@ pub mod tests {
     fn a_variable_that_stands_nowhere_is_left_out() {
         let patch = patch("x' = z", "0 0 1 1 0\n\n1 0 3 1\n");
         assert_eq!(patch.equations(), ["x' = z", "z' = 0"]);
+    }
+
+    #[test]
+    fn a_variable_of_the_set_alone_is_wired_where_the_set_is() {
+        let system = given(Aim::Wiring, "x1' = 1", "x1*x3");
+        let set = system.given.as_ref().unwrap().set().unwrap();
+        let answer = wired(3, &set, "0 1 2 0 0\n1 0 0 1\n4 0 3 1\n").unwrap();
+        let patch = Patch::of(&system, &answer, 1).unwrap();
+        assert_eq!(patch.equations(), ["w1 = x1*x3", "x1' = 1", "x3' = 0", "w1' = x3"]);
     }
 
     #[test]

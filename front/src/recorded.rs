@@ -1,10 +1,11 @@
 //! Recorded answers of the proved program, for tests.
 
-use crate::asking::answer::{planned, thinned, Answer};
+use crate::algebra::Exponents;
+use crate::asking::answer::{planned, thinned, wired, Answer};
 use crate::patch::Patch;
-use crate::typed::given;
+use crate::typed::given::{self, Aim};
 use crate::typed::settings::Settings;
-use crate::typed::system::{tests::system, Record, System};
+use crate::typed::system::{tests, Record, System};
 
 const RECORDED: &str = include_str!("../tests/recorded");
 
@@ -29,17 +30,56 @@ pub fn plan(system: &System, settings: &Settings) -> Answer {
     planned(n, &written(&words, &terms(system))).unwrap()
 }
 
+/// The set that is given with a system, and what the program wrote of it.
+fn of_set(system: &System, words: &str) -> (Vec<Exponents>, String) {
+    let set = system.given.as_ref().unwrap().set().unwrap();
+    let input = [&given::record(&set)[..], &terms(system)].concat();
+    let text = written(words, &input);
+    (set, text)
+}
+
 /// The thinning of the set that is given with a system.
 pub fn thinning(system: &System, which: u64) -> Answer {
     let n = system.names.len();
-    let set = system.given.as_ref().unwrap().set().unwrap();
-    let input = [&given::record(&set)[..], &terms(system)].concat();
-    thinned(n, &set, &written(&format!("{n} {which}"), &input)).unwrap()
+    let (set, text) = of_set(system, &format!("{n} {which}"));
+    thinned(n, &set, &text).unwrap()
 }
 
-/// Systems of many kinds with the patch of their first set.
+/// The wiring of it.
+pub fn wiring(system: &System) -> Answer {
+    let n = system.names.len();
+    let (set, text) = of_set(system, &n.to_string());
+    wired(n, &set, &text).unwrap()
+}
+
+const CROWDED: &str = include_str!("../tests/crowded.txt");
+
+/// Systems with sets of many kinds that were wired: some will do, some not; with signals that nothing uses, that never
+/// change, with a variable of their own, and without any.
+pub const WIRED: [(&str, &str); 10] = [
+    ("x' = x^4 + x^3", "x^3, x^4"),
+    ("x' = x^4 + x^3", "x^2, x^3, x^4"),
+    ("x' = x^4", "x^2"),
+    ("x' = x^2", ""),
+    ("x' = x^3", ""),
+    ("x' = 0", "x^2"),
+    ("x' = 0", ""),
+    ("x1' = x1^2 x2, x2' = -x1 x2^2", "x1 x2"),
+    ("x' = 1", "x*z"),
+    (CROWDED, "x3^2*x4^2, x3^6*x4^6*x6, x1*x3^4*x4^4*x6, x1^3*x6"),
+];
+
+/// Systems of many kinds with the patch of their first set, and of sets that were given.
 pub fn patches() -> Vec<(System, Patch)> {
-    let crowded = include_str!("../tests/crowded.txt");
+    let planned = planned_patches();
+    let given = WIRED.iter().map(|(text, set)| tests::given(Aim::Wiring, text, set)).filter_map(|system| {
+        let patch = Patch::of(&system, &wiring(&system), 1)?;
+        Some((system, patch))
+    });
+    planned.into_iter().chain(given).collect()
+}
+
+fn planned_patches() -> Vec<(System, Patch)> {
     [
         ("x' = 0", 0),
         ("x' = x^4 + x^3", 2),
@@ -48,11 +88,11 @@ pub fn patches() -> Vec<(System, Patch)> {
         ("x1' = x2^4, x2' = x1^2", 3),
         ("x' = y z - y + x^2 y + x, y' = 3 x z + x - x^3 + y, z' = -2 z - 2 x y z", 3),
         ("x1' = 3 x2^2 x4 x5^5 x6^5 + 2 x6^3 + x1 x3^3 x6^5 - x2^2 x6^4, x5' = -1", 6),
-        (crowded, 4),
+        (CROWDED, 4),
     ]
     .into_iter()
     .map(|(text, cards)| {
-        let system = system(text);
+        let system = tests::system(text);
         let answer = plan(&system, &Settings { cards: cards.into(), ..Settings::default() });
         let patch = Patch::of(&system, &answer, 1).unwrap();
         (system, patch)

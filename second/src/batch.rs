@@ -5,13 +5,13 @@
 //!
 //! | bytes | meaning |
 //! |---|---|
-//! | 0 | operation: 1 plan, 2 check, 3 wire, 4 thin |
+//! | 0 | operation: 1 plan, 2 wire, 3 thin |
 //! | 1 | length of the set |
 //! | 2-3 | length of the terms, at most 600 |
 //! | 4-7 | length of the answer buffer, at most 65,536 |
 //! | 8-15, 16-23, 24-31 | n, K, limit (the last two are planning's alone) |
 
-use crate::operations::{check, plan, thin, wire};
+use crate::operations::{plan, thin, wire};
 use crate::reply::Reply;
 use std::fmt::Write;
 
@@ -26,27 +26,20 @@ const MOST_SHOWN_BYTES: usize = 72;
 /// shows in the answer.
 pub const UNTOUCHED: u8 = 165;
 
-/// The four operations by their numbers in a batch.
-#[derive(Clone, Copy, PartialEq, Eq, PartialOrd, Ord, Debug)]
+/// The three operations by their numbers in a batch.
+#[derive(Clone, Copy, PartialEq, Eq, Hash, Debug)]
 pub enum Operation {
     Plan = 1,
-    Check = 2,
-    Wire = 3,
-    Thin = 4,
+    Wire = 2,
+    Thin = 3,
 }
 
 impl Operation {
-    pub const ALL: [Operation; 4] = [
-        Operation::Plan,
-        Operation::Check,
-        Operation::Wire,
-        Operation::Thin,
-    ];
+    pub const ALL: [Operation; 3] = [Operation::Plan, Operation::Wire, Operation::Thin];
 
     pub fn name(self) -> &'static str {
         match self {
             Operation::Plan => "plan",
-            Operation::Check => "check",
             Operation::Wire => "wire",
             Operation::Thin => "thin",
         }
@@ -54,7 +47,7 @@ impl Operation {
 }
 
 /// One case of a batch.
-#[derive(Clone, PartialEq, Eq, Debug)]
+#[derive(Clone, PartialEq, Eq, Hash, Debug)]
 pub struct Case {
     pub operation: Operation,
     pub n: u64,
@@ -78,31 +71,22 @@ impl Case {
         }
     }
 
-    pub fn check(n: u64, terms: Vec<u8>, set: Vec<u8>) -> Case {
-        Case {
-            operation: Operation::Check,
-            n,
-            cap: 0,
-            limit: 0,
-            buffer: 0,
-            terms,
-            set,
-        }
-    }
-
     pub fn wire(n: u64, terms: Vec<u8>, set: Vec<u8>, buffer: usize) -> Case {
         Case {
             operation: Operation::Wire,
+            n,
+            cap: 0,
+            limit: 0,
             buffer,
-            ..Case::check(n, terms, set)
+            terms,
+            set,
         }
     }
 
     pub fn thin(n: u64, terms: Vec<u8>, set: Vec<u8>, buffer: usize) -> Case {
         Case {
             operation: Operation::Thin,
-            buffer,
-            ..Case::check(n, terms, set)
+            ..Case::wire(n, terms, set, buffer)
         }
     }
 
@@ -119,15 +103,11 @@ impl Case {
         batch.extend(&self.set);
     }
 
-    /// The reply, and the buffer after the call (empty for checking).
+    /// The reply, and the buffer after the call.
     pub fn answer(&self) -> (Reply, Vec<u8>) {
         let mut buffer = vec![UNTOUCHED; self.buffer];
         let reply = match self.operation {
             Operation::Plan => plan(self.n, self.cap, self.limit, &self.terms, &mut buffer),
-            Operation::Check => {
-                buffer.clear();
-                check(self.n, &self.terms, &self.set)
-            }
             Operation::Wire => wire(self.n, &self.terms, &self.set, &mut buffer),
             Operation::Thin => thin(self.n, &self.terms, &self.set, &mut buffer),
         };
@@ -137,10 +117,7 @@ impl Case {
     /// The answer as a line, without its newline.
     pub fn line(&self) -> String {
         let (reply, buffer) = self.answer();
-        match self.operation {
-            Operation::Check => reply.to_string(),
-            _ => format!("{reply} {}", written(&buffer)),
-        }
+        format!("{reply} {}", written(&buffer))
     }
 }
 
@@ -266,9 +243,9 @@ mod tests {
         vec![
             Case::plan(1, 6, 1_000_000, 40, vec![]),
             Case::plan(u64::MAX, 1 << 32, 1 << 63, 65_536, (0..=254).collect()),
-            Case::check(3, vec![5; 600], vec![9; 255]),
+            Case::wire(3, vec![5; 600], vec![9; 255], 7),
             Case::wire(6, vec![1; 12], vec![0; 36], 1_792),
-            Case::check(0, vec![], vec![]),
+            Case::wire(0, vec![], vec![], 0),
             Case::thin(2, vec![3; 24], vec![2; 36], 71),
         ]
     }
@@ -301,7 +278,7 @@ mod tests {
             set: vec![8; 36],
         }
         .write(&mut batch);
-        assert_eq!(batch[..8], [3, 36, 1, 2, 0, 0, 1, 0]);
+        assert_eq!(batch[..8], [2, 36, 1, 2, 0, 0, 1, 0]);
         assert_eq!(batch[8..16], [1, 2, 3, 4, 5, 6, 7, 8]);
         assert_eq!(batch[16..24], [2, 0, 0, 0, 0, 0, 0, 0]);
         assert_eq!(batch[24..32], [9, 10, 0, 0, 0, 0, 0, 0]);
@@ -332,10 +309,10 @@ mod tests {
         assert_eq!(planned.line(), format!("0 0 1 1 0 {}", "00".repeat(40)));
         let refused = Case::plan(MOST_N + 1, 6, 1_000_000, 3, vec![]);
         assert_eq!(refused.line(), "1 0 0 0 0 000000");
-        let checked = Case::check(1, vec![], vec![0; SET_BYTES]);
-        assert_eq!(checked.line(), "0 0 0 0 0");
         let wired = Case::wire(1, vec![], vec![0; SET_BYTES], 0);
         assert_eq!(wired.line(), "0 0 0 0 0 -");
+        let short = Case::wire(1, vec![], vec![0; SET_BYTES], 7);
+        assert_eq!(short.line(), format!("0 0 0 0 0 {}", "00".repeat(7)));
         let thinned = Case::thin(1, vec![], vec![0; SET_BYTES], 37);
         assert_eq!(thinned.line(), format!("0 0 1 1 0 {}", "00".repeat(37)));
         let full = Case::thin(1, vec![], vec![0; SET_BYTES], 2);
@@ -344,7 +321,7 @@ mod tests {
 
     #[test]
     fn a_broken_case_ends_the_answers() {
-        let good = write_batch(&[Case::check(1, vec![], vec![0; SET_BYTES])]);
+        let good = write_batch(&[Case::wire(1, vec![], vec![0; SET_BYTES], 0)]);
         let mut unknown = good.clone();
         unknown[0] = Operation::ALL.len() as u8 + 1;
         let mut none = good.clone();
@@ -358,11 +335,11 @@ mod tests {
         let short_set = good[..good.len() - 1].to_vec();
         for broken in [unknown, none, long_terms, long_buffer] {
             let batch = [good.clone(), broken, good.clone()].concat();
-            assert_eq!(lines(&batch), ["0 0 0 0 0", BROKEN_LINE]);
+            assert_eq!(lines(&batch), ["0 0 0 0 0 -", BROKEN_LINE]);
         }
         for cut in [short_head, short_set] {
             let batch = [good.clone(), cut].concat();
-            assert_eq!(lines(&batch), ["0 0 0 0 0", BROKEN_LINE]);
+            assert_eq!(lines(&batch), ["0 0 0 0 0 -", BROKEN_LINE]);
         }
         assert!(lines(&[]).is_empty());
     }

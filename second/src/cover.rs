@@ -5,8 +5,8 @@ use crate::batch::{Case, Operation};
 use crate::monomial::Monomial;
 use crate::operations::{cap_is_in_range, limit_is_in_range, n_is_in_range};
 use crate::panel::{
-    MOST_COEFFICIENT, MOST_EXPONENT, MOST_LIMIT, MOST_SET_EXPONENT, SET_BYTES, TERM_BYTES,
-    WIRE_BYTES,
+    MOST_COEFFICIENT, MOST_EXPONENT, MOST_LIMIT, MOST_SET_EXPONENT, MOST_WIRES_BYTES, SET_BYTES,
+    TERM_BYTES, WIRE_BYTES,
 };
 use crate::records::{
     read_set, read_terms, set_faults, set_places, terms_have_a_length, Fields, SetFault, TermFault,
@@ -15,6 +15,7 @@ use crate::reply::{Reply, NAMES};
 use crate::system::{Set, System, Term};
 use crate::thin_cover::Thinning;
 use crate::thinning::thinned;
+use crate::wire_cover::Derivatives;
 use std::collections::{BTreeMap, BTreeSet};
 
 /// Counts and sets of numbers by name.
@@ -43,6 +44,9 @@ impl Cover {
         self.steps += reply.steps;
         let name = NAMES[reply.code as usize];
         self.count(format!("{operation}: code {} {name}", reply.code));
+        if case.operation == Operation::Wire {
+            self.lent(case, &reply);
+        }
         match reply.code {
             1 => self.setting(case),
             2 => self.length(case),
@@ -52,6 +56,9 @@ impl Cover {
                 self.number(format!("{operation}: places of code 9"), reply.place);
                 let which = format!("code 9, n {}, size {}: places", case.n, reply.order);
                 self.number(which, reply.place);
+                if case.operation == Operation::Wire {
+                    self.derivatives(case);
+                }
             }
             _ => self.taken(case, &reply),
         }
@@ -59,6 +66,22 @@ impl Cover {
         if let Some((system, set)) = good_input(case) {
             self.system(case, &system, &set);
         }
+    }
+
+    /// What is lent to wiring, by the code that answers it.
+    fn lent(&mut self, case: &Case, reply: &Reply) {
+        let code = reply.code;
+        if case.buffer <= WIRE_BYTES + 1 {
+            let name = format!("wire: code {code}, bytes about a record");
+            self.number(name, case.buffer as u64);
+        }
+        let room = match case.buffer {
+            0 => "no bytes",
+            1..WIRE_BYTES => "bytes without room",
+            WIRE_BYTES..MOST_WIRES_BYTES => "some room",
+            _ => "room for any list",
+        };
+        self.count(format!("wire: code {code}, {room}"));
     }
 
     fn setting(&mut self, case: &Case) {
@@ -145,7 +168,6 @@ impl Cover {
     /// Codes 0, 5, 6 and 7: how near the case is to its limit and its room.
     fn taken(&mut self, case: &Case, reply: &Reply) {
         match case.operation {
-            Operation::Check => self.number("check: sizes of quadratic sets", reply.order),
             Operation::Plan => self.planned(case, reply),
             Operation::Wire => self.wired(case, reply),
             Operation::Thin => self.thinned(case, reply),
@@ -212,21 +234,23 @@ impl Cover {
     }
 
     fn wired(&mut self, case: &Case, reply: &Reply) {
-        if reply.code == 0 {
-            self.number("wire: sizes of quadratic sets", reply.order);
-            self.number("wire: lengths of lists", reply.count);
-            match case.buffer - reply.count as usize * WIRE_BYTES {
-                0 => self.count("wire: list exactly as long as the buffer"),
-                1 => self.count("wire: buffer one byte longer"),
-                _ => {}
-            }
-        } else {
-            let mut more = case.clone();
-            more.buffer += 1;
-            if more.answer().0.code == 0 {
-                self.count("wire: buffer one byte short");
-            }
+        self.number("wire: sizes of quadratic sets", reply.order);
+        let count = self.derivatives(case).count();
+        self.number("wire: lengths of lists", count as u64);
+        if count == 0 {
+            let name = format!("wire, n {}: sizes with an empty list", case.n);
+            self.number(name, reply.order);
         }
+    }
+
+    /// What the derivatives of a wiring are an example of.
+    fn derivatives(&mut self, case: &Case) -> Derivatives {
+        let (system, set) = good_input(case).expect("the input is not refused");
+        let derivatives = Derivatives::of(&system, &set);
+        for name in derivatives.names(case.buffer) {
+            self.count(format!("wire: {name}"));
+        }
+        derivatives
     }
 
     fn thinned(&mut self, case: &Case, reply: &Reply) {
@@ -395,16 +419,16 @@ fn all_faults(case: &Case) -> BTreeSet<u64> {
         codes.insert(8);
     }
     if let Some((system, set)) = good_input(case).filter(|_| !planning) {
-        if system.first_not_quadratic(&set).is_some() {
+        if !system.is_quadratic(&set) {
             codes.insert(9);
         }
-        let signals = system.signals(&set);
-        let records: usize = signals.iter().map(|&z| system.derivative(z).len()).sum();
+        let records = Derivatives::of(&system, &set).count();
         if case.operation == Operation::Wire && records > case.buffer / WIRE_BYTES {
             codes.insert(6);
         }
         if case.operation == Operation::Thin {
-            let list = thinned(&system, &set).map_or(0, |found| found.subsets.len());
+            let found = thinned(&set, |subset| system.is_quadratic(subset));
+            let list = found.map_or(0, |found| found.subsets.len());
             if list > case.buffer / SET_BYTES {
                 codes.insert(6);
             }
@@ -415,14 +439,7 @@ fn all_faults(case: &Case) -> BTreeSet<u64> {
 
 /// Whether like monomials in the derivative of z add up to nothing.
 fn cancels(system: &System, z: Monomial) -> bool {
-    let fed = |t: &&Term| z.0[t.equation - 1] > 0;
-    let monomials: BTreeSet<Monomial> = system
-        .terms
-        .iter()
-        .filter(fed)
-        .map(|t| z.over(Monomial::variable(t.equation)).times(t.monomial))
-        .collect();
-    system.derivative(z).len() < monomials.len()
+    system.totals(z).values().any(|&total| total == 0)
 }
 
 /// Numbers as runs: `1-5 7 9-10`.
@@ -475,6 +492,33 @@ mod tests {
     }
 
     #[test]
+    fn buffers_of_wiring_are_recognised() {
+        let input = write_terms(&terms("x1' = x1^3"));
+        let wire = |buffer| Case::wire(1, input.clone(), set_of(&["x1^2"]), buffer);
+        let text = report_of(&[0, 7, 8, 15, 16, 17, MOST_WIRES_BYTES].map(wire));
+        for line in [
+            "wire: code 0 done: 3",
+            "wire: code 6 full: 4",
+            "wire: code 6, no bytes: 1",
+            "wire: code 6, bytes without room: 1",
+            "wire: code 6, some room: 2",
+            "wire: code 6, bytes about a record: 0 7-8 (3)",
+            "wire: code 0, some room: 2",
+            "wire: code 0, room for any list: 1",
+            "wire: buffer one record short: 1",
+            "wire: buffer one byte short: 1",
+            "wire: list exactly as long as the buffer: 1",
+            "wire: buffer one byte longer: 1",
+            "wire: full with room for some: 2",
+            "wire: lengths of lists: 2 (1)",
+        ] {
+            assert!(text.lines().any(|l| l == line), "{line} in\n{text}");
+        }
+        let empty = Case::wire(1, Vec::new(), set_of(&["x1^2"]), 0);
+        assert!(report_of(&[empty]).contains("wire, n 1: sizes with an empty list: 1 (1)\n"));
+    }
+
+    #[test]
     fn buffers_of_thinning_are_recognised() {
         let input = write_terms(&terms("x1' = x1^4 + x1^3"));
         let set = set_of(&["x1^2", "x1^3", "x1^4"]);
@@ -510,7 +554,7 @@ mod tests {
     #[test]
     fn every_fault_of_a_case_is_named() {
         let wrong = write_terms(&terms("x1' = x1^10"));
-        let case = Case::check(1, wrong, set_of(&["x1"]));
+        let case = Case::wire(1, wrong, set_of(&["x1"]), 0);
         assert_eq!(all_faults(&case), BTreeSet::from([3, 8]));
         assert!(report_of(&[case]).contains("checks: 3 before 8: 1\n"));
     }

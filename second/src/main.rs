@@ -6,6 +6,7 @@ mod cover;
 mod damage;
 mod maker;
 mod monomial;
+mod no_room;
 mod notation;
 mod operations;
 mod panel;
@@ -24,6 +25,9 @@ mod thin_rows;
 mod thin_worked;
 mod thinning;
 mod walk;
+mod wire_cover;
+mod wire_maker;
+mod wire_rows;
 mod wiring;
 #[cfg(test)]
 mod worked;

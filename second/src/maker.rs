@@ -7,6 +7,7 @@
 use crate::batch::{Case, Operation, MOST_CASE_BUFFER};
 use crate::damage::{break_set, break_term, Field, FIELDS, WAYS};
 use crate::monomial::Monomial;
+use crate::no_room::NoRoom;
 use crate::panel::{
     CARDS, COEFFICIENT_AT, MOST_CAP, MOST_COEFFICIENT, MOST_LIMIT, MOST_N, MOST_TERMS,
     MOST_TERMS_BYTES, MOST_WIRES_BYTES, SET_BYTES, TERM_BYTES, VARIABLES, WIRE_BYTES,
@@ -17,10 +18,11 @@ use crate::rows::rows;
 use crate::system::{Set, System};
 use crate::systems;
 use crate::thin_maker::THINNING;
+use crate::wire_maker::WIRING;
 
 /// The random cases that are stored with the fixed rows.
 const STORED_SEED: u64 = 1;
-const STORED_COUNT: usize = 3_850;
+const STORED_COUNT: usize = 4_400;
 
 /// The batch that is stored: the fixed rows, then random cases.
 pub fn stored() -> Vec<Case> {
@@ -29,25 +31,33 @@ pub fn stored() -> Vec<Case> {
     cases
 }
 
-/// Each seventh case is one of thinning.
-const THINNING_EVERY: usize = 7;
+/// Of each eight cases the seventh is one of thinning, and the last is one of
+/// verdict and wiring together.
+const ROUND: usize = 8;
 
 /// The first so many cases that a seed gives.
 pub fn batch(seed: u64, count: usize) -> Vec<Case> {
-    let share = count / THINNING_EVERY;
-    let mut thin = thinnings(seed, share).into_iter();
-    let mut other = first_cases(seed, &PLANNING, count - share).into_iter();
-    let case = |number: usize| match number.is_multiple_of(THINNING_EVERY) {
-        true => thin.next().expect("one of each seven"),
-        false => other.next().expect("six of each seven"),
+    let (thinnings, wirings) = ((count + 1) / ROUND, count / ROUND);
+    let mut thin = first_thinnings(seed, thinnings).into_iter();
+    let mut wire = first_wirings(seed, wirings).into_iter();
+    let mut other = first_cases(seed, &PLANNING, count - thinnings - wirings).into_iter();
+    let case = |number: usize| match number % ROUND {
+        7 => thin.next().expect("one of each eight"),
+        0 => wire.next().expect("one of each eight"),
+        _ => other.next().expect("six of each eight"),
     };
     (1..=count).map(case).collect()
 }
 
 /// The cases of thinning among them. Their random numbers are their own, so that
-/// the other operations have the same cases with them as they had without.
-pub fn thinnings(seed: u64, count: usize) -> Vec<Case> {
+/// the others are the same cases with them as they were without.
+fn first_thinnings(seed: u64, count: usize) -> Vec<Case> {
     first_cases(!seed, &THINNING, count)
+}
+
+/// The cases of verdict and wiring together, with random numbers of their own.
+fn first_wirings(seed: u64, count: usize) -> Vec<Case> {
+    first_cases(seed.rotate_left(32), &WIRING, count)
 }
 
 fn first_cases(seed: u64, mix: &'static Mix, count: usize) -> Vec<Case> {
@@ -61,7 +71,10 @@ fn first_cases(seed: u64, mix: &'static Mix, count: usize) -> Vec<Case> {
         lengths: 0,
         settings: 0,
         sets: 0,
+        no_room: NoRoom::default(),
+        noted: 0,
     };
+    maker.no_room.note(&rows());
     while maker.cases.len() < count {
         maker.group();
     }
@@ -72,20 +85,29 @@ fn first_cases(seed: u64, mix: &'static Mix, count: usize) -> Vec<Case> {
 /// A kind of group: it adds one case or several.
 type Group = fn(&mut Maker);
 
+/// What a case asks for. The verdict alone is asked of wiring, without room.
+#[derive(Clone, Copy, PartialEq, Eq, Debug)]
+pub enum Ask {
+    Plan,
+    Verdict,
+    Wire,
+    Thin,
+}
+
 /// What a run of cases is made of.
 pub struct Mix {
-    pub operations: &'static [Operation],
-    /// Those of the operations that are given a set.
-    pub given: &'static [Operation],
+    pub asks: &'static [Ask],
+    /// Those that are given a set.
+    pub given: &'static [Ask],
     /// How often each kind of group comes in a hundred.
     pub shares: &'static [(usize, Group)],
 }
 
-/// Planning, checking and wiring. With these shares some 3,500 cases go through
-/// every turn, and half of them are stories of a system or a set.
+/// Planning and wiring. With these shares some 3,500 cases go through every turn,
+/// and half of them are stories of a system or a set.
 const PLANNING: Mix = Mix {
-    operations: &[Operation::Plan, Operation::Check, Operation::Wire],
-    given: &[Operation::Check, Operation::Wire],
+    asks: &[Ask::Plan, Ask::Verdict, Ask::Wire],
+    given: &[Ask::Verdict, Ask::Wire],
     shares: &[
         (15, Maker::around_a_plan),
         (8, Maker::around_a_set),
@@ -159,6 +181,9 @@ pub struct Maker {
     lengths: usize,
     settings: usize,
     sets: usize,
+    no_room: NoRoom,
+    /// How many cases it has taken note of.
+    noted: usize,
 }
 
 /// A turn: the counter's value, which moves on.
@@ -341,16 +366,15 @@ impl Maker {
         members.into_iter().collect()
     }
 
-    /// Checks a good set record or wires it, around the list's own length.
+    /// Wires a good set record around the list's own length, and often asks for
+    /// its verdict alone.
     fn with_set(&mut self, system: &System, set: &Set) {
-        let terms = write_terms(&system.terms);
-        let set = write_set(set).to_vec();
-        let n = system.n as u64;
-        let longest = Case::wire(n, terms.clone(), set.clone(), MOST_WIRES_BYTES);
-        let (reply, _) = longest.answer();
-        if self.random.chance(40) {
-            self.cases.push(Case::check(n, terms.clone(), set.clone()));
-        }
+        let wire = |buffer| {
+            let set = write_set(set).to_vec();
+            Case::wire(system.n as u64, write_terms(&system.terms), set, buffer)
+        };
+        let (reply, _) = wire(MOST_WIRES_BYTES).answer();
+        let judged = self.random.chance(40);
         let exact = reply.count as usize * WIRE_BYTES;
         let lengths = [
             exact,
@@ -362,10 +386,12 @@ impl Maker {
             self.random.below(80),
             MOST_WIRES_BYTES,
         ];
-        for _ in 0..self.random.between(1, 2) {
-            let buffer = self.random.pick(&lengths);
-            self.cases
-                .push(Case::wire(n, terms.clone(), set.clone(), buffer));
+        let times = self.random.between(1, 2);
+        let buffers: Vec<usize> = (0..times).map(|_| self.random.pick(&lengths)).collect();
+        self.cases.extend(buffers.into_iter().map(wire));
+        if judged {
+            let verdict = self.judge(wire(0));
+            self.cases.push(verdict);
         }
     }
 
@@ -401,38 +427,46 @@ impl Maker {
 
     /// Any operation on these terms, with an ordinary rest.
     fn any_operation(&mut self, n: u64, terms: Vec<u8>) -> Case {
-        let operation = self.random.pick(self.mix.operations);
-        self.operation(operation, n, terms)
+        let ask = self.random.pick(self.mix.asks);
+        self.operation(ask, n, terms)
     }
 
-    fn operation(&mut self, operation: Operation, n: u64, terms: Vec<u8>) -> Case {
+    fn operation(&mut self, ask: Ask, n: u64, terms: Vec<u8>) -> Case {
         let buffer = self.random.below(100);
         let size = self.random.below(3);
         let variables = n.clamp(1, MOST_N) as usize;
         let set = write_set(&systems::set(&mut self.random, variables, size)).to_vec();
-        match operation {
-            Operation::Plan => {
+        match ask {
+            Ask::Plan => {
                 let cap = self.any_cap();
                 Case::plan(n, cap, 100, buffer, terms)
             }
-            Operation::Check => Case::check(n, terms, set),
-            Operation::Wire => Case::wire(n, terms, set, buffer),
-            Operation::Thin => Case::thin(n, terms, set, buffer),
+            _ => self.given(ask, n, terms, set, buffer),
         }
     }
 
-    /// The operation whose turn it is.
-    fn operation_by(&self, turn: usize) -> Operation {
-        self.mix.operations[turn % self.mix.operations.len()]
+    /// The ask whose turn it is.
+    fn ask_by(&self, turn: usize) -> Ask {
+        self.mix.asks[turn % self.mix.asks.len()]
     }
 
-    /// The operation on a given set whose turn it is.
-    fn given_by(&self, turn: usize, n: usize, terms: Vec<u8>, set: Vec<u8>, room: usize) -> Case {
-        let n = n as u64;
-        match self.mix.given[turn % self.mix.given.len()] {
-            Operation::Thin => Case::thin(n, terms, set, room),
-            Operation::Wire => Case::wire(n, terms, set, room),
-            _ => Case::check(n, terms, set),
+    /// The ask on a given set whose turn it is.
+    fn given_by(&self, turn: usize) -> Ask {
+        self.mix.given[turn % self.mix.given.len()]
+    }
+
+    /// The verdict alone on what a wiring is given, asked as by no case before.
+    pub fn judge(&mut self, wiring: Case) -> Case {
+        self.no_room.note(&self.cases[self.noted..]);
+        self.noted = self.cases.len();
+        self.no_room.judge(wiring)
+    }
+
+    fn given(&mut self, ask: Ask, n: u64, terms: Vec<u8>, set: Vec<u8>, buffer: usize) -> Case {
+        match ask {
+            Ask::Thin => Case::thin(n, terms, set, buffer),
+            Ask::Verdict => self.judge(Case::wire(n, terms, set, buffer)),
+            _ => Case::wire(n, terms, set, buffer),
         }
     }
 
@@ -459,7 +493,7 @@ impl Maker {
         };
         let (n, mut terms) = self.run_to(place, most_variables);
         break_term(&mut self.random, &mut terms, n, place, field);
-        let case = self.operation(self.operation_by(turn), n as u64, terms);
+        let case = self.operation(self.ask_by(turn), n as u64, terms);
         self.cases.push(case);
     }
 
@@ -487,7 +521,7 @@ impl Maker {
             let coefficient = self.random.between(5, MOST_COEFFICIENT as usize - 10) as i32;
             terms[at].copy_from_slice(&coefficient.to_le_bytes());
         }
-        let case = self.operation(self.operation_by(turn), n as u64, terms);
+        let case = self.operation(self.ask_by(turn), n as u64, terms);
         self.cases.push(case);
     }
 
@@ -536,7 +570,8 @@ impl Maker {
             let system = systems::any(&mut self.random);
             let terms = write_terms(&system.terms);
             let which = usize::from(!self.random.chance(50));
-            let case = self.given_by(which, system.n, terms, vec![0; length], 50);
+            let ask = self.given_by(which);
+            let case = self.given(ask, system.n as u64, terms, vec![0; length], 50);
             self.cases.push(case);
         }
     }
@@ -547,7 +582,7 @@ impl Maker {
         let n = self.random.between(1, VARIABLES);
         let count = self.random.below(3);
         let terms = write_terms(&systems::run(&mut self.random, n, count).terms);
-        let values = match self.mix.operations.contains(&Operation::Plan) {
+        let values = match self.mix.asks.contains(&Ask::Plan) {
             true => BAD_N.len() + BAD_CAP.len() + BAD_LIMIT.len(),
             false => BAD_N.len(),
         };
@@ -582,7 +617,7 @@ impl Maker {
         let set = write_places(&members).to_vec();
         let buffer = self.random.below(100);
         let rounds = turn / (WAYS.len() * CARDS);
-        let case = self.given_by(rounds, n, terms, set, buffer);
+        let case = self.given(self.given_by(rounds), n as u64, terms, set, buffer);
         self.cases.push(case);
     }
 
@@ -656,63 +691,155 @@ mod tests {
     }
 
     #[test]
-    fn thinning_has_its_own_places_and_changes_no_other_case() {
-        let cases = batch(5, 210);
-        let is_thin = |case: &&Case| case.operation == Operation::Thin;
-        for (index, case) in cases.iter().enumerate() {
-            assert_eq!(is_thin(&case), (index + 1) % THINNING_EVERY == 0);
+    fn each_run_of_cases_has_its_own_places_and_changes_no_other() {
+        let mut runs = [Vec::new(), Vec::new(), Vec::new()];
+        for (index, case) in batch(5, 240).into_iter().enumerate() {
+            runs[(index % ROUND).saturating_sub(5)].push(case);
         }
-        let others: Vec<Case> = cases.into_iter().filter(|c| !is_thin(&c)).collect();
+        let [others, thin, wire] = runs;
         assert_eq!(others, first_cases(5, &PLANNING, 180));
+        assert_eq!(thin, first_thinnings(5, 30));
+        assert_eq!(wire, first_wirings(5, 30));
+        assert!(thin.iter().all(|case| case.operation == Operation::Thin));
+        assert!(wire.iter().all(|case| case.operation == Operation::Wire));
     }
 
-    /// What the stored cases of thinning cover, without the long walks of the
-    /// rest.
-    fn stored_cover() -> &'static str {
+    /// What the stored cases of an operation cover: the fixed rows and its own run
+    /// of random ones, without the long walks of the rest.
+    fn cover_of(operation: Operation, run: fn(u64, usize) -> Vec<Case>) -> String {
+        let mut cases = rows();
+        cases.retain(|case| case.operation == operation);
+        cases.extend(run(STORED_SEED, STORED_COUNT / ROUND));
+        report_of(&cases)
+    }
+
+    fn thin_cover() -> &'static str {
         static REPORT: OnceLock<String> = OnceLock::new();
-        REPORT.get_or_init(|| {
-            let mut cases = rows();
-            cases.retain(|case| case.operation == Operation::Thin);
-            cases.extend(thinnings(STORED_SEED, STORED_COUNT / THINNING_EVERY));
-            report_of(&cases)
-        })
+        REPORT.get_or_init(|| cover_of(Operation::Thin, first_thinnings))
+    }
+
+    fn wire_cover() -> &'static str {
+        static REPORT: OnceLock<String> = OnceLock::new();
+        REPORT.get_or_init(|| cover_of(Operation::Wire, first_wirings))
+    }
+
+    /// Fails for each line that a report does not have.
+    fn assert_lines(report: &str, mut lines: Vec<String>) {
+        lines.retain(|line| !report.lines().any(|l| l == line));
+        assert!(lines.is_empty(), "{lines:?} not in\n{report}");
+    }
+
+    /// Fails for a name that a report counts less often.
+    fn assert_count(report: &str, name: &str, least: usize) {
+        let counts = report
+            .lines()
+            .filter_map(|line| line.strip_prefix(name)?.strip_prefix(": "));
+        let count: usize = counts.map(|count| count.parse::<usize>().unwrap()).sum();
+        assert!(count >= least, "{name}: {count} in\n{report}");
+    }
+
+    /// Code 9 at every place, for every n and size.
+    fn places_of_code_9() -> Vec<String> {
+        let mut lines = Vec::new();
+        for n in 1..=VARIABLES {
+            for size in 0..=CARDS {
+                let places = match n + size {
+                    1 => "1 (1)".to_string(),
+                    most => format!("1-{most} ({most})"),
+                };
+                lines.push(format!("code 9, n {n}, size {size}: places: {places}"));
+            }
+        }
+        lines
+    }
+
+    #[test]
+    fn what_is_stored_of_wiring_covers_its_codes_and_places() {
+        let mut lines = places_of_code_9();
+        lines.push("wire: sizes of quadratic sets: 0-6 (7)".to_string());
+        lines.push("wire: n of answers: 1-6 (6)".to_string());
+        for n in 1..=VARIABLES {
+            lines.push(format!("wire, n {n}: sizes with an empty list: 0-6 (7)"));
+        }
+        for code in CODES_WITH_A_SET {
+            lines.push(format!("wire: code {code}, bytes about a record: 0-9 (10)"));
+        }
+        assert_lines(wire_cover(), lines);
+    }
+
+    const CODES_WITH_A_SET: [usize; 8] = [0, 1, 2, 3, 4, 6, 8, 9];
+
+    /// Counts that would show if a kind of wiring got lost.
+    #[test]
+    fn what_is_stored_of_wiring_covers_its_kinds() {
+        let report = wire_cover();
+        for name in [
+            "checks: 1 before 2",
+            "checks: 2 before 3",
+            "checks: 3 before 8",
+            "checks: 4 before 8",
+            "checks: 9 before 6",
+            "wire: 9 after an earlier left variable's records with room",
+            "wire: 9 after records of the same left variable with room",
+            "wire: 9 after what is no product vanishes",
+            "wire: 9 at the first monomial",
+            "wire: 9 at the last monomial of all",
+            "wire: 9 in the last left variable's derivative",
+            "wire: 9 where a record of the same left variable has no room",
+            "wire: 9 where an earlier left variable's record has no room",
+            "wire: 9 where the room would end after it",
+            "wire: 9 with a later one",
+            "wire: 9 with room for all",
+            "wire: a member's derivative cancels",
+            "wire: a product vanishes",
+            "wire: a product vanishes and would have no room",
+            "wire: an empty list into no bytes",
+            "wire: buffer one byte longer",
+            "wire: buffer one byte short",
+            "wire: buffer one record short",
+            "wire: full with room for some",
+            "wire: list exactly as long as the buffer",
+            "wire: what is no product vanishes",
+            "wire: what is no product vanishes and would have no room",
+        ] {
+            assert_count(report, name, 3);
+        }
+        for code in CODES_WITH_A_SET {
+            assert_count(report, &format!("wire: code {code} {}", NAMES[code]), 30);
+            for room in ["no bytes", "bytes without room", "some room"] {
+                assert_count(report, &format!("wire: code {code}, {room}"), 3);
+            }
+            // The longest list has room there.
+            if code != 6 {
+                assert_count(report, &format!("wire: code {code}, room for any list"), 3);
+            }
+        }
+        assert!(!report.contains("code 6, room for any list"));
     }
 
     #[test]
     fn what_is_stored_of_thinning_covers_its_codes_and_places() {
-        let report = stored_cover();
-        let mut missing = vec![
+        let report = thin_cover();
+        let mut lines = places_of_code_9();
+        lines.extend([
             "thin: places of code 3: 1-32 (32)".to_string(),
             "thin: places of code 4: 2-32 (31)".to_string(),
             "thin: n of answers: 1-6 (6)".to_string(),
-        ];
+        ]);
         for size in 0..=CARDS {
             let orders = match size {
                 0 => "0 (1)".to_string(),
                 _ => format!("0-{size} ({})", size + 1),
             };
-            missing.push(format!("thin, size {size}: orders: {orders}"));
-            for n in 1..=VARIABLES {
-                let places = match n + size {
-                    1 => "1 (1)".to_string(),
-                    most => format!("1-{most} ({most})"),
-                };
-                missing.push(format!("code 9, n {n}, size {size}: places: {places}"));
-            }
+            lines.push(format!("thin, size {size}: orders: {orders}"));
         }
-        missing.retain(|line| !report.lines().any(|l| l == line));
-        assert!(missing.is_empty(), "{missing:?} not in\n{report}");
+        assert_lines(report, lines);
     }
 
     /// Counts that would show if a kind of thinning got lost.
     #[test]
     fn what_is_stored_of_thinning_covers_its_kinds() {
-        let report = stored_cover();
-        let count = |name: &str| -> usize {
-            let lines = report.lines();
-            let counts = lines.filter_map(|line| line.strip_prefix(name)?.strip_prefix(": "));
-            counts.map(|count| count.parse::<usize>().unwrap()).sum()
-        };
+        let report = thin_cover();
         for name in [
             "checks: 1 before 2",
             "checks: 2 before 3",
@@ -745,11 +872,10 @@ mod tests {
             "thin: signals can go together and none alone",
             "thin: some signals can go",
         ] {
-            assert!(count(name) >= 2, "{name} in\n{report}");
+            assert_count(report, name, 2);
         }
-        for code in [0, 1, 2, 3, 4, 6, 8, 9] {
-            let name = format!("thin: code {code} {}", NAMES[code]);
-            assert!(count(&name) >= 30, "{name} in\n{report}");
+        for code in CODES_WITH_A_SET {
+            assert_count(report, &format!("thin: code {code} {}", NAMES[code]), 30);
         }
         assert!(report.contains("\nthin: counts of subsets: 1-12 (12)\n"));
     }

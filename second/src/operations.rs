@@ -1,9 +1,11 @@
-//! The four operations, with the checks in their sequence
-//! (document 01, What the box says; document 02, [1]).
+//! The three operations, with the checks in their sequence
+//! (document 01, What the box says; document 02, [1] and [2]).
 
 use crate::monomial::Monomial;
 use crate::panel::{MOST_CAP, MOST_LIMIT, MOST_N, SET_BYTES, WIRE_BYTES};
-use crate::records::{read_set, read_terms, terms_have_a_length, write_places, write_wire};
+use crate::records::{
+    read_set, read_terms, terms_have_a_length, write_places, write_set, write_wire,
+};
 use crate::reply::Reply;
 use crate::system::{Set, System};
 use crate::thinning::thinned;
@@ -65,7 +67,7 @@ fn list_sets(sets: &BTreeSet<Vec<Monomial>>, answer: &mut [u8]) {
     }
 }
 
-/// What checking, wiring and thinning share: the system and the set, or the refusal.
+/// The system and the set, or the refusal.
 fn given(n: u64, terms: &[u8], set: &[u8]) -> Result<(System, Set), Reply> {
     if !n_is_in_range(n) {
         return Err(Reply::bare(1));
@@ -75,62 +77,58 @@ fn given(n: u64, terms: &[u8], set: &[u8]) -> Result<(System, Set), Reply> {
     }
     let system = read_terms(n as usize, terms)?;
     let set = read_set(n as usize, set)?;
-    if let Some(left) = system.first_not_quadratic(&set) {
-        return Err(Reply {
-            code: 9,
-            order: set.len() as u64,
-            place: left as u64,
-            ..Reply::default()
-        });
-    }
     Ok((system, set))
 }
 
-/// Checking. It has no answer buffer.
-pub fn check(n: u64, terms: &[u8], set: &[u8]) -> Reply {
-    match given(n, terms, set) {
-        Err(refusal) => refusal,
-        Ok((_, set)) => Reply {
-            order: set.len() as u64,
-            ..Reply::default()
-        },
-    }
-}
-
-/// Wiring. Whatever the code, every byte of the answer is written.
+/// Wiring, and the verdict with it. Whatever the code, every byte of the answer
+/// is written.
 pub fn wire(n: u64, terms: &[u8], set: &[u8], answer: &mut [u8]) -> Reply {
     answer.fill(0);
     let (system, set) = match given(n, terms, set) {
         Ok(given) => given,
         Err(refusal) => return refusal,
     };
-    let order = set.len() as u64;
-    let list = wiring(&system, &set).expect("a quadratic set has a pair for each monomial");
+    let reply = Reply {
+        order: set.len() as u64,
+        ..Reply::default()
+    };
+    // The whole list comes first, so that the room is asked of quadratic sets
+    // alone and nothing is written of others.
+    let list = match wiring(&system, &set) {
+        Ok(list) => list,
+        Err(left) => {
+            return Reply {
+                code: 9,
+                place: left as u64,
+                ..reply
+            }
+        }
+    };
     if list.len() > answer.len() / WIRE_BYTES {
-        return Reply {
-            code: 6,
-            order,
-            ..Reply::default()
-        };
+        return Reply { code: 6, ..reply };
     }
     for (place, wire) in answer.chunks_mut(WIRE_BYTES).zip(&list) {
         place.copy_from_slice(&write_wire(wire));
     }
     Reply {
-        order,
         count: list.len() as u64,
-        ..Reply::default()
+        ..reply
     }
 }
 
 /// Thinning. Whatever the code, every byte of the answer is written.
 pub fn thin(n: u64, terms: &[u8], set: &[u8], answer: &mut [u8]) -> Reply {
     answer.fill(0);
-    let (system, set) = match given(n, terms, set) {
-        Ok(given) => given,
-        Err(refusal) => return refusal,
-    };
-    let thinned = thinned(&system, &set).expect("the given set is a subset of itself");
+    // Into an empty buffer wiring gives the verdict alone: full is quadratic too.
+    let verdict = |set: &[u8]| wire(n, terms, set, &mut []);
+    let quadratic = |reply: Reply| [0, 6].contains(&reply.code);
+    let judged = verdict(set);
+    if !quadratic(judged) {
+        return judged;
+    }
+    let set = read_set(n as usize, set).expect("a set that was judged");
+    let thinned = thinned(&set, |subset| quadratic(verdict(&write_set(subset))))
+        .expect("the given set is a subset of itself");
     let reply = Reply {
         order: thinned.order as u64,
         steps: thinned.steps,
@@ -152,7 +150,7 @@ mod tests {
     use crate::batch::UNTOUCHED;
     use crate::panel::{CARDS, MOST_WIRES_BYTES, VARIABLES};
     use crate::random::Random;
-    use crate::records::{read_wires, set_places, write_set, write_terms};
+    use crate::records::{read_wires, set_places, write_terms};
     use crate::systems;
     use std::collections::BTreeMap;
 
@@ -183,8 +181,9 @@ mod tests {
             assert!(places.windows(2).all(|two| two[0] < two[1]));
             for record in found {
                 let terms = write_terms(&system.terms);
-                let checked = check(system.n as u64, &terms, record);
-                assert_eq!(checked.numbers(), [0, reply.order, 0, 0, 0]);
+                let judged = wire(system.n as u64, &terms, record, &mut []);
+                let code = if terms.is_empty() { 0 } else { 6 };
+                assert_eq!(judged.numbers(), [code, reply.order, 0, 0, 0]);
             }
             assert!(sets[count * SET_BYTES..].iter().all(|&byte| byte == 0));
         }
@@ -209,6 +208,63 @@ mod tests {
                 assert_eq!(system.derivative(*signal), sum);
             }
         }
+    }
+
+    /// A system with a set that is quadratic, just not, or only by cancelling.
+    fn with_a_set(random: &mut Random) -> (System, Set) {
+        match random.below(3) {
+            0 => systems::decided_by_cancelling(random),
+            1 => systems::closed(random),
+            _ => {
+                let system = systems::any(random);
+                let size = random.between(0, CARDS);
+                let set = systems::set(random, system.n, size);
+                (system, set)
+            }
+        }
+    }
+
+    /// The first left variable whose derivative has a nonsquare, and the number of
+    /// all monomials in the derivatives.
+    fn judged(system: &System, set: &Set) -> (Option<usize>, usize) {
+        let nonsquares = system.nonsquares(set);
+        let derivatives: Vec<BTreeMap<Monomial, i64>> = system
+            .signals(set)
+            .iter()
+            .map(|&signal| system.derivative(signal))
+            .collect();
+        let has_one = |d: &BTreeMap<Monomial, i64>| d.keys().any(|m| nonsquares.contains(m));
+        let records = derivatives.iter().map(BTreeMap::len).sum();
+        (derivatives.iter().position(has_one), records)
+    }
+
+    #[test]
+    fn the_verdict_is_that_of_the_nonsquares_whatever_the_room() {
+        let mut random = Random::from_seed(18);
+        let mut codes = BTreeMap::new();
+        for _ in 0..300 {
+            let (system, set) = with_a_set(&mut random);
+            let (first, records) = judged(&system, &set);
+            for buffer in [0, 7, 8, 8 * records, 8 * records + 9, MOST_WIRES_BYTES] {
+                let code = match first {
+                    Some(_) => 9,
+                    None if records > buffer / WIRE_BYTES => 6,
+                    None => 0,
+                };
+                let count = if code == 0 { records as u64 } else { 0 };
+                let numbers = [code, set.len() as u64, count, 0, first.unwrap_or(0) as u64];
+                let mut answer = vec![UNTOUCHED; buffer];
+                let terms = write_terms(&system.terms);
+                let reply = wire(system.n as u64, &terms, &write_set(&set), &mut answer);
+                assert_eq!(reply.numbers(), numbers);
+                let written = count as usize * WIRE_BYTES;
+                assert!(answer[written..].iter().all(|&byte| byte == 0));
+                *codes.entry(code).or_insert(0) += 1;
+            }
+            // Each equation's records are its own derivative's, so none vanishes.
+            assert_eq!(records == 0, system.terms.is_empty());
+        }
+        assert!(codes.values().all(|&count| count > 200), "{codes:?}");
     }
 
     #[test]
@@ -283,10 +339,9 @@ mod tests {
         assert!(several > 5);
     }
 
-    /// Every subset, reached by taking one signal away at a time, with checking's
-    /// verdict on it.
+    /// Every subset, reached by taking one signal away at a time, with the verdict
+    /// that its nonsquares give.
     fn verdicts(system: &System, given: &Set) -> BTreeMap<Set, bool> {
-        let terms = write_terms(&system.terms);
         let mut verdicts = BTreeMap::new();
         let mut open = vec![given.clone()];
         while let Some(subset) = open.pop() {
@@ -295,8 +350,8 @@ mod tests {
                 rest.remove(signal);
                 open.push(rest);
             }
-            let checked = check(system.n as u64, &terms, &write_set(&subset));
-            verdicts.insert(subset, checked.code == 0);
+            let quadratic = system.is_quadratic(&subset);
+            verdicts.insert(subset, quadratic);
         }
         verdicts
     }

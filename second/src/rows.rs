@@ -1,9 +1,10 @@
 //! The fixed rows: document 01's worked sums, both sides of each limit, every
 //! place of code 9, and larger systems from documents 000 and 001. Those of
-//! thinning come after them.
+//! verdict and room together, and those of thinning, come after them.
 
 use crate::batch::{Case, MOST_CASE_BUFFER};
 use crate::monomial::Monomial;
+use crate::no_room::NoRoom;
 use crate::notation::{monomial, terms};
 use crate::panel::{
     CARDS, COEFFICIENT_AT, EXPONENTS_AT, MOST_COEFFICIENT, MOST_EXPONENT, MOST_LIMIT, MOST_N,
@@ -14,6 +15,7 @@ use crate::records::{write_places, write_set, write_terms};
 use crate::system::{Set, Term};
 use crate::systems::power;
 use crate::thin_rows;
+use crate::wire_rows;
 
 /// The buffers of a row that names none.
 const ROOM: usize = USUAL_ROOM * SET_BYTES;
@@ -35,7 +37,7 @@ pub const CANCELLING_SET: [&str; 4] = ["x3^2 x4", "x2 x3", "x1 x3", "x1 x2"];
 
 /// The batch of fixed rows.
 pub fn rows() -> Vec<Case> {
-    let mut rows = Rows { cases: Vec::new() };
+    let mut rows = Rows::default();
     rows.worked();
     rows.further();
     rows.settings();
@@ -48,25 +50,52 @@ pub fn rows() -> Vec<Case> {
     rows.places_of_code_9();
     rows.larger();
     rows.families();
+    for case in wire_rows::rows() {
+        if !rows.cases.contains(&case) {
+            rows.cases.push(case);
+        }
+    }
+    rows.verdicts();
     rows.cases.extend(thin_rows::rows());
     rows.cases
 }
 
-/// The rows on what is refused before a set is judged, and on what is just not.
+/// The wirings among the rows on what is refused before a set is judged, and on
+/// what is just not, each once.
 pub fn given_rows() -> Vec<Case> {
-    let mut rows = Rows { cases: Vec::new() };
+    let mut rows = Rows::default();
     rows.settings();
     rows.lengths();
     rows.set_rules();
     rows.sequence_of_checks();
-    rows.cases
+    rows.given
 }
 
-/// The rows on every place of code 9.
-pub fn places_of_code_9() -> Vec<Case> {
-    let mut rows = Rows { cases: Vec::new() };
-    rows.places_of_code_9();
-    rows.cases
+/// Code 9 for every n, size and place: the last two, and a wiring. Up to n the
+/// named equation is the first that is not quadratic; beyond it x1' = 1 leaves
+/// x1^29 over.
+pub fn places_of_code_9() -> Vec<(usize, usize, Case)> {
+    let mut cases = Vec::new();
+    for n in 1..=VARIABLES {
+        for size in 0..=CARDS {
+            for place in 1..=n + size {
+                let (text, names) = if place <= n {
+                    let text = format!("x1' = x1; x{place}' = x{n}^9; x{n}' = x1^8");
+                    (text, (0..size).map(|j| 20 + j).collect())
+                } else {
+                    let gap = place - n;
+                    let exponent = |j| if j < gap { j + 1 } else { 30 + j - gap };
+                    let exponents: Vec<usize> = (1..=size).map(exponent).collect();
+                    ("x1' = 1".to_string(), exponents)
+                };
+                let set: Set = names.into_iter().map(power).collect();
+                let set = write_set(&set).to_vec();
+                let case = Case::wire(n as u64, bytes_of(&text), set, 24);
+                cases.push((size, place, case));
+            }
+        }
+    }
+    cases
 }
 
 /// A set record from the names of its members.
@@ -159,11 +188,11 @@ pub fn unfed_products(count: usize) -> String {
 }
 
 /// Six new monomials in x1 to x4.
-const SIX_SIGNALS: [&str; 6] = ["x4^2", "x3 x4", "x2^3", "x1 x4", "x1 x2 x3", "x1^2"];
+pub const SIX_SIGNALS: [&str; 6] = ["x4^2", "x3 x4", "x2^3", "x1 x4", "x1 x2 x3", "x1^2"];
 
 /// 32 records that each multiply their own variable by a signal, so that each
 /// new monomial is multiplied by the same signals.
-fn own_variable_times_signals() -> String {
+pub fn own_variable_times_signals() -> String {
     let signals = ["", "x1"].iter().chain(&SIX_SIGNALS);
     let mut equations = Vec::new();
     for (k, signal) in signals.enumerate() {
@@ -184,7 +213,7 @@ pub const BOX_OF_TWO: [&str; 6] = ["x2^2", "x1 x2", "x1 x2^2", "x1^2", "x1^2 x2"
 
 /// Every term that the box leaves quadratic: 3 in its own variable, 2 in the
 /// other.
-fn box_of_two() -> String {
+pub fn box_of_two() -> String {
     let mut equations = Vec::new();
     for own in 0..=3 {
         for other in 0..=2 {
@@ -216,8 +245,13 @@ fn cubes_of_six() -> String {
     equations.join("; ")
 }
 
+#[derive(Default)]
 struct Rows {
     cases: Vec<Case>,
+    /// The wirings of a given set with the room that their row names.
+    given: Vec<Case>,
+    /// The wirings whose verdict alone is asked for too.
+    judged: Vec<Case>,
 }
 
 impl Rows {
@@ -235,14 +269,30 @@ impl Rows {
             .push(Case::plan(n, CAP, LIMIT, 2 * SET_BYTES, terms));
     }
 
-    /// Checks the set and wires it, with room to spare.
-    fn check_and_wire(&mut self, n: u64, text: &str, names: &[&str]) {
+    /// Asks for the verdict on a set alone, and wires it with room to spare.
+    fn judge_and_wire(&mut self, n: u64, text: &str, names: &[&str]) {
         self.given(n, bytes_of(text), set_of(names), WIRES);
     }
 
     fn given(&mut self, n: u64, terms: Vec<u8>, set: Vec<u8>, buffer: usize) {
-        self.cases.push(Case::check(n, terms.clone(), set.clone()));
-        self.cases.push(Case::wire(n, terms, set, buffer));
+        let wiring = Case::wire(n, terms, set, buffer);
+        self.cases.push(wiring.clone());
+        self.given.push(wiring.clone());
+        self.judged.push(wiring);
+    }
+
+    /// The verdicts alone, without room and otherwise as no other row asks.
+    fn verdicts(&mut self) {
+        let mut no_room = NoRoom::default();
+        no_room.note(&self.cases);
+        let judged = self.judged.drain(..);
+        self.cases
+            .extend(judged.map(|wiring| no_room.judge(wiring)));
+    }
+
+    /// Asks for the verdict alone.
+    fn judge(&mut self, n: u64, terms: Vec<u8>, set: Vec<u8>) {
+        self.judged.push(Case::wire(n, terms, set, 0));
     }
 
     /// Document 01, Sums worked by hand.
@@ -258,10 +308,10 @@ impl Rows {
         self.plan_with(1, "x1' = x1^4 + x1^3", CAP, LIMIT, SET_BYTES);
         self.plan(2, "x1' = x1^3 + x2^2; x2' = x1 + x2");
         self.plan(2, "x1' = x1^2 x2; x2' = - x1 x2^2");
-        self.check_and_wire(2, "x1' = x1^2 x2; x2' = - x1 x2^2", &["x1 x2"]);
+        self.judge_and_wire(2, "x1' = x1^2 x2; x2' = - x1 x2^2", &["x1 x2"]);
         self.plan(2, "x1' = x1^2 x2");
-        self.check_and_wire(2, "x1' = x1^2 x2", &["x1 x2"]);
-        self.check_and_wire(3, RABINOVICH_FABRIKANT, &["x2^2", "x1 x2", "x1^2"]);
+        self.judge_and_wire(2, "x1' = x1^2 x2", &["x1 x2"]);
+        self.judge_and_wire(3, RABINOVICH_FABRIKANT, &["x2^2", "x1 x2", "x1^2"]);
         self.plan(1, "x1' = 1000000 x1");
         self.plan(1, "x1' = 1000001 x1");
         self.plan(1, "x1' = x1^9");
@@ -277,7 +327,7 @@ impl Rows {
         self.plan(3, "x1' = x2^2 x3^2");
         self.plan(2, EXAMPLE_3);
         self.plan_with(2, EXAMPLE_3, CAP, LIMIT, 0);
-        self.check_and_wire(2, EXAMPLE_3, &["x1 x2^2", "x2^3", "x1^3"]);
+        self.judge_and_wire(2, EXAMPLE_3, &["x1 x2^2", "x2^3", "x1^3"]);
         self.plan(3, RABINOVICH_FABRIKANT);
         for limit in [14, 15, 16] {
             self.plan_with(1, "x1' = x1^4 + x1^3", CAP, limit, SET_BYTES);
@@ -302,8 +352,8 @@ impl Rows {
             self.plan_with(n, "x1' = x1^4 + x1^3", CAP, LIMIT, 2 * SET_BYTES);
             self.plan_with(n, "x1' = x1^9 + x1^4", CAP, LIMIT, 2 * SET_BYTES);
         }
-        self.check_and_wire(4, CANCELLING, &CANCELLING_SET);
-        self.check_and_wire(4, NEARLY_CANCELLING, &CANCELLING_SET);
+        self.judge_and_wire(4, CANCELLING, &CANCELLING_SET);
+        self.judge_and_wire(4, NEARLY_CANCELLING, &CANCELLING_SET);
     }
 
     /// n, K and the limit, both sides of each.
@@ -387,7 +437,7 @@ impl Rows {
         self.plan(1, "x1' = x1 - 2 x1");
         self.plan(1, "x1' = x1 + x1^2 + x1^2 + x1");
         // Totals above a million: a set's exponent times a coefficient.
-        self.check_and_wire(2, "x1' = 1000000 x1; x2' = 1000000 x2", &["x1^54 x2^54"]);
+        self.judge_and_wire(2, "x1' = 1000000 x1; x2' = 1000000 x2", &["x1^54 x2^54"]);
     }
 
     /// The rules of a set record, both sides of each.
@@ -442,11 +492,11 @@ impl Rows {
             };
             for value in [MOST_SET_EXPONENT, MOST_SET_EXPONENT + 1] {
                 let set = with(value);
-                self.cases.push(Case::check(MOST_N, Vec::new(), set));
+                self.judge(MOST_N, Vec::new(), set);
             }
             for n in 1..=byte % VARIABLES {
                 let set = with(1);
-                self.cases.push(Case::check(n as u64, Vec::new(), set));
+                self.judge(n as u64, Vec::new(), set);
             }
         }
         // A monomial in all variables fits no fewer.
@@ -527,32 +577,16 @@ impl Rows {
         }
     }
 
-    /// Code 9 for every n, size and place. Up to n the named equation is the
-    /// first that is not quadratic; beyond it x1' = 1 leaves x1^29 over.
+    /// Code 9 at every place, by turns for the verdict alone and with some room;
+    /// both for the largest sets.
     fn places_of_code_9(&mut self) {
-        for n in 1..=VARIABLES {
-            for size in 0..=CARDS {
-                for place in 1..=n + size {
-                    let (text, names) = if place <= n {
-                        let text = format!("x1' = x1; x{place}' = x{n}^9; x{n}' = x1^8");
-                        (text, (0..size).map(|j| 20 + j).collect())
-                    } else {
-                        let gap = place - n;
-                        let exponent = |j| if j < gap { j + 1 } else { 30 + j - gap };
-                        let exponents: Vec<usize> = (1..=size).map(exponent).collect();
-                        ("x1' = 1".to_string(), exponents)
-                    };
-                    let set: Set = names.into_iter().map(power).collect();
-                    let terms = bytes_of(&text);
-                    let set = write_set(&set).to_vec();
-                    if size == CARDS || (size + place).is_multiple_of(2) {
-                        let case = Case::check(n as u64, terms.clone(), set.clone());
-                        self.cases.push(case);
-                    }
-                    if size == CARDS || !(size + place).is_multiple_of(2) {
-                        self.cases.push(Case::wire(n as u64, terms, set, 24));
-                    }
-                }
+        for (size, place, wiring) in places_of_code_9() {
+            let alone = (size + place).is_multiple_of(2);
+            if size == CARDS || alone {
+                self.judged.push(wiring.clone());
+            }
+            if size == CARDS || !alone {
+                self.cases.push(wiring);
             }
         }
     }
@@ -629,20 +663,13 @@ mod tests {
 
     #[test]
     fn code_9_is_met_at_every_place() {
-        let mut rows = Rows { cases: Vec::new() };
-        rows.places_of_code_9();
-        let mut at = rows.cases.iter();
-        for n in 1..=MOST_N {
-            for size in 0..=CAP {
-                for place in 1..=n + size {
-                    for _ in 0..=size / CAP {
-                        let (reply, _) = at.next().unwrap().answer();
-                        assert_eq!(reply.numbers(), [9, size, 0, 0, place]);
-                    }
-                }
-            }
+        let cases = places_of_code_9();
+        for (size, place, case) in &cases {
+            let numbers = [9, *size, 0, 0, *place].map(|number| number as u64);
+            assert_eq!(case.answer().0.numbers(), numbers);
         }
-        assert!(at.next().is_none());
+        let sizes = (1..=VARIABLES).flat_map(|n| (0..=CARDS).map(move |size| n + size));
+        assert_eq!(cases.len(), sizes.sum::<usize>());
     }
 
     #[test]
@@ -656,7 +683,7 @@ mod tests {
 
     #[test]
     fn the_wiring_rows_hold_the_true_lengths() {
-        let mut rows = Rows { cases: Vec::new() };
+        let mut rows = Rows::default();
         rows.wiring_lengths();
         let mut codes = Vec::new();
         for case in &rows.cases {
@@ -673,7 +700,7 @@ mod tests {
 
     #[test]
     fn long_lists_are_long() {
-        let mut rows = Rows { cases: Vec::new() };
+        let mut rows = Rows::default();
         rows.long_lists();
         assert_eq!(rows.cases[0].terms.len(), MOST_TERMS_BYTES);
         for (index, case) in rows.cases.iter().enumerate() {

@@ -32,7 +32,6 @@ fn heading(case: &Case) -> String {
     let name = case.operation.name();
     let n = case.n;
     match case.operation {
-        Operation::Check => format!("{name}, n = {n}"),
         Operation::Plan => format!(
             "{name}, n = {n}, K = {}, limit {}, buffer {} bytes ({} sets)",
             case.cap,
@@ -123,7 +122,6 @@ fn answer_lines(case: &Case, reply: &Reply, buffer: &[u8]) -> Vec<String> {
     match case.operation {
         Operation::Plan => listed("found", buffer, count),
         Operation::Thin => listed("kept", buffer, count),
-        Operation::Check => Vec::new(),
         Operation::Wire => read_wires(buffer)
             .iter()
             .map(|w| format!("  wire {} {} {} {}", w.left, w.a, w.b, w.coefficient))
@@ -191,14 +189,14 @@ case 3: thin, n = 1, buffer 37 bytes (1 sets)
         input.truncate(20);
         input[1] = 3;
         let expected = "\
-case 2: check, n = 1
+case 2: wire, n = 1, buffer 3 bytes (0 records)
   20 bytes of terms
   record 1: equation 1, byte 1 is 3, exponents 1.0.0.0.0.0, coefficient 1 (byte 1 not zero)
   record 2 is cut: 0200010000000000
   set of 2 bytes: 0506
   code 2 length: order 0, count 0, steps 0, place 0
-  line 2 0 0 0 0
+  line 2 0 0 0 0 000000
 ";
-        assert_eq!(block(2, &Case::check(1, input, vec![5, 6])), expected);
+        assert_eq!(block(2, &Case::wire(1, input, vec![5, 6], 3)), expected);
     }
 }

@@ -32,6 +32,13 @@ pub struct System {
 impl System {
     /// The derivative of `z`: like monomials added with sign, zero sums gone.
     pub fn derivative(&self, z: Monomial) -> BTreeMap<Monomial, i64> {
+        let mut sum = self.totals(z);
+        sum.retain(|_, coefficient| *coefficient != 0);
+        sum
+    }
+
+    /// Like monomials of the derivative added with sign, zero sums too.
+    pub fn totals(&self, z: Monomial) -> BTreeMap<Monomial, i64> {
         let mut sum = BTreeMap::new();
         for term in &self.terms {
             let exponent = z.0[term.equation - 1];
@@ -41,7 +48,6 @@ impl System {
                 *sum.entry(monomial).or_insert(0) += i64::from(exponent) * term.coefficient;
             }
         }
-        sum.retain(|_, coefficient| *coefficient != 0);
         sum
     }
 
@@ -68,19 +74,13 @@ impl System {
         left
     }
 
-    /// The first signal whose derivative holds a nonsquare.
-    pub fn first_not_quadratic(&self, set: &Set) -> Option<usize> {
-        let signals = self.signals(set);
-        let squares = squares(&signals);
-        (1..signals.len()).find(|&left| {
-            let derivative = self.derivative(signals[left]);
-            derivative.keys().any(|m| !squares.contains(m))
-        })
+    pub fn is_quadratic(&self, set: &Set) -> bool {
+        self.nonsquares(set).is_empty()
     }
 }
 
 /// V2: all products of two members of V, equal ones included.
-fn squares(signals: &[Monomial]) -> BTreeSet<Monomial> {
+pub fn squares(signals: &[Monomial]) -> BTreeSet<Monomial> {
     let mut products = BTreeSet::new();
     for (a, &first) in signals.iter().enumerate() {
         for &second in &signals[a..] {
@@ -125,6 +125,6 @@ mod tests {
             .map(|name| monomial(name))
             .collect();
         assert_eq!(squares(&example.signals(&cube)), v2);
-        assert_eq!(example.first_not_quadratic(&cube), Some(2));
+        assert!(!example.is_quadratic(&cube));
     }
 }

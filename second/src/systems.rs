@@ -484,7 +484,7 @@ mod tests {
                 for _ in 0..20 {
                     let (system, set) = around_a_set(&mut random, n, size);
                     assert!(set_faults(n, &write_set(&set)).is_empty());
-                    assert_eq!(system.first_not_quadratic(&set), None);
+                    assert!(system.is_quadratic(&set));
                 }
             }
         }
@@ -497,7 +497,7 @@ mod tests {
             let (system, set) = closed(&mut random);
             let read = read_terms(system.n, &write_terms(&system.terms));
             assert!(set_faults(system.n, &write_set(&set)).is_empty());
-            assert_eq!(system.first_not_quadratic(&set), None);
+            assert!(system.is_quadratic(&set));
             assert_eq!(read, Ok(system));
         }
     }
@@ -515,11 +515,8 @@ mod tests {
             let cancels = |z: &&Monomial| z.0[2] == 0 && z.0[0] > 0;
             let z = set.iter().find(cancels).unwrap();
             let sum = i64::from(z.0[0]) * rate(1) + i64::from(z.0[1]) * rate(2);
-            assert_eq!(system.first_not_quadratic(&set).is_none(), sum == 0);
-            match system.first_not_quadratic(&set) {
-                None => quadratic[0] += 1,
-                Some(_) => quadratic[1] += 1,
-            }
+            assert_eq!(system.is_quadratic(&set), sum == 0);
+            quadratic[usize::from(sum != 0)] += 1;
         }
         assert!(quadratic[0] > 20 && quadratic[1] > 20);
     }

@@ -44,7 +44,7 @@ const SEQUENCES: [Sequence; 4] = [
 
 impl Thinning {
     pub fn of(system: &System, given: &Set) -> Thinning {
-        let quadratic = |subset: &Set| system.first_not_quadratic(subset).is_none();
+        let quadratic = |subset: &Set| system.is_quadratic(subset);
         Thinning {
             given: given.clone(),
             quadratic: subsets(given).into_iter().filter(quadratic).collect(),

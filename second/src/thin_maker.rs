@@ -1,8 +1,8 @@
 //! The stories of thinning in a random batch: given sets that hold more than is
 //! needed, made in ways that leave different subsets quadratic.
 
-use crate::batch::{Case, Operation, MOST_CASE_BUFFER};
-use crate::maker::{Maker, Mix};
+use crate::batch::{Case, MOST_CASE_BUFFER};
+use crate::maker::{Ask, Maker, Mix};
 use crate::monomial::Monomial;
 use crate::panel::{CARDS, MOST_CAP, MOST_SET_EXPONENT, SET_BYTES, VARIABLES};
 use crate::random::Random;
@@ -13,8 +13,8 @@ use crate::systems;
 /// Thinning. With these shares some 500 cases go through every turn of places,
 /// and more than half of them are stories of a given set.
 pub const THINNING: Mix = Mix {
-    operations: &[Operation::Thin],
-    given: &[Operation::Thin],
+    asks: &[Ask::Thin],
+    given: &[Ask::Thin],
     shares: &[
         (18, Maker::thin_found_sets),
         (14, Maker::thin_closed_set),
@@ -57,7 +57,7 @@ impl Maker {
     }
 
     /// A system that a short walk finishes, and all that it finds.
-    fn planned(&mut self) -> (System, Vec<Set>) {
+    pub fn planned(&mut self) -> (System, Vec<Set>) {
         loop {
             let system = systems::any(&mut self.random);
             let terms = write_terms(&system.terms);
@@ -80,7 +80,7 @@ impl Maker {
         for _ in 0..self.random.below(2 * CARDS) {
             let mut more = padded.clone();
             more.extend(extra(&mut self.random, system, &padded));
-            if more.len() <= CARDS && system.first_not_quadratic(&more).is_none() {
+            if more.len() <= CARDS && system.is_quadratic(&more) {
                 padded = more;
             }
         }

@@ -229,19 +229,16 @@ fn as_thinning(case: &Case) -> Case {
 /// What wiring refuses before it looks at the set's derivatives, thinning
 /// refuses too; and what it takes.
 fn refused() -> Vec<Case> {
-    let wired = |case: &&Case| case.operation == Operation::Wire;
-    given_rows().iter().filter(wired).map(as_thinning).collect()
+    given_rows().iter().map(as_thinning).collect()
 }
 
 /// Code 9 for every n, size and place.
 fn not_quadratic() -> Vec<Case> {
-    let mut cases: Vec<Case> = places_of_code_9().iter().map(as_thinning).collect();
-    for case in &mut cases {
-        case.buffer = SET_BYTES;
-    }
-    // A set of the largest size stands there twice, for checking and wiring.
-    cases.dedup();
-    cases
+    let one_set = |(_, _, case)| Case {
+        buffer: SET_BYTES,
+        ..as_thinning(&case)
+    };
+    places_of_code_9().into_iter().map(one_set).collect()
 }
 
 #[cfg(test)]

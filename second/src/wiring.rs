@@ -1,5 +1,5 @@
-//! The wiring list of a quadratic set (document 01, Monomials, derivatives,
-//! squares).
+//! The verdict on a set and its wiring list, both from one pass over the left
+//! variables (document 01, Monomials, derivatives, squares; document 02, [2]).
 
 use crate::monomial::Monomial;
 use crate::system::{Set, System};
@@ -25,14 +25,14 @@ fn first_pair(signals: &[Monomial], monomial: Monomial) -> Option<(usize, usize)
     None
 }
 
-/// The list: left variables ascending, within each its monomials ascending.
-/// A nonsquare has no pair, and then there is no list.
-pub fn wiring(system: &System, set: &Set) -> Option<Vec<Wire>> {
+/// The list: left variables ascending, within each its monomials ascending. A
+/// nonsquare has no pair; then there is no list, but the left variable's number.
+pub fn wiring(system: &System, set: &Set) -> Result<Vec<Wire>, usize> {
     let signals = system.signals(set);
     let mut list = Vec::new();
     for left in 1..signals.len() {
         for (monomial, coefficient) in system.derivative(signals[left]) {
-            let (a, b) = first_pair(&signals, monomial)?;
+            let (a, b) = first_pair(&signals, monomial).ok_or(left)?;
             list.push(Wire {
                 left,
                 a,
@@ -41,5 +41,5 @@ pub fn wiring(system: &System, set: &Set) -> Option<Vec<Wire>> {
             });
         }
     }
-    Some(list)
+    Ok(list)
 }

@@ -40,25 +40,26 @@ fn plain(n: u64, text: &str, numbers: [u64; 5], sets: &[&[&str]]) {
     row(n, text, (CAP, LIMIT, ROOM), numbers, sets);
 }
 
-fn check(n: u64, text: &str, names: &[&str]) -> [u64; 5] {
-    let case = Case::check(n, write_terms(&terms(text)), set_of(names));
-    case.answer().0.numbers()
+/// The verdict alone: the numbers of a wiring into an empty buffer.
+fn verdict(n: u64, text: &str, names: &[&str]) -> [u64; 5] {
+    wired_into(0, n, text, names).0
+}
+
+/// The wiring's numbers and every byte of a buffer of so many.
+fn wired_into(buffer: usize, n: u64, text: &str, names: &[&str]) -> ([u64; 5], Vec<u8>) {
+    let case = Case::wire(n, write_terms(&terms(text)), set_of(names), buffer);
+    let (reply, answer) = case.answer();
+    (reply.numbers(), answer)
 }
 
 /// The wiring as the program writes it: left, a, b, coefficient.
 fn wires(n: u64, text: &str, names: &[&str]) -> ([u64; 5], Vec<[i64; 4]>) {
-    let case = Case::wire(
-        n,
-        write_terms(&terms(text)),
-        set_of(names),
-        MOST_WIRES_BYTES,
-    );
-    let (reply, buffer) = case.answer();
+    let (numbers, buffer) = wired_into(MOST_WIRES_BYTES, n, text, names);
     let list = read_wires(&buffer)
         .iter()
         .map(|w| [w.left as i64, w.a as i64, w.b as i64, w.coefficient])
         .collect();
-    (reply.numbers(), list)
+    (numbers, list)
 }
 
 #[test]
@@ -127,7 +128,7 @@ fn unfed_variable() {
 #[test]
 fn rabinovich_fabrikant() {
     let names = ["x2^2", "x1 x2", "x1^2"];
-    assert_eq!(check(3, RABINOVICH_FABRIKANT, &names), [0, 3, 0, 0, 0]);
+    assert_eq!(verdict(3, RABINOVICH_FABRIKANT, &names), [6, 3, 0, 0, 0]);
     plain(3, RABINOVICH_FABRIKANT, [0, 3, 1, 88, 0], &[&names]);
     // Document 001 states the quadratic system; z1, z2, z3 are 6, 5, 4 here.
     let (numbers, list) = wires(3, RABINOVICH_FABRIKANT, &names);
@@ -177,7 +178,7 @@ fn example_3_lies_outside_the_box() {
     let names = ["x2^3", "x1 x2^2", "x1^3"];
     plain(2, EXAMPLE_3, [0, 3, 1, 145, 0], &[&names]);
     row(2, EXAMPLE_3, (CAP, LIMIT, 0), [6, 3, 0, 109, 0], &[]);
-    assert_eq!(check(2, EXAMPLE_3, &names), [0, 3, 0, 0, 0]);
+    assert_eq!(verdict(2, EXAMPLE_3, &names), [6, 3, 0, 0, 0]);
     // Signals: 3 is x2^3, 4 is x1 x2^2, 5 is x1^3 (document 001, Example 3).
     let (numbers, list) = wires(2, EXAMPLE_3, &names);
     assert_eq!(numbers, [0, 3, 6, 0, 0]);
@@ -227,12 +228,12 @@ fn many_sets() {
 
 #[test]
 fn cancelling_decides_whether_a_set_is_quadratic() {
-    assert_eq!(check(4, CANCELLING, &CANCELLING_SET), [0, 4, 0, 0, 0]);
+    assert_eq!(verdict(4, CANCELLING, &CANCELLING_SET), [6, 4, 0, 0, 0]);
     // The member that no longer cancels, x1 x2, is the last in set order.
     let set: Set = CANCELLING_SET.iter().map(|name| monomial(name)).collect();
     assert_eq!(set.last(), Some(&monomial("x1 x2")));
     assert_eq!(
-        check(4, NEARLY_CANCELLING, &CANCELLING_SET),
+        verdict(4, NEARLY_CANCELLING, &CANCELLING_SET),
         [9, 4, 0, 0, 8]
     );
     assert_eq!(write_set(&set).to_vec(), set_of(&CANCELLING_SET));
@@ -248,9 +249,70 @@ fn unused_variables_change_nothing() {
 
 #[test]
 fn a_missing_member_shows_at_the_first_left_variable() {
-    assert_eq!(check(1, "x1' = x1^3", &[]), [9, 0, 0, 0, 1]);
-    assert_eq!(check(1, "x1' = x1^3", &["x1^3"]), [9, 1, 0, 0, 2]);
-    assert_eq!(check(2, EXAMPLE_3, &["x1 x2^2", "x1^3"]), [9, 2, 0, 0, 1]);
-    assert_eq!(check(2, EXAMPLE_3, &["x2^3", "x1^3"]), [9, 2, 0, 0, 3]);
-    assert_eq!(check(2, EXAMPLE_3, &["x2^3", "x1 x2^2"]), [9, 2, 0, 0, 4]);
+    assert_eq!(verdict(1, "x1' = x1^3", &[]), [9, 0, 0, 0, 1]);
+    assert_eq!(verdict(1, "x1' = x1^3", &["x1^3"]), [9, 1, 0, 0, 2]);
+    assert_eq!(verdict(2, EXAMPLE_3, &["x1 x2^2", "x1^3"]), [9, 2, 0, 0, 1]);
+    assert_eq!(verdict(2, EXAMPLE_3, &["x2^3", "x1^3"]), [9, 2, 0, 0, 3]);
+    assert_eq!(verdict(2, EXAMPLE_3, &["x2^3", "x1 x2^2"]), [9, 2, 0, 0, 4]);
+}
+
+/// 0, 1 or more records: the room is the list's or it is not, whatever the bytes
+/// that hold none.
+#[test]
+fn a_list_needs_exactly_its_bytes() {
+    let record = |left: u8, a: u8, b: u8, coefficient: u8| [left, a, b, 0, coefficient, 0, 0, 0];
+    for buffer in 0..=9 {
+        let (numbers, answer) = wired_into(buffer, 1, "", &["x1^2"]);
+        assert_eq!(numbers, [0, 1, 0, 0, 0]);
+        assert_eq!(answer, vec![0; buffer]);
+    }
+    for buffer in 0..=17 {
+        let (numbers, answer) = wired_into(buffer, 2, "x2' = 7 x2", &[]);
+        let mut expected = vec![0; buffer];
+        if buffer < 8 {
+            assert_eq!(numbers, [6, 0, 0, 0, 0]);
+        } else {
+            assert_eq!(numbers, [0, 0, 1, 0, 0]);
+            expected[..8].copy_from_slice(&record(2, 0, 2, 7));
+        }
+        assert_eq!(answer, expected);
+    }
+    // x1^3 = x1 x1^2, and (x1^2)' = 2 x1^4.
+    for buffer in 0..=25 {
+        let (numbers, answer) = wired_into(buffer, 1, "x1' = x1^3", &["x1^2"]);
+        let mut expected = vec![0; buffer];
+        if buffer < 16 {
+            assert_eq!(numbers, [6, 1, 0, 0, 0]);
+        } else {
+            assert_eq!(numbers, [0, 1, 2, 0, 0]);
+            expected[..8].copy_from_slice(&record(1, 1, 2, 1));
+            expected[8..16].copy_from_slice(&record(2, 2, 2, 2));
+        }
+        assert_eq!(answer, expected);
+    }
+}
+
+/// x1' = x1^3 with {x1^3} has the record 1 0 2 1, and then x1^5 that no two
+/// signals make.
+#[test]
+fn not_quadratic_comes_before_full_whatever_the_room() {
+    for buffer in 0..=33 {
+        let (numbers, answer) = wired_into(buffer, 1, "x1' = x1^3", &["x1^3"]);
+        assert_eq!(numbers, [9, 1, 0, 0, 2]);
+        assert_eq!(answer, vec![0; buffer]);
+        let (numbers, answer) = wired_into(buffer, 1, "x1' = 1 + x1 + x1^3", &[]);
+        assert_eq!(numbers, [9, 0, 0, 0, 1]);
+        assert_eq!(answer, vec![0; buffer]);
+    }
+}
+
+/// What vanishes takes no room and is no nonsquare.
+#[test]
+fn what_cancels_takes_no_room() {
+    let text = "x1' = x1^2 x2; x2' = - x1 x2^2";
+    assert_eq!(wired_into(16, 2, text, &["x1 x2"]).0, [0, 1, 2, 0, 0]);
+    assert_eq!(wired_into(15, 2, text, &["x1 x2"]).0, [6, 1, 0, 0, 0]);
+    let into = |buffer| wired_into(buffer, 4, CANCELLING, &CANCELLING_SET).0;
+    assert_eq!(into(32), [0, 4, 4, 0, 0]);
+    assert_eq!(into(31), [6, 4, 0, 0, 0]);
 }

@@ -1,4 +1,4 @@
--- Five words or two beside what they ask for: one table, one claim. Assumes nothing.
+-- Five words, two or one beside what they ask for: one table, one claim. Assumes nothing.
 use mathlib.Core.Path.{_≡_, refl}
 use mathlib.Core.List.{List, [], _∷_, map}
 use Prim.Native.Nat.{ℕ}
@@ -8,8 +8,8 @@ use Rattle.lines.specs.Number.{extended, numberFrom, numberOf}
 use Rattle.lines.specs.declared.number.Number.{Number}
 use Rattle.lines.proofs.Samples.{written}
 use Rattle.asked.specs.declared.settings.Asked.{Asked}
-use Rattle.asked.specs.declared.settings.Asked.the-variants.{Plan, Thin, Wrong}
-use Rattle.asked.specs.Settings.{asked, askedThin}
+use Rattle.asked.specs.declared.settings.Asked.the-variants.{Plan, Thin, Wire, Wrong}
+use Rattle.asked.specs.Settings.{asked, askedThin, askedWire}
 
 record Row : Type 0 where
   got : Asked
@@ -23,6 +23,9 @@ row a b c d e want = record { got = asked (number a) (number b) (number c) (numb
 
 thinRow : String → String → Asked → Row
 thinRow a b want = record { got = askedThin (number a) (number b); want = want }
+
+wireRow : String → Asked → Row
+wireRow a want = record { got = askedWire (number a); want = want }
 
 right : ℕ → ℕ → ℕ → ℕ → ℕ → Asked
 right n cap limit room which = Plan (record { n = n; cap = cap; limit = limit; room = room; which = which })
@@ -43,8 +46,11 @@ table =
     ∷ thinRow "6" "2" (Thin 6 2)
     ∷ thinRow "x" "2" Wrong
     ∷ thinRow "6" "" Wrong
+    -- N alone
+    ∷ wireRow "6" (Wire 6)
+    ∷ wireRow "six" Wrong
     ∷ []
 
 sampled : map (λ r. r .got) table ≡ map (λ r. r .want) table
-unfolding table row thinRow number right written asked askedThin numberOf numberFrom extended some all
+unfolding table row thinRow wireRow number right written asked askedThin askedWire numberOf numberFrom extended some all
 sampled = refl

@@ -2,28 +2,29 @@
 use mathlib.Core.Path.{_≡_}
 use mathlib.Core.List.{List, [], _∷_}
 use Prim.Native.Nat.{ℕ, _*_}
-use lib.ListN.{length, take, drop}
+use lib.ListN.{length}
 use Rattle.wiring.specs.Panel.{setBytes}
 use Rattle.wiring.specs.Reply.{numbers, inOrder}
 use Rattle.wiring.specs.declared.reply.Reply.the-variants.{Setting}
 use Rattle.lines.specs.Answer.{replyLine}
 use Rattle.report.specs.declared.prepare.Prepared.{Prepared}
-use Rattle.report.specs.Prepare.{fitted, Prepares, PreparesThin}
-use Rattle.report.specs.Report.{report, thinReport}
+use Rattle.report.specs.Prepare.{fitted, Prepares, PreparesThin, PreparesWire}
+use Rattle.report.specs.Report.{report, thinReport, wireReport}
 use Rattle.asked.specs.declared.settings.Asked.{Asked}
-use Rattle.asked.specs.declared.settings.Asked.the-variants.{Plan, Thin, Wrong}
+use Rattle.asked.specs.declared.settings.Asked.the-variants.{Plan, Thin, Wire, Wrong}
 use Rattle.asked.specs.Settings.{mostSets}
+use Rattle.asked.specs.Input.{setIn, termsIn}
 
--- the input is term records; where a set is to be thinned, its record comes before them
 unfoldable pub answered : Asked → List ℕ → List (List ℕ)
 answered (Plan s) input = report s input
-answered (Thin n which) input = thinReport n which (drop setBytes input) (take setBytes input) (setBytes * mostSets)
+answered (Thin n which) input = thinReport n which (termsIn input) (setIn input) (setBytes * mostSets)
+answered (Wire n) input = wireReport n (termsIn input) (setIn input)
 answered Wrong input = replyLine (inOrder (numbers Setting)) ∷ []
 
 -- ---- as the code prepares it, in two buffers
 abbrev pub Answers : Asked → List ℕ → Prepared → List ℕ → List ℕ → List ℕ → List ℕ → Type 0
 Answers (Plan s) input p sets setsAfter wires wiresAfter = Prepares (fitted s (length sets)) input p sets setsAfter wiresAfter
-Answers (Thin n which) input p sets setsAfter wires wiresAfter =
-    PreparesThin n which (drop setBytes input) (take setBytes input) p sets setsAfter wiresAfter
+Answers (Thin n which) input p sets setsAfter wires wiresAfter = PreparesThin n which (termsIn input) (setIn input) p sets setsAfter wiresAfter
+Answers (Wire n) input p sets setsAfter wires wiresAfter = PreparesWire n (termsIn input) (setIn input) p sets setsAfter wiresAfter
 Answers Wrong input p sets setsAfter wires wiresAfter =
     (p ≡ record { reply = Setting; lent = 0; wires = 0 }) × (setsAfter ≡ sets) × (wiresAfter ≡ wires)

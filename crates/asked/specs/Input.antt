@@ -1,11 +1,25 @@
--- How much of the input is read: what can be right, and one byte more, which tells that there are more. Assumes nothing.
+-- What stands in the input, and how much of it is read: what can be right, and one byte more, which tells that there
+-- are more. Assumes nothing.
+use mathlib.Core.List.{List}
 use Prim.Native.Nat.{ℕ, _+_}
+use lib.ListN.{take, drop}
 use Rattle.wiring.specs.Panel.{setBytes, termsBytes}
 use Rattle.asked.specs.declared.settings.Asked.{Asked}
-use Rattle.asked.specs.declared.settings.Asked.the-variants.{Plan, Thin, Wrong}
+use Rattle.asked.specs.declared.settings.Asked.the-variants.{Plan, Thin, Wire, Wrong}
 
--- term records; where a set is to be thinned, its record before them
+-- the input is term records; where a set is to be thinned or wired, its record stands before them
+abbrev pub givenBytes : Asked → ℕ
+givenBytes (Plan s) = 0
+givenBytes (Thin n which) = setBytes
+givenBytes (Wire n) = setBytes
+givenBytes Wrong = 0
+
+-- that record, or as much of it as there is, and the terms behind it
+abbrev pub setIn : List ℕ → List ℕ
+setIn input = take setBytes input
+
+abbrev pub termsIn : List ℕ → List ℕ
+termsIn input = drop setBytes input
+
 abbrev pub mostInput : Asked → ℕ
-mostInput (Plan s) = termsBytes + 1
-mostInput (Thin n which) = setBytes + termsBytes + 1
-mostInput Wrong = termsBytes + 1
+mostInput a = givenBytes a + termsBytes + 1

@@ -1,12 +1,12 @@
--- What words ask for, each a number: five a plan, with room for at most 20,000 sets; two the thinning of a set.
--- Assumes nothing.
+-- What words ask for, each a number: five a plan, with room for at most 20,000 sets; two the thinning of a set; one its
+-- wiring. Assumes nothing.
 use mathlib.Core.Bool.{cond}
 use Prim.Native.Nat.{ℕ, _≤_}
 use lib.Dec.{leb}
 use Rattle.lines.specs.declared.number.Number.{Number}
 use Rattle.lines.specs.declared.number.Number.the-variants.{Of, Nothing}
 use Rattle.asked.specs.declared.settings.Asked.{Asked}
-use Rattle.asked.specs.declared.settings.Asked.the-variants.{Plan, Thin, Wrong}
+use Rattle.asked.specs.declared.settings.Asked.the-variants.{Plan, Thin, Wire, Wrong}
 
 abbrev pub mostSets : ℕ
 mostSets = 20000
@@ -28,8 +28,13 @@ asked a b c d e = numbered a (λ n. numbered b (λ cap. numbered c (λ limit. nu
 unfoldable pub askedThin : Number → Number → Asked
 askedThin a b = numbered a (λ n. numbered b (Thin n))
 
+-- N
+unfoldable pub askedWire : Number → Asked
+askedWire a = numbered a Wire
+
 -- what the buffer has room for
 abbrev pub Roomy : Asked → Type 0
 Roomy (Plan s) = s .room ≤ mostSets
 Roomy (Thin n which) = Unit
+Roomy (Wire n) = Unit
 Roomy Wrong = Unit

@@ -1,4 +1,5 @@
 // Prepares the report that is asked for, and writes it.
+use super::input;
 use super::settings::Asked;
 use super::settings::MOST_SETS;
 use report::prepare;
@@ -8,10 +9,9 @@ use wiring::panel::SET_BYTES;
 use wiring::panel::WIRES_BYTES;
 use wiring::reply::Reply;
 ghost use mathlib.Core.Path.{_≡_};
-ghost use lib.ListN.{length, take, drop};
+ghost use lib.ListN.{length};
 ghost use Prim.Native.Nat.{_*_};
 ghost use Rattle.wiring.specs.Panel.{setBytes};
-ghost use Rattle.report.specs.Prepare.{PreparesThin};
 ghost use Rattle.asked.specs.Settings.{mostSets};
 ghost use Rattle.asked.specs.Answer.{Answers};
 
@@ -24,23 +24,8 @@ pub(crate) fn large_buffer() -> [u8; SETS_BYTES]
     [0u8; SETS_BYTES]
 }
 
-// Thins the set record that the input begins with. Where there are fewer bytes, all of them are the set, and thinning
-// refuses it.
-fn prepare_given(
-    n: u64,
-    which: u64,
-    input: &[u8],
-    sets: &mut [u8; SETS_BYTES],
-    out: &mut [u8; WIRES_BYTES],
-) -> Prepared
-    ensures { λ r. ⌜ PreparesThin n which (drop setBytes (now (input .entry))) (take setBytes (now (input .entry))) r
-        (now (sets .entry)) (now (sets .exit)) (now (out .exit)) ⌝ }
-{
-    let at = prepare::least(SET_BYTES, input.len());
-    prepare::prepare_thin(n, which, &input[at..], &input[..at], sets, out)
-}
-
-// Plans or thins, and wires as it is asked for; of wrong words only the reply is told.
+// Plans or thins and wires, or wires alone, as it is asked for; of wrong words only the reply is told. Where the input
+// has fewer bytes than the set record that it is to begin with, all of them are the set, which is refused.
 pub(crate) fn prepare_asked(
     a: Asked,
     input: &[u8],
@@ -49,9 +34,13 @@ pub(crate) fn prepare_asked(
 ) -> Prepared
     ensures { λ r. ⌜ Answers a (now (input .entry)) r (now (sets .entry)) (now (sets .exit)) (now (out .entry)) (now (out .exit)) ⌝ }
 {
+    let at = prepare::least(input::given_bytes(a), input.len());
+    let set = &input[..at];
+    let terms = &input[at..];
     match a {
-        Asked::Plan(s) => prepare::prepare(s, input, sets, out),
-        Asked::Thin { n, which } => prepare_given(n, which, input, sets, out),
+        Asked::Plan(s) => prepare::prepare(s, terms, sets, out),
+        Asked::Thin { n, which } => prepare::prepare_thin(n, which, terms, set, sets, out),
+        Asked::Wire { n } => prepare::prepare_wire(n, terms, set, out),
         Asked::Wrong => Prepared {
             reply: Reply::Setting,
             lent: 0,

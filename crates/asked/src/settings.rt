@@ -1,9 +1,10 @@
-// What is asked for by numbers, each a word of the command line: five ask for a plan, two for the thinning of a set.
+// What is asked for by numbers, each a word of the command line: five ask for a plan, two for the thinning of a set,
+// one for its wiring.
 use lines::number;
 use lines::number::Number;
 use report::prepare::Settings;
 ghost use mathlib.Core.Path.{_≡_};
-ghost use Rattle.asked.specs.Settings.{asked, askedThin, Roomy};
+ghost use Rattle.asked.specs.Settings.{asked, askedThin, askedWire, Roomy};
 
 // The most sets that there is room for.
 pub(crate) const MOST_SETS: usize = 20000;
@@ -11,6 +12,7 @@ pub(crate) const MOST_SETS: usize = 20000;
 pub enum Asked {
     Plan(Settings),
     Thin { n: u64, which: u64 },
+    Wire { n: u64 },
     Wrong,
 }
 
@@ -58,7 +60,18 @@ fn thinning_of(n: Number, which: Number) -> Asked
     Asked::Thin { n, which }
 }
 
-// Word number i of the command line. One that is missing or over 4,096 bytes comes as an empty word, which is no number.
+// The wiring that one word asks for, read as a number.
+fn wiring_of(n: Number) -> Asked
+    ensures { λ r. ⌜ r ≡ askedWire n ⌝ }
+{
+    let Number::Of(n) = n else {
+        return Asked::Wrong;
+    };
+    Asked::Wire { n }
+}
+
+// Word number i of the command line. One that is missing or over 4,096 bytes comes as an empty word, which is no
+// number.
 fn number_at(i: usize) -> Number {
     let mut word = io::buffer();
     let length = os::arg(i, &mut word);
@@ -70,6 +83,9 @@ pub(crate) fn read() -> Asked
     ensures { λ r. ⌜ Roomy r ⌝ }
 {
     let words = os::arg_count();
+    if words == 2 {
+        return wiring_of(number_at(1));
+    }
     if words == 3 {
         return thinning_of(number_at(1), number_at(2));
     }

@@ -1,5 +1,5 @@
 -- What a report says: after a refusal the reply alone; after code 0 every set of the list by its record, in order, and
--- then the wiring list of the set that is asked for. Assumes nothing.
+-- then the wiring list of the set that is asked for; of a given set the wiring list alone. Assumes nothing.
 use mathlib.Core.Path.{_≡_, refl, sym, ap, _∙_}
 use mathlib.Core.Logic.{_⊎_, inl, inr}
 use mathlib.Core.List.{List, [], _∷_, _++_, map, map-map}
@@ -21,7 +21,7 @@ use Rattle.wiring.specs.declared.reply.Reply.the-variants.{Done}
 use Rattle.wiring.specs.Claims.{listIn}
 use Rattle.wiring.proofs.wires.Sheets.{list-length}
 use Rattle.wiring.proofs.wires.Correct.{list-at}
-use Rattle.wiring.proofs.answers.Wired.{wire-length}
+use Rattle.wiring.proofs.answers.Wired.{wire-exact}
 use Rattle.walk.specs.Walk.{Finds}
 use Rattle.walk.specs.Plan.{planned}
 use Rattle.walk.specs.Claims.{setsAt, Laid}
@@ -32,8 +32,8 @@ use Rattle.thin.specs.Claims.{thinnestIn}
 use Rattle.thin.proofs.thin.Exact.{thin-finds, thin-wired}
 use Rattle.lines.specs.Answer.{replyLine, setLine, wireLine}
 use Rattle.report.specs.declared.prepare.Settings.{Settings}
-use Rattle.report.specs.Prepare.{counted, slot, wiringOf, resultsOf, results, thinResults}
-use Rattle.report.specs.Report.{slots, setLines, wireLines, linesOf, report, thinReport}
+use Rattle.report.specs.Prepare.{counted, slot, wiringOf, Results, resultsOf, results, thinResults, wireResults}
+use Rattle.report.specs.Report.{slots, setLines, wireLines, linesOf, report, thinReport, wireReport}
 use Rattle.report.proofs.prepare.Laws.{wires-zero, wires-beyond, wires-there}
 use Rattle.report.proofs.line.Laws.{slots-length, slots-at}
 
@@ -54,59 +54,61 @@ slots-are f l d size count bytes many fits each =
 unwritten : Wire
 unwritten = record { left = 0; a = 0; b = 0; coefficient = pos 0 }
 
+-- a buffer that holds none of the records
+no-slots : (size count : ℕ) (bytes : List ℕ) → min count (length bytes / size) ≡ 0 → slots size count bytes ≡ []
+unfolding slots below
+no-slots size count bytes none = rw none
+
+-- a line for each record of a list, whatever stands behind the list
+list-lines : (list : List Wire) (rest : List ℕ) → wireLines (counted (length list) (wireList list ++ rest)) ≡ map (λ w. wireLine (wireRecord w)) list
+unfolding wireLines
+list-lines list rest =
+    let most : length list ≤ length (wireList list ++ rest) / wireBytes = omega (arith, length-append (wireList list) rest, list-length list) in
+    let at : (j : ℕ) → j < length list → slot wireBytes (wireList list ++ rest) j ≡ wireRecord (getD list j unwritten) = λ j h. list-at list rest j unwritten h in
+    let each = slots-are wireRecord list unwritten wireBytes (length list) (wireList list ++ rest) refl most at in
+    ap (map wireLine) each ∙ map-map wireLine wireRecord list
+
+-- after any code but 0 only the first line
+refused-line : (x : Results) (r : Reply) → numbers r ≡ x .listed .said → (numbers r .code ≡ 0 → ⊥) → linesOf x ≡ replyLine (inOrder (numbers r)) ∷ []
+unfolding linesOf
+refused-line x r e f = rw (← e, ne-eqb (numbers r .code) 0 f)
+
 -- ---- an outcome, and the wiring of set number `which`
-module _ (n : ℕ) (terms : List ℕ) (which : ℕ) where
-  -- after any code but 0 only the first line
-  refused-line : {x : Outcome} (r : Reply) (bytes : List ℕ) → outcome r bytes ≡ x → (numbers r .code ≡ 0 → ⊥)
-      → linesOf (resultsOf n terms which x) ≡ replyLine (inOrder (numbers r)) ∷ []
-  unfolding resultsOf linesOf
-  refused-line r bytes e f = rw (← e, ne-eqb (numbers r .code) 0 f)
+module _ (n : ℕ) (terms : List ℕ) (which c : ℕ) (bytes : List ℕ) where
+  -- the reply, a line for each set of a list that is laid in the buffer, and then the wiring
+  listed-lines : {x : Outcome} (o k : ℕ) → outcome (Done o c k) bytes ≡ x → (l : Finds) {size : ℕ} → Laid l c size bytes
+      → linesOf (resultsOf n terms which x)
+      ≡ replyLine (0 ∷ o ∷ c ∷ k ∷ 0 ∷ []) ∷ map (λ s. setLine (setRecord s) o) l ++ wireLines (wiringOf n terms which c bytes)
+  unfolding resultsOf linesOf setLines
+  listed-lines o k e l laid = rw (← e, records, map-map (λ b. setLine b o) setRecord l)
+    where
+      records : slots setBytes c bytes ≡ map setRecord l
+      records = slots-are setRecord l [] setBytes c bytes (laid .counted) (omega (arith, laid .fits, laid .long)) (laid .written)
 
-  module _ (c : ℕ) (bytes : List ℕ) where
-    -- the reply, a line for each set of a list that is laid in the buffer, and then the wiring
-    listed-lines : {x : Outcome} (o k : ℕ) → outcome (Done o c k) bytes ≡ x → (l : Finds) {size : ℕ} → Laid l c size bytes
-        → linesOf (resultsOf n terms which x)
-        ≡ replyLine (0 ∷ o ∷ c ∷ k ∷ 0 ∷ []) ∷ map (λ s. setLine (setRecord s) o) l ++ wireLines (wiringOf n terms which c bytes)
-    unfolding resultsOf linesOf setLines
-    listed-lines o k e l laid = rw (← e, records, map-map (λ b. setLine b o) setRecord l)
-      where
-        records : slots setBytes c bytes ≡ map setRecord l
-        records = slots-are setRecord l [] setBytes c bytes (laid .counted) (omega (arith, laid .fits, laid .long)) (laid .written)
+  -- no set of that number: nothing is wired
+  pub nothing-wired : (which ≡ 0) ⊎ (c < which) → wireLines (wiringOf n terms which c bytes) ≡ []
+  unfolding wireLines
+  nothing-wired h = rw (← unwired h, no-slots wireBytes 0 (replicate wiresBytes 0) (omega arith))
+    where
+      unwired : (which ≡ 0) ⊎ (c < which) → counted 0 (replicate wiresBytes 0) ≡ wiringOf n terms which c bytes
+      unwired (inl low) = wires-zero n terms which c bytes wiresBytes refl (replicate wiresBytes 0) refl (omega arith)
+      unwired (inr high) = wires-beyond n terms which c bytes wiresBytes refl (replicate wiresBytes 0) refl (omega arith) high
 
-    -- no set of that number: nothing is wired
-    pub nothing-wired : (which ≡ 0) ⊎ (c < which) → wireLines (wiringOf n terms which c bytes) ≡ []
-    unfolding wireLines slots below
-    nothing-wired h = rw (← unwired h) (empty-lines (replicate wiresBytes 0))
-      where
-        empty-lines : (zeros : List ℕ) → map wireLine (slots wireBytes 0 zeros) ≡ []
-        empty-lines zeros = let no : min 0 (length zeros / wireBytes) ≡ 0 = omega arith in rw no
+  -- the record of that number, where a list is its wiring: a line for each record of the list
+  module _ (low : 1 ≤ which) (high : which ≤ c) (o : ℕ) (list : List Wire) where
+    abbrev left : List ℕ
+    left = wireList list ++ replicate (wiresBytes - wireBytes * length list) 0
 
-        unwired : (which ≡ 0) ⊎ (c < which) → counted 0 (replicate wiresBytes 0) ≡ wiringOf n terms which c bytes
-        unwired (inl low) = wires-zero n terms which c bytes wiresBytes refl (replicate wiresBytes 0) refl (omega arith)
-        unwired (inr high) = wires-beyond n terms which c bytes wiresBytes refl (replicate wiresBytes 0) refl (omega arith) high
+    module _ (wires : outcome (Done o (length list) 0) left ≡ wired n terms (slot setBytes bytes (which - 1)) wiresBytes) where
+      filed : counted (length list) left ≡ wiringOf n terms which c bytes
+      filed =
+          wires-there n terms which c bytes wiresBytes refl low high (setBytes * (which - 1)) refl (Done o (length list) 0) left _ (rw same wires) refl
+        where
+          same : setBytes * (which - 1) + setBytes - setBytes * (which - 1) ≡ setBytes
+          same = omega arith
 
-    -- the record of that number, where a list is its wiring: a line for each record of the list
-    module _ (low : 1 ≤ which) (high : which ≤ c) (o : ℕ) (list : List Wire) where
-      abbrev left : List ℕ
-      left = wireList list ++ replicate (wiresBytes - wireBytes * length list) 0
-
-      module _ (wires : outcome (Done o (length list) 0) left ≡ wired n terms (slot setBytes bytes (which - 1)) wiresBytes) where
-        filed : counted (length list) left ≡ wiringOf n terms which c bytes
-        filed =
-            wires-there n terms which c bytes wiresBytes refl low high (setBytes * (which - 1)) refl (Done o (length list) 0) left _ (rw same wires) refl
-          where
-            same : setBytes * (which - 1) + setBytes - setBytes * (which - 1) ≡ setBytes
-            same = omega arith
-
-        listed-wires : wireLines (wiringOf n terms which c bytes) ≡ map (λ w. wireLine (wireRecord w)) list
-        unfolding wireLines
-        listed-wires =
-            let long : length left ≡ wiresBytes = wire-length n terms _ wiresBytes (Done o (length list) 0) left wires in
-            let zeros : List ℕ = replicate (wiresBytes - wireBytes * length list) 0 in
-            let most : wireBytes * length list ≤ wiresBytes = omega (arith, length-append (wireList list) zeros, list-length list) in
-            let at : (j : ℕ) → j < length list → slot wireBytes left j ≡ wireRecord (getD list j unwritten) = λ j h. list-at list zeros j unwritten h in
-            let each = slots-are wireRecord list unwritten wireBytes (length list) left refl (omega arith) at in
-            rw (← filed) (ap (map wireLine) each ∙ map-map wireLine wireRecord list)
+      listed-wires : wireLines (wiringOf n terms which c bytes) ≡ map (λ w. wireLine (wireRecord w)) list
+      listed-wires = rw (← filed) (list-lines list (replicate (wiresBytes - wireBytes * length list) 0))
 
 -- ---- planning
 module _ (s : Settings) (terms : List ℕ) where
@@ -115,8 +117,8 @@ module _ (s : Settings) (terms : List ℕ) where
 
   pub report-refused : (r : Reply) (bytes : List ℕ) → outcome r bytes ≡ planned (s .n) (s .cap) (s .limit) terms size → (numbers r .code ≡ 0 → ⊥)
       → report s terms ≡ replyLine (inOrder (numbers r)) ∷ []
-  unfolding report results
-  report-refused r bytes e f = refused-line (s .n) terms (s .which) r bytes e f
+  unfolding report results resultsOf
+  report-refused r bytes e f = refused-line (results s terms) r (ap (λ (x : Outcome). x .said) e) f
 
   module _ (o c k : ℕ) (bytes : List ℕ) (e : outcome (Done o c k) bytes ≡ planned (s .n) (s .cap) (s .limit) terms size) where
     -- the list is that of the smallest sets
@@ -138,8 +140,8 @@ module _ (s : Settings) (terms : List ℕ) where
 module _ (n which : ℕ) (terms set : List ℕ) (size : ℕ) where
   pub thin-report-refused : (r : Reply) (bytes : List ℕ) → outcome r bytes ≡ thinned n terms set size → (numbers r .code ≡ 0 → ⊥)
       → thinReport n which terms set size ≡ replyLine (inOrder (numbers r)) ∷ []
-  unfolding thinReport thinResults
-  thin-report-refused r bytes e f = refused-line n terms which r bytes e f
+  unfolding thinReport thinResults resultsOf
+  thin-report-refused r bytes e f = refused-line (thinResults n which terms set size) r (ap (λ (x : Outcome). x .said) e) f
 
   module _ (o c k : ℕ) (bytes : List ℕ) (e : outcome (Done o c k) bytes ≡ thinned n terms set size) where
     -- the list is that of the smallest quadratic subsets
@@ -154,3 +156,21 @@ module _ (n which : ℕ) (terms set : List ℕ) (size : ℕ) where
     thin-wiring-lines low high =
         let wires = thin-wired n terms set size o c k bytes e (which - 1) (omega arith) wiresBytes (omega arith) in
         listed-wires n terms which c bytes low high o _ wires
+
+-- ---- wiring the given set
+module _ (n : ℕ) (terms set : List ℕ) where
+  pub wire-report-refused : (r : Reply) (bytes : List ℕ) → outcome r bytes ≡ wired n terms set wiresBytes → (numbers r .code ≡ 0 → ⊥)
+      → wireReport n terms set ≡ replyLine (inOrder (numbers r)) ∷ []
+  unfolding wireReport wireResults
+  wire-report-refused r bytes e f = refused-line (wireResults n terms set) r (ap (λ (x : Outcome). x .said) e) f
+
+  module _ (o c k : ℕ) (bytes : List ℕ) (e : outcome (Done o c k) bytes ≡ wired n terms set wiresBytes) where
+    -- no set lines: the list is that of the given set, and its records are as many as the reply counts
+    pub wire-report-done : (wireReport n terms set ≡ replyLine (0 ∷ o ∷ c ∷ k ∷ 0 ∷ []) ∷ map (λ w. wireLine (wireRecord w)) (listIn n terms set))
+        × (c ≡ length (listIn n terms set))
+    unfolding wireReport wireResults linesOf setLines
+    wire-report-done =
+        let says = wire-exact n terms set wiresBytes (Done o c k) bytes .0 e in
+        let many : c ≡ length (listIn n terms set) = says .0 .3 in
+        let lines : wireLines (counted c bytes) ≡ map (λ w. wireLine (wireRecord w)) (listIn n terms set) = rw (says .1, many) (list-lines (listIn n terms set) _) in
+        (rw (← e, no-slots setBytes c [] (omega arith), lines), many)

@@ -26,8 +26,8 @@ use Rattle.lines.specs.Text.{decimalWithin, decimal, signedText, joined}
 use Rattle.lines.specs.Answer.{replyLine, exponents, setText, wireLine}
 use Rattle.lines.proofs.Samples.{written, line}
 use Rattle.report.specs.declared.prepare.Settings.{Settings}
-use Rattle.report.specs.Prepare.{wiringOf, resultsOf, results, thinResults}
-use Rattle.report.specs.Report.{slots, setLines, wireLines, linesOf, report, thinReport}
+use Rattle.report.specs.Prepare.{wiringOf, resultsOf, results, thinResults, wireResults}
+use Rattle.report.specs.Report.{slots, setLines, wireLines, linesOf, report, thinReport, wireReport}
 use Rattle.report.specs.Program.{program}
 
 record Row : Type 0 where
@@ -37,11 +37,16 @@ record Row : Type 0 where
 row : Settings → List ℕ → List String → Row
 row s terms want = record { got = report s terms; want = map line want }
 
--- thinning a set of one variable, by its powers, with room for so many sets, of which one is wired
+-- the record of a set of one variable, by its powers
+powersOf : List ℕ → List ℕ
+powersOf l = gather (λ p. padded (p ∷ [])) l ++ replicate (36 - 6 * length l) 0
+
+-- thinning such a set, with room for so many sets, of which one is wired; and wiring it
 thinRow : ℕ → ℕ → List ℕ → List ℕ → List String → Row
-thinRow room which terms powers want =
-    let set : List ℕ = gather (λ p. padded (p ∷ [])) powers ++ replicate (36 - 6 * length powers) 0 in
-    record { got = thinReport 1 which terms set (36 * room); want = map line want }
+thinRow room which terms powers want = record { got = thinReport 1 which terms (powersOf powers) (36 * room); want = map line want }
+
+wireRow : List ℕ → List ℕ → List String → Row
+wireRow terms powers want = record { got = wireReport 1 terms (powersOf powers); want = map line want }
 
 -- x' = x^4 + x^3, with room for so many sets, of which one is wired
 example : List ℕ
@@ -116,10 +121,25 @@ table =
     ∷ thinRow 1 1 (plus 1 (1 ∷ [])) (2 ∷ 3 ∷ []) ("0 0 1 4 0" ∷ "" ∷ "1 0 1 1" ∷ [])
     ∷ thinRow 1 1 (plus 1 (4 ∷ [])) (2 ∷ []) ("9 1 0 0 2" ∷ [])
     ∷ thinRow 1 1 example (2 ∷ 3 ∷ 4 ∷ 5 ∷ 6 ∷ 7 ∷ 8 ∷ []) ("2 0 0 0 0" ∷ [])
+    -- wiring a given set: no set line; not quadratic; x alone is no new signal; the empty set, and nothing to be wired
+    ∷ wireRow example (3 ∷ 4 ∷ [])
+    ("0 2 6 0 0"
+    ∷ "1 0 2 1"
+    ∷ "1 0 3 1"
+    ∷ "2 1 3 3"
+    ∷ "2 2 2 3"
+    ∷ "3 2 2 4"
+    ∷ "3 2 3 4"
+    ∷ [])
+    ∷ wireRow (plus 1 (4 ∷ [])) (2 ∷ []) ("9 1 0 0 2" ∷ [])
+    ∷ wireRow example (1 ∷ []) ("8 0 0 0 0" ∷ [])
+    ∷ wireRow (plus 1 (2 ∷ [])) [] ("0 0 1 0 0" ∷ "1 1 1 1" ∷ [])
+    ∷ wireRow [] [] ("0 0 0 0 0" ∷ [])
     ∷ []
 
 sampled : map (λ r. r .got) table ≡ map (λ r. r .want) table
-unfolding table row thinRow padded plus minus example wiring-set written line report thinReport linesOf setLines wireLines slots resultsOf results thinResults wiringOf decimalWithin decimal
+unfolding table row powersOf thinRow wireRow padded plus minus example wiring-set written line report thinReport wireReport linesOf setLines wireLines slots resultsOf results thinResults
+    wireResults wiringOf decimalWithin decimal
     signedText joined replyLine exponents setText wireLine planned thinned thinning thinnest least quadraticOnes leastSize subsets settingsRight said setsBytes plan levels settled run onward
     kept level opened after ends tried opens child added cheaper chosen pairs divisors score setRecord wired listed verdict recordJudged judged firstUnmet
     countRight records lengthRight exponentsRight coefficientRight termRight faultFrom equation system places sizeOf setOf ascending monomialRight

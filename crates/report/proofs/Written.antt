@@ -14,9 +14,9 @@ use Rattle.monomial.proofs.Members.{map-same}
 use Rattle.lines.specs.Text.{Stands}
 use Rattle.report.specs.declared.prepare.Settings.{Settings}
 use Rattle.report.specs.declared.prepare.Prepared.{Prepared}
-use Rattle.report.specs.Prepare.{Results, resultsIn, Prepares, PreparesThin}
-use Rattle.report.specs.Report.{linesOf, report, thinReport, lineAt}
-use Rattle.report.proofs.prepare.Exact.{prepared-lines, thin-prepared-lines}
+use Rattle.report.specs.Prepare.{Results, resultsIn, Prepares, PreparesThin, PreparesWire}
+use Rattle.report.specs.Report.{linesOf, report, thinReport, wireReport, lineAt}
+use Rattle.report.proofs.prepare.Exact.{prepared-lines, thin-prepared-lines, wire-prepared-lines}
 use Rattle.report.proofs.line.Exact.{line-none, all-lines}
 
 -- line number k as it was told: its length, and the lent line before and after; and the number at which none was told
@@ -41,7 +41,7 @@ module _ (r : Results) (ends : ℕ → ℕ) (before line : ℕ → List ℕ) (st
       map-same (λ k. take (ends k) (line k)) (lineAt (linesOf r)) (below stop) (λ k h. let low : k < stop = below-out stop k h in told k (omega arith) .1 .front)
       ∙ rw all-told (all-lines (linesOf r))
 
--- the bytes that were told, one line behind the other, after preparing for planning or for thinning
+-- the bytes that were told, one line behind the other, after preparing for planning, for thinning or for wiring
 module _ {p : Prepared} {sets after wires : List ℕ} (ends : ℕ → ℕ) (before line : ℕ → List ℕ) (stop : ℕ)
     (told : (k : ℕ) → k ≤ stop → Stands (lineAt (linesOf (resultsIn p after wires)) k) (ends k) (before k) (line k))
     (some : (k : ℕ) → k < stop → ends k ≡ 0 → ⊥) (none : ends stop ≡ 0) where
@@ -53,3 +53,7 @@ module _ {p : Prepared} {sets after wires : List ℕ} (ends : ℕ → ℕ) (befo
       → map (λ k. take (ends k) (line k)) (below stop) ≡ thinReport n which terms set (length sets)
   thin-report-written n which terms set a =
       lines-written (resultsIn p after wires) ends before line stop told some none ∙ thin-prepared-lines n which terms set a
+
+  pub wire-report-written : (n : ℕ) (terms set : List ℕ) → PreparesWire n terms set p sets after wires
+      → map (λ k. take (ends k) (line k)) (below stop) ≡ wireReport n terms set
+  wire-report-written n terms set a = lines-written (resultsIn p after wires) ends before line stop told some none ∙ wire-prepared-lines n terms set a

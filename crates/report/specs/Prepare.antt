@@ -1,7 +1,7 @@
--- What planning or thinning, and then wiring, leave for a report. Assumes nothing.
+-- What planning or thinning, and then wiring, or the wiring of a given set alone, leave for a report. Assumes nothing.
 use mathlib.Core.Path.{_≡_}
 use mathlib.Core.Bool.{cond, _&&_}
-use mathlib.Core.List.{List}
+use mathlib.Core.List.{List, []}
 use Prim.Native.Nat.{ℕ, _*_, _-_, _/_, min}
 use lib.Dec.{leb}
 use lib.ListN.{length, take, drop, replicate}
@@ -21,6 +21,10 @@ pub record Counted : Type 0 where
 abbrev pub counted : ℕ → List ℕ → Counted
 counted count bytes = record { count = count; bytes = bytes }
 
+-- the records of an outcome
+abbrev pub countedOf : Outcome → Counted
+countedOf o = counted (o .said .count) (o .bytes)
+
 -- record number i, from 0, of a buffer with records of one size
 abbrev pub slot : ℕ → List ℕ → ℕ → List ℕ
 slot size bytes i = take size (drop (size * i) bytes)
@@ -29,9 +33,9 @@ slot size bytes i = take size (drop (size * i) bytes)
 unfoldable pub wiringOf : ℕ → List ℕ → ℕ → ℕ → List ℕ → Counted
 wiringOf n terms which count sets =
     let w = wired n terms (slot setBytes sets (which - 1)) wiresBytes in
-    cond (leb 1 which && leb which count) (counted (w .said .count) (w .bytes)) (counted 0 (replicate wiresBytes 0))
+    cond (leb 1 which && leb which count) (countedOf w) (counted 0 (replicate wiresBytes 0))
 
--- the outcome of an operation that lists sets, and the wiring of one of them
+-- the outcome of an operation, with the sets that it lists, and the wiring of one set
 pub record Results : Type 0 where
   pub listed : Outcome
   pub wiring : Counted
@@ -45,6 +49,12 @@ results s terms = resultsOf (s .n) terms (s .which) (planned (s .n) (s .cap) (s 
 
 unfoldable pub thinResults : ℕ → ℕ → List ℕ → List ℕ → ℕ → Results
 thinResults n which terms set size = resultsOf n terms which (thinned n terms set size)
+
+-- of wiring the given set: no sets are listed, since the owner has it
+unfoldable pub wireResults : ℕ → List ℕ → List ℕ → Results
+wireResults n terms set =
+    let w = wired n terms set wiresBytes in
+    record { listed = record { said = w .said; bytes = [] }; wiring = countedOf w }
 
 -- ---- as the code has them: the results in two buffers, of which the first was lent for the sets, as far as is said
 abbrev pub resultsIn : Prepared → List ℕ → List ℕ → Results
@@ -60,9 +70,13 @@ pub record Leaves (size : ℕ) (r : Results) (p : Prepared) (sets after wires : 
   pub left : resultsIn p after wires ≡ r
   pub rest : drop (p .lent) after ≡ drop (p .lent) sets
 
--- preparing leaves the results of planning into the room that is asked for; or of thinning into all of the buffer
+-- preparing leaves the results of planning into the room that is asked for; of thinning into all of the buffer; or of
+-- wiring into nothing of it
 abbrev pub Prepares : Settings → List ℕ → Prepared → List ℕ → List ℕ → List ℕ → Type 0
 Prepares s terms = Leaves (setBytes * s .room) (results s terms)
 
 abbrev pub PreparesThin : ℕ → ℕ → List ℕ → List ℕ → Prepared → List ℕ → List ℕ → List ℕ → Type 0
 PreparesThin n which terms set p sets = Leaves (length sets) (thinResults n which terms set (length sets)) p sets
+
+abbrev pub PreparesWire : ℕ → List ℕ → List ℕ → Prepared → List ℕ → List ℕ → List ℕ → Type 0
+PreparesWire n terms set = Leaves 0 (wireResults n terms set)

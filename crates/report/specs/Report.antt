@@ -1,4 +1,5 @@
--- All that a program writes, line by line: the reply, the sets, and the wiring of one of them. Assumes nothing.
+-- All that a program writes, line by line: the reply, the sets that are listed, and the wiring of one set.
+-- Assumes nothing.
 use mathlib.Core.Bool.{cond}
 use mathlib.Core.List.{List, [], _∷_, _++_, map}
 use Prim.Native.Nat.{ℕ, _/_, min}
@@ -8,7 +9,7 @@ use Rattle.monomial.specs.Lists.{below}
 use Rattle.wiring.specs.Panel.{setBytes, wireBytes}
 use Rattle.wiring.specs.Reply.{Outcome, inOrder}
 use Rattle.lines.specs.Answer.{replyLine, setLine, wireLine}
-use Rattle.report.specs.Prepare.{Counted, slot, Results, results, thinResults}
+use Rattle.report.specs.Prepare.{Counted, slot, Results, results, thinResults, wireResults}
 use Rattle.report.specs.declared.prepare.Settings.{Settings}
 
 -- the first `count` records of a buffer, as many of them as it holds
@@ -26,12 +27,15 @@ wireLines w = map wireLine (slots wireBytes (w .count) (w .bytes))
 unfoldable pub linesOf : Results → List (List ℕ)
 linesOf r = replyLine (inOrder (r .listed .said)) ∷ cond (eqb (r .listed .said .code) 0) (setLines (r .listed) ++ wireLines (r .wiring)) []
 
--- of planning; and of thinning into a buffer of so many bytes
+-- of planning; of thinning into a buffer of so many bytes; and of wiring the given set
 unfoldable pub report : Settings → List ℕ → List (List ℕ)
 report s terms = linesOf (results s terms)
 
 unfoldable pub thinReport : ℕ → ℕ → List ℕ → List ℕ → ℕ → List (List ℕ)
 thinReport n which terms set size = linesOf (thinResults n which terms set size)
+
+unfoldable pub wireReport : ℕ → List ℕ → List ℕ → List (List ℕ)
+wireReport n terms set = linesOf (wireResults n terms set)
 
 -- line number k, from 0; nothing behind the last
 abbrev pub lineAt : List (List ℕ) → ℕ → List ℕ

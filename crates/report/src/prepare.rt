@@ -1,4 +1,4 @@
-// Plans or thins, and wires once, into lent buffers: what the lines of a report are made of.
+// Plans or thins and wires once, or wires a given set alone, into lent buffers: what the lines of a report are made of.
 use thin::thin as thinning;
 use walk::plan;
 use wiring::answers;
@@ -8,10 +8,11 @@ use wiring::panel::WIRES_BYTES;
 use wiring::reply;
 use wiring::reply::Reply;
 ghost use mathlib.Core.Path.{_≡_};
-ghost use Prim.Native.Nat.{_*_, _≤_, min};
+ghost use mathlib.Core.List.{List};
+ghost use Prim.Native.Nat.{ℕ, _*_, _≤_, min};
 ghost use lib.ListN.{length};
 ghost use Rattle.wiring.specs.Panel.{setBytes};
-ghost use Rattle.report.specs.Prepare.{counted, wiringOf, fitted, Prepares, PreparesThin};
+ghost use Rattle.report.specs.Prepare.{counted, wiringOf, fitted, Prepares, PreparesThin, PreparesWire};
 
 // What planning is asked for. Room is in sets. The set that is wired goes by its number, from 1.
 pub struct Settings {
@@ -22,7 +23,7 @@ pub struct Settings {
     pub which: u64,
 }
 
-// The reply of planning or thinning, how many bytes of the buffer it was lent, and the number of wiring records.
+// The reply, how many bytes of a buffer were lent for sets, and the number of wiring records.
 pub struct Prepared {
     pub reply: Reply,
     pub lent: usize,
@@ -92,4 +93,18 @@ pub fn prepare_thin(
     let five = reply::numbers(reply);
     let wires = wire_set(n, terms, which, five[2], sets, out);
     Prepared { reply, lent, wires }
+}
+
+// Wires the given set, which its owner has: no sets are listed, and no buffer is lent for any.
+pub fn prepare_wire(n: u64, terms: &[u8], set: &[u8], out: &mut [u8; WIRES_BYTES]) -> Prepared
+    ensures { λ r. ⌜ ((sets : List ℕ) → PreparesWire n (now (terms .entry)) (now (set .entry)) r sets sets (now (out .exit))) ⌝ }
+{
+    let reply = answers::wire(n, terms, set, out);
+    let five = reply::numbers(reply);
+    let wires = five[2];
+    Prepared {
+        reply,
+        lent: 0,
+        wires,
+    }
 }

@@ -19,7 +19,7 @@ use Rattle.wiring.specs.Answers.{countRight, firstUnmet, judged, recordJudged, 
 use Rattle.walk.specs.Plan.{setsBytes, said}
 use Rattle.walk.proofs.Worked.{padded, plus, set}
 use Rattle.thin.specs.Subsets.{subsets}
-use Rattle.thin.specs.Thin.{leastSize, quadraticOnes, least, thinnest, thinning, thinned}
+use Rattle.thin.specs.Thin.{leastSize, quadraticOnes, least, thinnest, thinning, thinnedBy, thinned}
 
 record Row : Type 0 where
   got : Outcome
@@ -88,7 +88,7 @@ table =
 
 -- replies and buffers are as written
 worked : map (λ r. r .got) table ≡ map (λ r. r .want) table
-unfolding table row quartic powers feeding plus set padded thinned thinning thinnest least leastSize quadraticOnes subsets said setsBytes setRecord
+unfolding table row quartic powers feeding plus set padded thinned thinnedBy thinning thinnest least leastSize quadraticOnes subsets said setsBytes setRecord
     verdict recordJudged judged firstUnmet countRight records lengthRight exponentsRight coefficientRight termRight faultFrom equation system places
     sizeOf setOf ascending monomialRight setRight signals factor inV2 unmet nonsquares partsFrom derivative coeff times support signed isZero vars any
     some all keep place gather below pairwise pointwise dictionary insertBy arrangeBy
@@ -100,7 +100,7 @@ pub record TwoRooms : Type 0 where
   pub short : thinned 1 quartic powers 71 .said ≡ five 6 2 0 8 0
 
 pub two-rooms : TwoRooms
-unfolding quartic powers plus set padded thinned thinning thinnest least leastSize quadraticOnes subsets said setsBytes setRecord verdict recordJudged
+unfolding quartic powers plus set padded thinned thinnedBy thinning thinnest least leastSize quadraticOnes subsets said setsBytes setRecord verdict recordJudged
     judged firstUnmet countRight records lengthRight exponentsRight coefficientRight termRight faultFrom equation system places sizeOf setOf ascending
     monomialRight setRight signals factor inV2 unmet nonsquares partsFrom derivative coeff times support signed isZero vars any some all keep place
     gather below pairwise pointwise dictionary insertBy arrangeBy

@@ -1,4 +1,4 @@
--- What is claimed of thinning: each refusal is that of checking, and done lists all smallest quadratic subsets of the given set. Assumes nothing.
+-- What is claimed of thinning: each refusal is that of wiring, and done lists all smallest quadratic subsets of the given set. Assumes nothing.
 use mathlib.Core.Path.{_≡_}
 use mathlib.Core.Bool.{cond}
 use mathlib.Core.List.{List, [], _++_}
@@ -11,11 +11,9 @@ use Rattle.monomial.specs.Order.{same, before, beforeSet}
 use Rattle.monomial.specs.Claims.{_∈_, _⊆_, Ascending}
 use Rattle.wiring.specs.Panel.{setBytes}
 use Rattle.wiring.specs.Reply.{numbers}
-use Rattle.wiring.specs.Poly.{plain}
-use Rattle.wiring.specs.Quadratic.{Quadratic}
 use Rattle.wiring.specs.Terms.{records, system}
 use Rattle.wiring.specs.Sets.{setOf}
-use Rattle.wiring.specs.Claims.{Recordable, WellFormed, signalsIn, derivativeIn, CheckSays}
+use Rattle.wiring.specs.Claims.{Recordable, VerdictSays, QuadraticIn}
 use Rattle.wiring.specs.declared.reply.Reply.{Reply}
 use Rattle.wiring.specs.declared.reply.Reply.the-variants.{Done, Setting, Length, Term, Twice, Nothing, Full, Spent, BadSet, NotQuadratic}
 use Rattle.walk.specs.Walk.{Finds}
@@ -52,23 +50,18 @@ leastIn n terms set = least n (system (records terms)) (setOf set)
 abbrev pub thinnestIn : ℕ → List ℕ → List ℕ → Finds
 thinnestIn n terms set = thinnest n (system (records terms)) (setOf set)
 
--- a set that can be thinned: well-formed, and quadratic by Definition 1
-pub record Thinnable (n : ℕ) (terms set : List ℕ) : Type 0 where
-  pub formed : WellFormed n terms set
-  pub quadratic : Quadratic plain (signalsIn n set) (derivativeIn terms)
-
--- what each reply of thinning says: a refusal of checking, or whether the list has room in a buffer of this size
+-- what each reply of thinning says: a verdict that refuses, or whether the list has room in a buffer of this size
 abbrev pub ThinSays : ℕ → List ℕ → List ℕ → ℕ → Reply → Type 0
 ThinSays n terms set size (Done o c k) =
-    Thinnable n terms set × (o ≡ leastIn n terms set) × (c ≡ length (thinnestIn n terms set)) × (k ≡ 2 ^ length (setOf set)) × (c ≤ size / setBytes)
+    QuadraticIn n terms set × (o ≡ leastIn n terms set) × (c ≡ length (thinnestIn n terms set)) × (k ≡ 2 ^ length (setOf set)) × (c ≤ size / setBytes)
 ThinSays n terms set size (Full o k) =
-    Thinnable n terms set × (o ≡ leastIn n terms set) × (k ≡ 2 ^ length (setOf set)) × (size / setBytes < length (thinnestIn n terms set))
-ThinSays n terms set size Setting = CheckSays n terms set Setting
-ThinSays n terms set size Length = CheckSays n terms set Length
-ThinSays n terms set size (Term p) = CheckSays n terms set (Term p)
-ThinSays n terms set size (Twice p) = CheckSays n terms set (Twice p)
-ThinSays n terms set size BadSet = CheckSays n terms set BadSet
-ThinSays n terms set size (NotQuadratic o p) = CheckSays n terms set (NotQuadratic o p)
+    QuadraticIn n terms set × (o ≡ leastIn n terms set) × (k ≡ 2 ^ length (setOf set)) × (size / setBytes < length (thinnestIn n terms set))
+ThinSays n terms set size Setting = VerdictSays n terms set Setting
+ThinSays n terms set size Length = VerdictSays n terms set Length
+ThinSays n terms set size (Term p) = VerdictSays n terms set (Term p)
+ThinSays n terms set size (Twice p) = VerdictSays n terms set (Twice p)
+ThinSays n terms set size BadSet = VerdictSays n terms set BadSet
+ThinSays n terms set size (NotQuadratic o p) = VerdictSays n terms set (NotQuadratic o p)
 ThinSays n terms set size (Nothing o k) = ⊥
 ThinSays n terms set size (Spent o k) = ⊥
 
@@ -80,14 +73,14 @@ thinLeaves n terms set size r =
 
 -- what done says, and its bytes
 pub record Thinned (n : ℕ) (terms set : List ℕ) (size order count steps : ℕ) (bytes : List ℕ) : Type 0 where
-  pub given : Thinnable n terms set
+  pub given : QuadraticIn n terms set
   pub smallest : Thinnest n terms (setOf set) order (thinnestIn n terms set)
   pub judged : steps ≡ 2 ^ length (setOf set)
   pub laid : Laid (thinnestIn n terms set) count size bytes
 
 -- what full says: the subsets of that size are more than there is room for
 pub record Overfull (n : ℕ) (terms set : List ℕ) (size order steps : ℕ) (bytes : List ℕ) : Type 0 where
-  pub given : Thinnable n terms set
+  pub given : QuadraticIn n terms set
   pub smallest : Thinnest n terms (setOf set) order (thinnestIn n terms set)
   pub judged : steps ≡ 2 ^ length (setOf set)
   pub over : size / setBytes < length (thinnestIn n terms set)

@@ -1,4 +1,4 @@
--- Thinning, for all inputs: the reply and every byte of the buffer. Checks run as in checking; then 6. Assumes nothing.
+-- Thinning, for all inputs: the reply and every byte of the buffer. Checks run as in wiring: 6 comes last. Assumes nothing.
 use mathlib.Core.Bool.{cond}
 use mathlib.Core.List.{List, [], _∷_}
 use Prim.Native.Nat.{ℕ, _/_, _^_, min}
@@ -12,6 +12,7 @@ use Rattle.wiring.specs.Poly.{Poly}
 use Rattle.wiring.specs.Terms.{records, system}
 use Rattle.wiring.specs.Sets.{setOf}
 use Rattle.wiring.specs.Answers.{verdict}
+use Rattle.wiring.specs.declared.reply.Reply.{Reply}
 use Rattle.walk.specs.Walk.{Finds}
 use Rattle.walk.specs.Plan.{Ending, done, fullAt, said}
 use Rattle.thin.specs.Subsets.{subsets, isQuadratic}
@@ -40,9 +41,10 @@ module _ (n : ℕ) (fs : List (Poly Mono)) (s : List Mono) where
   unfoldable pub thinning : ℕ → Ending
   thinning room = cond (leb (length thinnest) room) (done least (2 ^ length s) thinnest) (fullAt least (2 ^ length s))
 
--- where checking is done, the subsets of the set that was given
+-- a verdict and the subsets in one: these are told where the verdict is done
+unfoldable pub thinnedBy : Reply → Ending → ℕ → Outcome
+thinnedBy judges ends size = cond (eqb (numbers judges .code) 0) (said ends size) (refused judges size)
+
+-- thinning: the verdict of wiring on what was given, with the subsets of the set
 unfoldable pub thinned : ℕ → List ℕ → List ℕ → ℕ → Outcome
-thinned n terms set size =
-    let checks = verdict n terms set in
-    let ends = said (thinning n (system (records terms)) (setOf set) (size / setBytes)) size in
-    cond (eqb (numbers checks .code) 0) ends (refused checks size)
+thinned n terms set size = thinnedBy (verdict n terms set) (thinning n (system (records terms)) (setOf set) (size / setBytes)) size

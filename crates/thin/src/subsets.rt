@@ -4,16 +4,17 @@ use walk::listing;
 use wiring::answers;
 use wiring::buffer;
 use wiring::panel::SET_BYTES;
-use wiring::reply;
+use wiring::reply::Reply;
 use wiring::sets::Set;
 ghost use mathlib.Core.Path.{_≡_};
 ghost use mathlib.Core.List.{[], _∷_, _++_};
 ghost use Prim.Native.Nat.{_+_, _≤_, _<_};
 ghost use lib.ListN.{length};
 ghost use Rattle.wiring.specs.Panel.{cards};
+ghost use Rattle.wiring.specs.Reply.{numbers};
 ghost use Rattle.wiring.specs.Terms.{records, system};
 ghost use Rattle.wiring.specs.Sets.{monomialsOf};
-ghost use Rattle.wiring.specs.Answers.{Judgeable};
+ghost use Rattle.wiring.specs.Answers.{judged, told, wires, Judgeable};
 ghost use Rattle.wiring.specs.Claims.{Wide};
 ghost use Rattle.walk.specs.Walk.{Finds};
 ghost use Rattle.thin.specs.Subsets.{isQuadratic, Begun, Sifting, Bounded, undecided, Deciding};
@@ -25,13 +26,24 @@ pub struct Best {
     pub steps: u64,
 }
 
+// What wiring says of a set with an empty buffer: the verdict alone.
+pub(crate) fn verdict_of(n: usize, terms: &[u8], set: Set) -> Reply
+    requires { ⌜ Judgeable n (now terms) set ⌝ }
+    ensures { λ r. ⌜ numbers r ≡ told (judged n (system (records (now (terms .entry)))) (monomialsOf set)) (wires n (system (records (now (terms .entry)))) (monomialsOf set)) 0 .said ⌝ }
+{
+    let mut none = [0u8; 0];
+    answers::wire_set(n, terms, set, &mut none)
+}
+
 // Whether a set is quadratic.
 fn is_quadratic(n: usize, terms: &[u8], set: Set) -> bool
     requires { ⌜ Judgeable n (now terms) set ⌝ }
     ensures { λ r. ⌜ r ≡ isQuadratic n (system (records (now (terms .entry)))) (monomialsOf set) ⌝ }
 {
-    let five = reply::numbers(answers::judge(n, terms, set));
-    five[0] == 0
+    match verdict_of(n, terms, set) {
+        Reply::NotQuadratic { .. } => false,
+        _ => true,
+    }
 }
 
 // Writes a set behind the first `count` of the list, where there is room. Without room it is only counted: a smaller set may yet begin the list anew.

@@ -13,13 +13,13 @@ ghost use Rattle.wiring.specs.Panel.{setBytes};
 ghost use Rattle.wiring.specs.Reply.{outcome};
 ghost use Rattle.wiring.specs.Terms.{records, system};
 ghost use Rattle.wiring.specs.Sets.{monomialsOf};
-ghost use Rattle.wiring.specs.Answers.{Listable};
+ghost use Rattle.wiring.specs.Answers.{judged, Judgeable};
 ghost use Rattle.walk.specs.Plan.{said};
-ghost use Rattle.thin.specs.Thin.{thinning, thinned};
+ghost use Rattle.thin.specs.Thin.{thinning, thinnedBy, thinned};
 
-// Lists the smallest quadratic subsets of a quadratic set over zeros.
+// Lists the smallest quadratic subsets of a set over zeros.
 fn thin_set(n: usize, terms: &[u8], set: Set, out: &mut [u8]) -> Reply
-    requires { ⌜ Listable n (now terms) set × (now out ≡ replicate (length (now out)) 0) ⌝ }
+    requires { ⌜ Judgeable n (now terms) set × (now out ≡ replicate (length (now out)) 0) ⌝ }
     ensures { λ r. ⌜ outcome r (now (out .exit)) ≡ said (thinning n (system (records (now (terms .entry)))) (monomialsOf set) (length (now (out .entry)) / setBytes)) (length (now (out .entry))) ⌝ }
 {
     let start = Best {
@@ -41,15 +41,26 @@ fn thin_set(n: usize, terms: &[u8], set: Set, out: &mut [u8]) -> Reply
     }
 }
 
+// Judges a set first: one that is not quadratic is refused as wiring refuses it.
+fn thin_judged(n: usize, terms: &[u8], set: Set, out: &mut [u8]) -> Reply
+    requires { ⌜ Judgeable n (now terms) set × (now out ≡ replicate (length (now out)) 0) ⌝ }
+    ensures { λ r. ⌜ outcome r (now (out .exit)) ≡ thinnedBy (judged n (system (records (now (terms .entry)))) (monomialsOf set)) (thinning n (system (records (now (terms .entry)))) (monomialsOf set) (length (now (out .entry)) / setBytes)) (length (now (out .entry))) ⌝ }
+{
+    let said = subsets::verdict_of(n, terms, set);
+    if let Reply::NotQuadratic { .. } = said {
+        return said;
+    }
+    thin_set(n, terms, set, out)
+}
+
 // Thins: every smallest quadratic subset of the set that is given, ascending, then zeros; after a refusal only zeros.
 pub fn thin(n: u64, terms: &[u8], set: &[u8], out: &mut [u8]) -> Reply
     ensures { λ r. ⌜ outcome r (now (out .exit)) ≡ thinned n (now (terms .entry)) (now (set .entry)) (length (now (out .entry))) ⌝ }
 {
     buffer::clear(out);
     let g = answers::accept(n, terms, set);
-    let said = g.said;
     if !g.good {
-        return said;
+        return g.said;
     }
-    thin_set(n as usize, terms, g.set, out)
+    thin_judged(n as usize, terms, g.set, out)
 }

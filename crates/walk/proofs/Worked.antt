@@ -18,7 +18,7 @@ use Rattle.wiring.specs.Choice.{cheaper, chosen}
 use Rattle.wiring.specs.Terms.{records, lengthRight, exponentsRight, coefficientRight, termRight, faultFrom, equation, system}
 use Rattle.wiring.specs.Sets.{places, sizeOf, setOf, ascending, monomialRight, setRight, setRecord}
 use Rattle.wiring.specs.Wires.{firstOf, secondOf, row as rowOf, rowsFrom, wiring, wireRecord}
-use Rattle.wiring.specs.Answers.{countRight, firstUnmet, judged, recordJudged, verdict, listed, wired}
+use Rattle.wiring.specs.Answers.{countRight, firstUnmet, judged, recordJudged, verdict, listed, told, wired}
 use Rattle.wiring.specs.Panel.{setBytes}
 use Rattle.walk.specs.Walk.{added, child, opens, ends, tried, after, opened, level, kept, onward, run}
 use Rattle.walk.specs.Plan.{settled, levels, plan, setsBytes, said, settingsRight, planned}
@@ -138,7 +138,7 @@ table =
 -- replies, buffers and lists are as written
 worked : map (λ r. r .got) table ≡ map (λ r. r .want) table
 unfolding table usual planning wiringOf plus minus set wire back padded planned settingsRight said setsBytes plan levels settled run onward
-    kept level opened after ends tried opens child added cheaper chosen pairs divisors score setRecord wired listed verdict recordJudged judged firstUnmet
+    kept level opened after ends tried opens child added cheaper chosen pairs divisors score setRecord wired told listed verdict recordJudged judged firstUnmet
     countRight records lengthRight exponentsRight coefficientRight termRight faultFrom equation system places sizeOf setOf ascending monomialRight
     setRight firstOf secondOf rowOf rowsFrom wiring wireRecord signals factor inV2 unmet nonsquares partsFrom derivative coeff times support signed
     unsigned isZero vars any some all keep place gather below pairwise pointwise dictionary insertBy arrangeBy

@@ -15,7 +15,7 @@ use Rattle.wiring.specs.Signals.{signals}
 use Rattle.wiring.specs.Terms.{records, lengthRight, exponentsRight, coefficientRight, termRight, faultFrom, equation, system}
 use Rattle.wiring.specs.Sets.{places, sizeOf, setOf, ascending, monomialRight, setRight}
 use Rattle.wiring.specs.Wires.{firstOf, secondOf, row as rowOf, rowsFrom, wiring, wireRecord}
-use Rattle.wiring.specs.Answers.{countRight, firstUnmet, judged, recordJudged, verdict, listed, wired}
+use Rattle.wiring.specs.Answers.{countRight, firstUnmet, judged, recordJudged, verdict, listed, told, wired}
 
 record Row : Type 0 where
   got : Outcome
@@ -226,7 +226,7 @@ table =
     ∷ []
 
 sampled : map (λ r. r .got) table ≡ map (λ r. r .want) table
-unfolding table row term plus minus wire set padded wired listed verdict recordJudged judged firstUnmet countRight records
+unfolding table row term plus minus wire set padded wired told listed verdict recordJudged judged firstUnmet countRight records
     lengthRight exponentsRight coefficientRight termRight faultFrom equation system places sizeOf setOf ascending monomialRight
     setRight firstOf secondOf rowOf rowsFrom wiring wireRecord signals factor inV2 unmet nonsquares partsFrom derivative coeff
     times support signed unsigned isZero vars any some all keep place gather below pairwise pointwise dictionary insertBy

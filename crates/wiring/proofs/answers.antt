@@ -1,7 +1,8 @@
--- Checking and wiring: what each reply says, and that it is the only one.
+-- Wiring: what each reply says, and that it is the only one.
 pub mod Laws
 pub mod Exact
-pub mod Checked
+pub mod TwoSystems
 pub mod Limits
 pub mod Wired
+pub mod Alone
 pub mod Recorded

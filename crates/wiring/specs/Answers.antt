@@ -1,7 +1,7 @@
--- Checking and wiring, for all inputs: the reply and every byte of the buffer. Checks run 1, 2, then record by record, 8, 9, 6.
+-- Wiring, for all inputs: the verdict and the list in one reply, and every byte of the buffer. Checks run 1, 2, then record by record, 8, 9, 6.
 -- Assumes nothing.
 use mathlib.Core.Path.{_≡_}
-use mathlib.Core.Bool.{Bool, true, not, cond, _&&_}
+use mathlib.Core.Bool.{Bool, true, false, not, cond, _&&_}
 use mathlib.Core.List.{List, _++_}
 use Prim.Native.Nat.{ℕ, _*_, _-_, _≤_}
 use lib.Dec.{eqb, leb}
@@ -9,14 +9,14 @@ use lib.ListN.{length, replicate}
 use Rattle.monomial.specs.Lists.{some, gather, place}
 use Rattle.monomial.specs.Monomial.{Mono, width}
 use Rattle.wiring.specs.Panel.{cards, setBytes, setExponent, wireBytes}
-use Rattle.wiring.specs.Reply.{Numbers, numbers, Outcome, outcome, refused}
+use Rattle.wiring.specs.Reply.{numbers, Outcome, outcome, refused}
 use Rattle.wiring.specs.Poly.{Poly, plain}
 use Rattle.wiring.specs.Derivative.{derivative}
 use Rattle.wiring.specs.Quadratic.{unmet, nonsquares}
 use Rattle.wiring.specs.Signals.{signals, Fitting}
 use Rattle.wiring.specs.Terms.{records, lengthRight, fault, system, CleanTerms}
 use Rattle.wiring.specs.Sets.{setOf, setRight, monomialsOf}
-use Rattle.wiring.specs.Wires.{Wire, wiring, wireRecord, Met}
+use Rattle.wiring.specs.Wires.{Wire, wiring, wireRecord}
 use Rattle.wiring.specs.declared.answers.Given.{Given}
 use Rattle.wiring.specs.declared.reply.Reply.{Reply}
 use Rattle.wiring.specs.declared.reply.Reply.the-variants.{Done, Setting, Length, Term, Twice, Full, BadSet, NotQuadratic}
@@ -63,36 +63,45 @@ verdict n terms set =
     let read = unlessFault (λ r. r) (fault n (records terms)) last in
     unless (countRight n) Setting (unless (lengthRight terms && eqb (length set) setBytes) Length read)
 
-unfoldable pub checked : ℕ → List ℕ → List ℕ → Numbers
-checked n terms set = numbers (verdict n terms set)
-
 -- the list, then zeros; or no room for it
 unfoldable pub listed : ℕ → List Wire → ℕ → Outcome
 listed order list size =
     let done = outcome (Done order (length list) 0) (gather wireRecord list ++ replicate (size - wireBytes * length list) 0) in
     cond (leb (wireBytes * length list) size) done (refused (Full order 0) size)
 
--- wiring: where checking is done, the list of the set that was given
-unfoldable pub wired : ℕ → List ℕ → List ℕ → ℕ → Outcome
-wired n terms set size =
-    let said = verdict n terms set in
-    let list = listed (length (setOf set)) (wires n (system (records terms)) (setOf set)) size in
-    cond (eqb ((numbers said) .code) 0) list (refused said size)
+-- a verdict and a list in one: the list is told where the verdict is done
+unfoldable pub told : Reply → List Wire → ℕ → Outcome
+told said list size = cond (eqb (numbers said .code) 0) (listed (numbers said .order) list size) (refused said size)
 
--- a set that can be judged, and one of which every derivative is met
+-- wiring: the verdict on what was given, with the list of the set
+unfoldable pub wired : ℕ → List ℕ → List ℕ → ℕ → Outcome
+wired n terms set size = told (verdict n terms set) (wires n (system (records terms)) (setOf set)) size
+
+-- ---- as the code reads what was given
+-- a set that can be judged
 pub record Judgeable (n : ℕ) (terms : List ℕ) (set : Set) : Type 0 where
   pub few : n ≤ width
   pub clean : CleanTerms terms
   pub small : set .len ≤ cards
   pub fits : Fitting setExponent (monomialsOf set)
 
-pub record Listable (n : ℕ) (terms : List ℕ) (set : Set) : Type 0 where
-  pub judgeable : Judgeable n terms set
-  pub met : Met plain (signals width n (monomialsOf set)) (derivative plain (system (records terms)))
-
--- what was given: the reply of checking, and where it is done the set of the record
-pub record Gives (n : ℕ) (terms bytes : List ℕ) (g : Given) : Type 0 where
-  pub said : verdict n terms bytes ≡ g .said
-  pub good : g .good ≡ eqb (numbers (g .said) .code) 0
+-- the set of a record is read; whether the record keeps its rule decides
+pub record Reads (n : ℕ) (bytes : List ℕ) (g : Given) : Type 0 where
+  pub right : g .good ≡ setRight n bytes
+  pub said : g .said ≡ BadSet
   pub holds : g .good ≡ true → monomialsOf (g .set) ≡ setOf bytes
-  pub lists : g .good ≡ true → Listable n terms (g .set)
+  pub small : g .set .len ≤ cards
+
+-- the set is taken, so that the verdict is about it; or what was given is refused
+pub record Takes (n : ℕ) (terms bytes : List ℕ) (set : Set) : Type 0 where
+  pub says : verdict n terms bytes ≡ judged n (system (records terms)) (setOf bytes)
+  pub holds : monomialsOf set ≡ setOf bytes
+  pub judgeable : Judgeable n terms set
+
+pub record Refuses (n : ℕ) (terms bytes : List ℕ) (r : Reply) : Type 0 where
+  pub says : verdict n terms bytes ≡ r
+  pub code : numbers r .code ≡ 0 → ⊥
+
+pub record Gives (n : ℕ) (terms bytes : List ℕ) (g : Given) : Type 0 where
+  pub taken : g .good ≡ true → Takes n terms bytes (g .set)
+  pub refused : g .good ≡ false → Refuses n terms bytes (g .said)

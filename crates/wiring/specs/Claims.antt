@@ -1,7 +1,7 @@
--- What is claimed of checking and wiring: each refusal in plain equations and inequalities, done by Definition 1, and the wiring list as a whole.
+-- What is claimed of wiring: each refusal in plain equations and inequalities, done by Definition 1, and the wiring list as a whole.
 -- Assumes nothing.
 use mathlib.Core.Path.{_≡_}
-use mathlib.Core.Logic.{_⊎_}
+use mathlib.Core.Logic.{_⊎_, _↔_}
 use mathlib.Core.Bool.{cond}
 use mathlib.Core.List.{List, [], _∷_, _++_, map}
 use Prim.Native.Nat.{ℕ, suc, _*_, _-_, _%_, _≤_, _<_}
@@ -134,7 +134,7 @@ pub record Recordable (n : ℕ) (s : List Mono) : Type 0 where
   pub wide : (m : Mono) → m ∈ s → length m ≡ width
   pub permitted : Permitted n s
 
--- ---- checking
+-- ---- the verdict
 abbrev pub Ranged : ℕ → Type 0
 Ranged n = (1 ≤ n) × (n ≤ width)
 
@@ -162,20 +162,20 @@ pub record FirstUnlinked {M : Type 0} (k : Kind M) (v : List M) (d : M → Poly 
   pub unlinked : Linked k v (d (getD v i x)) → ⊥
   pub earlier : (j : ℕ) → j < i → Linked k v (d (getD v j x))
 
--- what each reply of checking says
-abbrev pub CheckSays : ℕ → List ℕ → List ℕ → Reply → Type 0
-CheckSays n terms set Setting = Ranged n → ⊥
-CheckSays n terms set Length = Ranged n × ((Measured terms → ⊥) ⊎ (length set ≡ setBytes → ⊥))
-CheckSays n terms set (Term p) = Ranged n × Lengths terms set × Breaks n (records terms) beyond p
-CheckSays n terms set (Twice p) = Ranged n × Lengths terms set × Repeats n (records terms) beyond p
-CheckSays n terms set BadSet = Ranged n × Lengths terms set × Flawless n (records terms) beyond × (RightRecord n set → ⊥)
-CheckSays n terms set (NotQuadratic o p) =
+-- what each verdict says: a refusal, or done where Definition 1 holds
+abbrev pub VerdictSays : ℕ → List ℕ → List ℕ → Reply → Type 0
+VerdictSays n terms set Setting = Ranged n → ⊥
+VerdictSays n terms set Length = Ranged n × ((Measured terms → ⊥) ⊎ (length set ≡ setBytes → ⊥))
+VerdictSays n terms set (Term p) = Ranged n × Lengths terms set × Breaks n (records terms) beyond p
+VerdictSays n terms set (Twice p) = Ranged n × Lengths terms set × Repeats n (records terms) beyond p
+VerdictSays n terms set BadSet = Ranged n × Lengths terms set × Flawless n (records terms) beyond × (RightRecord n set → ⊥)
+VerdictSays n terms set (NotQuadratic o p) =
     WellFormed n terms set × (o ≡ length (setOf set)) × FirstUnlinked plain (signalsIn n set) (derivativeIn terms) [] p
-CheckSays n terms set (Done o c k) =
+VerdictSays n terms set (Done o c k) =
     WellFormed n terms set × (o ≡ length (setOf set)) × (c ≡ 0) × (k ≡ 0) × Quadratic plain (signalsIn n set) (derivativeIn terms)
-CheckSays n terms set (Nothing o k) = ⊥
-CheckSays n terms set (Full o k) = ⊥
-CheckSays n terms set (Spent o k) = ⊥
+VerdictSays n terms set (Nothing o k) = ⊥
+VerdictSays n terms set (Full o k) = ⊥
+VerdictSays n terms set (Spent o k) = ⊥
 
 -- ---- the wiring list
 -- the product of the two signals of a record, and the record as a product of members of v
@@ -227,7 +227,7 @@ pub record Decodes (x : Wire) (bytes : List ℕ) : Type 0 where
 abbrev pub listIn : ℕ → List ℕ → List ℕ → List Wire
 listIn n terms set = wires n (system (records terms)) (setOf set)
 
--- what each reply of wiring says: a refusal of checking, or whether the list fits a buffer of this size
+-- what each reply says: a verdict that refuses, or whether the list fits a buffer of this size
 abbrev pub WireSays : ℕ → List ℕ → List ℕ → ℕ → Reply → Type 0
 WireSays n terms set size (Done o c k) =
     WellFormed n terms set × Quadratic plain (signalsIn n set) (derivativeIn terms)
@@ -235,12 +235,12 @@ WireSays n terms set size (Done o c k) =
 WireSays n terms set size (Full o k) =
     WellFormed n terms set × Quadratic plain (signalsIn n set) (derivativeIn terms)
     × (o ≡ length (setOf set)) × (k ≡ 0) × (size < wireBytes * length (listIn n terms set))
-WireSays n terms set size Setting = CheckSays n terms set Setting
-WireSays n terms set size Length = CheckSays n terms set Length
-WireSays n terms set size (Term p) = CheckSays n terms set (Term p)
-WireSays n terms set size (Twice p) = CheckSays n terms set (Twice p)
-WireSays n terms set size BadSet = CheckSays n terms set BadSet
-WireSays n terms set size (NotQuadratic o p) = CheckSays n terms set (NotQuadratic o p)
+WireSays n terms set size Setting = VerdictSays n terms set Setting
+WireSays n terms set size Length = VerdictSays n terms set Length
+WireSays n terms set size (Term p) = VerdictSays n terms set (Term p)
+WireSays n terms set size (Twice p) = VerdictSays n terms set (Twice p)
+WireSays n terms set size BadSet = VerdictSays n terms set BadSet
+WireSays n terms set size (NotQuadratic o p) = VerdictSays n terms set (NotQuadratic o p)
 WireSays n terms set size (Nothing o k) = ⊥
 WireSays n terms set size (Spent o k) = ⊥
 
@@ -257,3 +257,25 @@ pub record Patch (n : ℕ) (terms set : List ℕ) (count : ℕ) (bytes : List �
   pub correct : Correct plain (signalsIn n set) (derivativeIn terms) list
   pub written : (j : ℕ) (none : Wire) → j < count → Decodes (getD list j none) (take wireBytes (drop (wireBytes * j) bytes))
   pub rest : (k : ℕ) → wireBytes * count ≤ k → getD bytes k 0 ≡ 0
+
+-- ---- the verdict alone
+-- what was given is well-formed, and quadratic by Definition 1
+pub record QuadraticIn (n : ℕ) (terms set : List ℕ) : Type 0 where
+  pub formed : WellFormed n terms set
+  pub quadratic : Quadratic plain (signalsIn n set) (derivativeIn terms)
+
+-- it is well-formed, and not quadratic
+pub record Unquadratic (n : ℕ) (terms set : List ℕ) : Type 0 where
+  pub formed : WellFormed n terms set
+  pub not : Quadratic plain (signalsIn n set) (derivativeIn terms) → ⊥
+
+-- the verdict that a reply tells, whatever the buffer: quadratic is done or full
+pub record TellsVerdict (n : ℕ) (terms set : List ℕ) (r : Reply) : Type 0 where
+  pub quadratic : ((numbers r .code ≡ 0) ⊎ (numbers r .code ≡ 6)) ↔ QuadraticIn n terms set
+  pub not-quadratic : (numbers r .code ≡ 9) ↔ Unquadratic n terms set
+
+-- and where the buffer is shorter than a record, done says besides that there is nothing to list, and full that there is something
+pub record VerdictAlone (n : ℕ) (terms set : List ℕ) (r : Reply) : Type 0 where
+  pub tells : TellsVerdict n terms set r
+  pub done : (numbers r .code ≡ 0) ↔ (QuadraticIn n terms set × (listIn n terms set ≡ []))
+  pub full : (numbers r .code ≡ 6) ↔ (QuadraticIn n terms set × (listIn n terms set ≡ [] → ⊥))

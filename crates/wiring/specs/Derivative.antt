@@ -1,11 +1,13 @@
 -- The derivative of a monomial of any kind: the sum over i of the exponent of xi, times the monomial divided by xi, times equation i.
 -- Assumes nothing.
-use mathlib.Core.Bool.{Bool, not, cond, _&&_}
-use mathlib.Core.List.{List, [], _∷_, _++_}
+use mathlib.Core.Bool.{Bool, true, not, cond, _&&_}
+use mathlib.Core.List.{List, [], _∷_, _++_, map}
 use Prim.Native.Nat.{ℕ, suc, _-_}
 use lib.Dec.{leb}
 use lib.ListN.{getD}
+use Rattle.monomial.specs.Lists.{keep, arrangeBy}
 use Rattle.monomial.specs.Monomial.{Mono}
+use Rattle.monomial.specs.Order.{same, before}
 use Rattle.monomial.specs.Product.{mul}
 use Rattle.wiring.specs.Coefficient.{isZero}
 use Rattle.wiring.specs.Poly.{Kind, Poly, plain, coeff, times}
@@ -32,6 +34,13 @@ power r z = getD z (r .equation - 1) 0
 abbrev pub image : Record → Mono → Mono
 image r z = mul (plain .over z (r .equation - 1)) (r .monomial)
 
--- a record gives a monomial with a coefficient that passes the test
+-- a record gives a monomial that passes the test, and one with a coefficient
+unfoldable pub gives : (Mono → Bool) → Mono → Record → Bool
+gives test z r = leb 1 (power r z) && test (image r z)
+
 unfoldable pub offers : (Mono → Bool) → List (Poly Mono) → Mono → Record → Bool
-offers test fs z r = leb 1 (power r z) && test (image r z) && not (isZero (coeff plain (derivative plain fs z) (image r z)))
+offers test fs z r = gives test z r && not (isZero (coeff plain (derivative plain fs z) (image r z)))
+
+-- all monomials that records give, ascending, each once, those whose total is 0 among them
+unfoldable pub images : List Record → Mono → List Mono
+images rs z = arrangeBy same before (map (λ r. image r z) (keep (gives (λ m. true) z) rs))

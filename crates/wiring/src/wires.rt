@@ -1,4 +1,4 @@
-// The wiring list, written record by record.
+// The wiring list, judged and written in one pass: a record that has room is written, and a monomial that no two signals multiply to ends it.
 use super::choice;
 use super::choice::Pick;
 use super::coefficient;
@@ -8,47 +8,67 @@ use super::panel::WIRE_BYTES;
 use super::signals::Signals;
 use monomial::Monomial;
 ghost use mathlib.Core.Path.{_≡_};
-ghost use mathlib.Core.List.{List, [], _++_};
+ghost use mathlib.Core.Bool.{true};
+ghost use mathlib.Core.List.{List, [], _∷_, _++_};
 ghost use Prim.Native.Nat.{_+_, _*_, _≤_, _<_};
-ghost use lib.Dec.{T};
 ghost use lib.ListN.{length, getD};
 ghost use lib.Seq.{paste};
 ghost use Rattle.monomial.specs.Lists.{keep};
 ghost use Rattle.monomial.specs.Product.{AtMost};
 ghost use Rattle.wiring.specs.Panel.{termBytes, setExponent, mostSignals, wireBytes};
-ghost use Rattle.wiring.specs.Poly.{plain, support};
-ghost use Rattle.wiring.specs.Derivative.{derivative, image, offers};
-ghost use Rattle.wiring.specs.Quadratic.{inV2};
+ghost use Rattle.wiring.specs.Poly.{plain, coeff, support};
+ghost use Rattle.wiring.specs.Derivative.{derivative, image, gives, images};
 ghost use Rattle.wiring.specs.Signals.{Fitting, signalsOf};
 ghost use Rattle.wiring.specs.Terms.{recordAt, records, system, CleanTerms};
 ghost use Rattle.wiring.specs.Choice.{Heads, beyond, Offered};
-ghost use Rattle.wiring.specs.Wires.{Wire, firstOf, secondOf, row, wiring, wireRecord, Sheet, Wrote, Met};
+ghost use Rattle.wiring.specs.Wires.{Wire, wireRecord, Sheet, Wrote, FirstPair, RowPassed, Passed};
 
-// The numbers of two signals.
+// The numbers of two signals, where some is true.
 pub struct Pair {
+    pub some: bool,
     pub a: usize,
     pub b: usize,
 }
 
-// How far the list has come; no more fits where ok is false.
+impl Pair {
+    pub const NONE: Pair = Pair {
+        some: false,
+        a: 0,
+        b: 0,
+    };
+}
+
+// A monomial of a derivative with its total, where the pick is some.
+pub struct Part {
+    pub pick: Pick,
+    pub total: i32,
+}
+
+// How far the list has come. It is longer than the buffer holds where ok is false, and then at counts no further.
 pub struct Written {
     pub ok: bool,
     pub at: usize,
 }
 
-// The pair of smallest a, then smallest b, whose product is m.
+// What a pass comes to: every derivative is met and the list has come so far, or that of this left variable is not.
+pub enum Pass {
+    Through(Written),
+    Unmet(usize),
+}
+
+// The pair of smallest a, then smallest b, whose product is m, where there is one.
 fn pair_of(v: Signals, m: Monomial) -> Pair
-    requires { ⌜ (v .len ≤ mostSignals) × (Fitting 127 (signalsOf v) × T (inV2 plain (signalsOf v) (m .e))) ⌝ }
-    ensures { λ r. ⌜ (r .a ≡ firstOf plain (signalsOf v) (m .e)) × ((r .b ≡ secondOf plain (signalsOf v) (m .e)) × ((r .a < mostSignals) × (r .b < mostSignals))) ⌝ }
+    requires { ⌜ (v .len ≤ mostSignals) × Fitting 127 (signalsOf v) ⌝ }
+    ensures { λ r. ⌜ FirstPair (signalsOf v) (m .e) r ⌝ }
 {
     let len = v.len;
-    let mut r = Pair { a: 0, b: 0 };
+    let mut r = Pair::NONE;
     'found: for a in 0..len {
         let x = v.m[a];
         for b in a..len {
             let y = v.m[b];
             if x.times(y).same(m) {
-                r = Pair { a, b };
+                r = Pair { some: true, a, b };
                 break 'found;
             }
         }
@@ -67,10 +87,10 @@ fn is_beyond(p: Pick, m: Monomial) -> bool
     true
 }
 
-// The monomial of record t in the derivative of z, where it has a coefficient and stands behind the last one.
+// The monomial of record t in the derivative of z, where it stands behind the last one. Its total is not asked here: it may be 0.
 fn following(terms: &[u8], t: usize, z: Monomial, last: Pick) -> Pick
     requires { ⌜ CleanTerms (now terms) × ((termBytes * t + termBytes ≤ length (now terms)) × AtMost setExponent (z .e)) ⌝ }
-    ensures { λ r. ⌜ Offered (offers (beyond last) (system (records (now (terms .entry)))) (z .e) (recordAt (now (terms .entry)) t)) (image (recordAt (now (terms .entry)) t) (z .e)) r ⌝ }
+    ensures { λ r. ⌜ Offered (gives (beyond last) (z .e) (recordAt (now (terms .entry)) t)) (image (recordAt (now (terms .entry)) t) (z .e)) r ⌝ }
 {
     if derivative::power(terms, t, z) < 1 {
         return Pick::NONE;
@@ -79,16 +99,13 @@ fn following(terms: &[u8], t: usize, z: Monomial, last: Pick) -> Pick
     if !is_beyond(last, m) {
         return Pick::NONE;
     }
-    if coefficient::is_zero(derivative::total(terms, z, m)) {
-        return Pick::NONE;
-    }
     Pick { some: true, m }
 }
 
-// The smallest monomial of the derivative of z behind the last one.
-fn next_monomial(terms: &[u8], z: Monomial, last: Pick) -> Pick
+// The smallest monomial behind the last one that a record gives to the derivative of z.
+fn next_image(terms: &[u8], z: Monomial, last: Pick) -> Pick
     requires { ⌜ CleanTerms (now terms) × AtMost setExponent (z .e) ⌝ }
-    ensures { λ r. ⌜ Heads (keep (beyond last) (support plain (derivative plain (system (records (now (terms .entry)))) (z .e)))) r ⌝ }
+    ensures { λ r. ⌜ Heads (keep (beyond last) (images (records (now (terms .entry))) (z .e))) r ⌝ }
 {
     let count = terms.len() / TERM_BYTES;
     let mut best = Pick::NONE;
@@ -101,6 +118,26 @@ fn next_monomial(terms: &[u8], z: Monomial, last: Pick) -> Pick
         t += 1;
     }
     best
+}
+
+// The smallest monomial of the derivative of z behind the last one. Those whose parts cancel are passed over; each total is summed once.
+fn next_part(terms: &[u8], z: Monomial, last: Pick) -> Part
+    requires { ⌜ CleanTerms (now terms) × AtMost setExponent (z .e) ⌝ }
+    ensures { λ r. ⌜ Heads (keep (beyond last) (support plain (derivative plain (system (records (now (terms .entry)))) (z .e)))) (r .pick) ⌝ }
+    ensures { λ r. ⌜ (r .pick .some ≡ true → r .total ≡ coeff plain (derivative plain (system (records (now (terms .entry)))) (z .e)) (r .pick .m .e)) ⌝ }
+{
+    let mut behind = last;
+    loop {
+        let pick = next_image(terms, z, behind);
+        if !pick.some {
+            return Part { pick, total: 0 };
+        }
+        let total = derivative::total(terms, z, pick.m);
+        if !coefficient::is_zero(total) {
+            return Part { pick, total };
+        }
+        behind = pick;
+    }
 }
 
 // Writes record number at.
@@ -129,41 +166,63 @@ fn put_record(out: &mut [u8], at: usize, left: usize, p: Pair, c: i32)
     }
 }
 
-// Writes the records of one left variable behind the at records that stand there.
-fn write_row(terms: &[u8], v: Signals, left: usize, out: &mut [u8], from: usize) -> Written
-    requires { ⌜ CleanTerms (now terms) × ((v .len ≤ mostSignals) × ((left < v .len) × (Fitting setExponent (signalsOf v) × ((wireBytes * from ≤ length (now out)) × Met plain (signalsOf v) (derivative plain (system (records (now terms)))))))) ⌝ }
-    ensures { λ r. ⌜ ((done : List Wire) → Sheet done from (now (out .entry)) →
-        Wrote (done ++ row plain (signalsOf v) left (derivative plain (system (records (now (terms .entry)))) (getD (signalsOf v) left []))) r (now (out .exit))) ⌝ }
+// One record more of the list: it is written where there is room.
+fn enter(out: &mut [u8], w: Written, left: usize, p: Pair, c: i32) -> Written
+    requires { ⌜ (left < 256) × ((p .a < 256) × (p .b < 256)) ⌝ }
+    ensures { λ r. ⌜ ((done : List Wire) → Wrote done w (now (out .entry)) →
+        Wrote (done ++ ((record { left = left; a = p .a; b = p .b; coefficient = c }) ∷ [])) r (now (out .exit))) ⌝ }
 {
-    let z = v.m[left];
-    let mut at = from;
-    let mut next = next_monomial(terms, z, Pick::NONE);
-    while next.some {
-        if out.len() / WIRE_BYTES <= at {
-            return Written { ok: false, at };
-        }
-        let m = next.m;
-        put_record(out, at, left, pair_of(v, m), derivative::total(terms, z, m));
-        at += 1;
-        next = next_monomial(terms, z, next);
+    let at = w.at;
+    if !w.ok {
+        return w;
     }
-    Written { ok: true, at }
+    if out.len() / WIRE_BYTES <= at {
+        return Written { ok: false, at };
+    }
+    put_record(out, at, left, p, c);
+    Written {
+        ok: true,
+        at: at + 1,
+    }
 }
 
-// Writes the whole list: the records of each left variable, ascending.
-pub(crate) fn write_wires(terms: &[u8], v: Signals, out: &mut [u8]) -> Written
-    requires { ⌜ CleanTerms (now terms) × ((v .len ≤ mostSignals) × (Fitting setExponent (signalsOf v) × (Sheet [] 0 (now out) × Met plain (signalsOf v) (derivative plain (system (records (now terms))))))) ⌝ }
-    ensures { λ r. ⌜ Wrote (wiring plain (signalsOf v) (derivative plain (system (records (now (terms .entry)))))) r (now (out .exit)) ⌝ }
+// Passes over the derivative of one left variable: its records go behind those of the list so far.
+fn wire_row(terms: &[u8], v: Signals, left: usize, out: &mut [u8], from: Written) -> Pass
+    requires { ⌜ CleanTerms (now terms) × ((v .len ≤ mostSignals) × ((left < v .len) × Fitting setExponent (signalsOf v))) ⌝ }
+    ensures { λ r. ⌜ ((done : List Wire) → Wrote done from (now (out .entry)) →
+        RowPassed plain (signalsOf v) left (derivative plain (system (records (now (terms .entry)))) (getD (signalsOf v) left [])) done r (now (out .exit))) ⌝ }
+{
+    let z = v.m[left];
+    let mut w = from;
+    let mut last = Pick::NONE;
+    loop {
+        let part = next_part(terms, z, last);
+        last = part.pick;
+        if !last.some {
+            return Pass::Through(w);
+        }
+        let p = pair_of(v, last.m);
+        if !p.some {
+            return Pass::Unmet(left);
+        }
+        w = enter(out, w, left, p, part.total);
+    }
+}
+
+// Passes over the left variables, ascending. Without room it goes on judging: that a set is not quadratic comes before that its list is too long.
+pub(crate) fn wire_rows(terms: &[u8], v: Signals, out: &mut [u8]) -> Pass
+    requires { ⌜ CleanTerms (now terms) × ((v .len ≤ mostSignals) × (Fitting setExponent (signalsOf v) × Sheet [] 0 (now out))) ⌝ }
+    ensures { λ r. ⌜ Passed plain (signalsOf v) (derivative plain (system (records (now (terms .entry))))) r (now (out .exit)) ⌝ }
 {
     let len = v.len;
     let mut w = Written { ok: true, at: 0 };
     let mut left: usize = 0;
     while left < len {
-        w = write_row(terms, v, left, out, w.at);
-        if !w.ok {
-            return w;
-        }
+        let Pass::Through(next) = wire_row(terms, v, left, out, w) else {
+            return Pass::Unmet(left);
+        };
+        w = next;
         left += 1;
     }
-    w
+    Pass::Through(w)
 }

@@ -31,12 +31,22 @@ impl Planner {
         answer::planned(self.n, &text).map_err(unreadable)
     }
 
-    /// Asks for the smallest subsets of a set that will do, and for the wiring of subset `which`. There are so few
-    /// subsets that it is over at once.
+    /// Asks for the smallest subsets of a set that will do, and for the wiring of subset `which`.
     pub fn thin(&self, set: &[Exponents], which: u64) -> Result<Answer, String> {
-        let input = [&given::record(set)[..], &self.terms].concat();
-        let text = self.run(&[&self.n.to_string(), &which.to_string()], &input, || ())?;
+        let text = self.run_on_set(&[&self.n.to_string(), &which.to_string()], set)?;
         answer::thinned(self.n, set, &text).map_err(unreadable)
+    }
+
+    /// Asks whether a set will do as it is, and for its wiring.
+    pub fn wire(&self, set: &[Exponents]) -> Result<Answer, String> {
+        let text = self.run_on_set(&[&self.n.to_string()], set)?;
+        answer::wired(self.n, set, &text).map_err(unreadable)
+    }
+
+    /// The record of a set goes before the terms. A set has so few subsets that it is over at once.
+    fn run_on_set(&self, arguments: &[&str], set: &[Exponents]) -> Result<String, String> {
+        let input = [&given::record(set)[..], &self.terms].concat();
+        self.run(arguments, &input, || ())
     }
 
     fn run(&self, arguments: &[&str], input: &[u8], mut tick: impl FnMut()) -> Result<String, String> {
@@ -101,11 +111,12 @@ mod tests {
     use super::*;
     use crate::panel::TERM_BYTES;
 
-    /// Why there is neither a plan nor a thinned set.
-    fn faults(runner: &str) -> [String; 2] {
+    /// Why there is neither a plan nor a thinned or a wired set.
+    fn faults(runner: &str) -> [String; 3] {
         let planner = Planner { runner: runner.into(), n: 1, terms: vec![0; TERM_BYTES * 9000] };
         let set = [[2, 0, 0, 0, 0, 0]];
-        [planner.ask(&Settings::default(), || ()).unwrap_err(), planner.thin(&set, 1).unwrap_err()]
+        let answers = [planner.ask(&Settings::default(), || ()), planner.thin(&set, 1), planner.wire(&set)];
+        answers.map(|answer| answer.unwrap_err())
     }
 
     #[test]

@@ -80,7 +80,7 @@ const LEGEND: [&str; 4] = [
     "A new signal starts at the value under its name; where the others start is free.",
 ];
 
-/// What stands over a patch: the typed equations, the given set where one was thinned, and which set this is.
+/// What stands over a patch: the typed equations, the set where one was given, and which set this is.
 pub struct Heading {
     pub equations: Vec<String>,
     pub given: Option<String>,

@@ -4,7 +4,8 @@ use crate::algebra::Exponents;
 use crate::patch::Patch;
 use crate::saying::json::Json;
 use crate::saying::report::Report;
-use crate::typed::given::Given;
+use crate::saying::{given, wired};
+use crate::typed::given::{Aim, Given};
 use crate::typed::settings::Count;
 use crate::typed::system::Record;
 use crate::typed::text::{place, Fault, Source, Span};
@@ -14,7 +15,6 @@ pub fn answer(report: &Report) -> String {
     let reply = &report.answer.reply;
     let said = report.said();
     let places = said.places.iter().map(|&(_, span)| location(report.sources, span));
-    let sets = Json::List((0..report.answer.sets.len()).map(|i| set(report, i)).collect());
     let mut fields = vec![
         ("operation", operation(report).into()),
         ("code", whole(reply.code)),
@@ -30,8 +30,8 @@ pub fn answer(report: &Report) -> String {
         ("system", system(report)),
     ];
     match &report.system.given {
-        None => fields.push(("sets", sets)),
-        Some(set) => fields.extend([("given", given(report, set)), ("subsets", sets)]),
+        None => fields.push(("sets", sets(report))),
+        Some(set) => fields.extend(about_set(report, set)),
     }
     fields.extend([
         ("wiring", report.patch.map_or(Json::Null, |patch| wiring(report, patch))),
@@ -51,13 +51,14 @@ fn whole(number: u64) -> Json {
 }
 
 fn operation(report: &Report) -> &'static str {
-    match report.system.given {
-        Some(_) => "thinning",
+    match report.system.aim() {
         None => "planning",
+        Some(Aim::Thinning) => "thinning",
+        Some(Aim::Wiring) => "wiring",
     }
 }
 
-/// Those that were sent: of a given set all subsets are judged, and nothing is limited.
+/// Those that were sent: of a given set all that is asked is judged, and nothing is limited.
 fn settings(report: &Report) -> Json {
     let count = |c: &Count| c.value().map_or(Json::from(c.digits()), whole);
     let mut fields = vec![("n", whole(report.system.names.len() as u64))];
@@ -94,9 +95,33 @@ fn signals(report: &Report, set: &[Exponents]) -> Vec<(&'static str, Json)> {
     ]
 }
 
-/// The given set as it was sent, ascending; nothing where it fits no record.
-fn given(report: &Report, given: &Given) -> Json {
-    given.set().map_or(Json::Null, |set| Json::Object(signals(report, &set)))
+/// The given set as it was sent, ascending (nothing where it fits no record), and what is said of it.
+fn about_set(report: &Report, set: &Given) -> Vec<(&'static str, Json)> {
+    let mut fields = vec![("given", set.set().map_or(Json::Null, |set| Json::Object(signals(report, &set))))];
+    match set.aim {
+        Aim::Thinning => fields.push(("subsets", sets(report))),
+        Aim::Wiring => fields.extend([
+            ("verdict", wired::verdict(&report.answer.reply).map_or(Json::Null, Json::from)),
+            ("reason", reason(report, set)),
+        ]),
+    }
+    fields
+}
+
+/// The signal that cannot be wired, and the term of its derivative that no two signals multiply to.
+fn reason(report: &Report, set: &Given) -> Json {
+    let reply = &report.answer.reply;
+    given::reason(reply, set, report.system).map_or(Json::Null, |(coefficient, product)| {
+        Json::Object(vec![
+            ("signal", whole(reply.place)),
+            ("exponents", exponents(&product)),
+            ("coefficient", Json::Number(coefficient)),
+        ])
+    })
+}
+
+fn sets(report: &Report) -> Json {
+    Json::List((0..report.answer.sets.len()).map(|number| set(report, number)).collect())
 }
 
 fn set(report: &Report, number: usize) -> Json {
@@ -110,12 +135,13 @@ fn set(report: &Report, number: usize) -> Json {
 fn wiring(report: &Report, patch: &Patch) -> Json {
     let wires = report.answer.wires.iter();
     let records = wires.map(|w| Json::list([w.left as i64, w.a as i64, w.b as i64, w.coefficient.into()]));
-    Json::Object(vec![
-        (report.thing(), whole(report.settings.which)),
+    let which = report.thing().map(|thing| (thing, whole(report.settings.which)));
+    let own = [
         ("signals", Json::list(patch.signals.iter().cloned())),
         ("records", Json::List(records.collect())),
         ("equations", Json::list(patch.equations())),
-    ])
+    ];
+    Json::Object(which.into_iter().chain(own).collect())
 }
 
 fn exponents(exponents: &Exponents) -> Json {

@@ -9,12 +9,13 @@ pub fn help() -> String {
     format!(
         "\
 Plans a patch: finds all smallest sets of new signals that make a polynomial system quadratic, and wires one. Or thins
-a given set: tells which of its signals can go.
+a given set: tells which of its signals can go. Or tells whether a given set will do as it is, and wires it.
 
   ./plan \"x' = x^4 + x^3\"
   ./plan \"x' = x^2*y\" \"y' = -x*y^2\" --svg patch.svg
   ./plan system.txt --cards 3 --steps 1000000000
   ./plan \"x' = x^4 + x^3\" --thin \"x^2, x^3, x^4\"
+  ./plan \"x' = x^4 + x^3\" --given \"x^3, x^4\"
 
 An argument with = in it is one equation or several, separated by commas, semicolons or lines; any other is the name
 of a file that holds them (- is standard input). In a file, # hides the rest of its line.
@@ -27,6 +28,7 @@ space; sums are written multiplied out. A variable without an equation never cha
   --sets N       sets that there is room for: 0 to {sets} ({usual_sets})
   --set N        wires the N-th set of the list (1)
   --thin SET     thins a set: up to {CARDS} products of powers, with commas between them (\"\" is the empty set)
+  --given SET    judges such a set as it is, and wires it where it will do
   --svg FILE     draws the patch of that set
   --json         writes all of it for other programs
   --file FILE    reads equations from a file, whatever its name
@@ -39,8 +41,33 @@ shown so far; it may be stopped at any time.
 With --thin every subset of the given set is judged and no other set is searched, so \"smallest\" is said of its subsets
 alone; --cards, --steps and --sets do not go with it.
 
-Exit status: 0 all smallest sets, or subsets of the given set, are listed; 1 none up to --cards, or stopped by --steps
-or --sets; 2 the input was refused or not understood; 3 something could not be built, run or written.
+With --given that one set is judged, and nothing is said of others: it is wired, or a term is named that no two signals
+multiply to; --cards, --steps, --sets and --set do not go with it.
+
+Exit status: 0 all smallest sets, or subsets of the given set, are listed, or the given set is wired; 1 none up to
+--cards, or stopped by --steps or --sets; 2 the input was refused or not understood, or the given set will not do;
+3 something could not be built, run or written.
 "
     )
+}
+
+#[cfg(test)]
+mod tests {
+    use super::*;
+
+    #[test]
+    fn smallest_is_not_said_of_a_set_that_is_only_wired() {
+        let help = help();
+        let about: Vec<&str> = help.split("\n\n").filter(|part| part.contains("With --given")).collect();
+        let lines = help.lines().filter(|line| line.contains("--given"));
+        assert_eq!((about.len(), lines.clone().count()), (1, 3));
+        for said in lines.chain(about) {
+            assert!(!said.contains("smallest"), "{said}");
+        }
+    }
+
+    #[test]
+    fn no_line_is_too_long() {
+        assert!(help().lines().all(|line| line.len() <= 120));
+    }
 }

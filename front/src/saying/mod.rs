@@ -1,6 +1,7 @@
 //! Saying it: the answer in words for a person, and as JSON for other programs.
 
 pub mod export;
+pub mod given;
 pub mod help;
 pub mod json;
 pub mod numbers;
@@ -9,4 +10,5 @@ pub mod rule;
 pub mod thinned;
 pub mod unwired;
 pub mod watch;
+pub mod wired;
 pub mod words;

@@ -4,6 +4,7 @@ use crate::asking::answer::{Answer, DONE, SET, TWICE};
 use crate::patch::Patch;
 use crate::saying::numbers::{counted, grouped};
 use crate::saying::words::{said, Said};
+use crate::typed::given::Aim;
 use crate::typed::settings::Settings;
 use crate::typed::system::System;
 use crate::typed::text::{point, Fault, Source};
@@ -21,7 +22,7 @@ pub struct Report<'a> {
 pub enum Drawn {
     NotAsked,
     In(String),
-    NoSet(String),
+    NotWired(String),
     Failed(String, String),
 }
 
@@ -30,7 +31,7 @@ impl Drawn {
         match self {
             Drawn::NotAsked => None,
             Drawn::In(file) => Some(format!("Drawn in {file}.")),
-            Drawn::NoSet(file) => Some(format!("Not drawn: there is no set to wire, and {file} was not written.")),
+            Drawn::NotWired(file) => Some(format!("Not drawn: nothing is wired, and {file} was not written.")),
             Drawn::Failed(file, why) => Some(format!("Not drawn: {file} cannot be written ({why}).")),
         }
     }
@@ -41,11 +42,12 @@ impl Report<'_> {
         said(&self.answer.reply, self.settings, self.system, self.sources)
     }
 
-    /// What is listed.
-    pub fn thing(&self) -> &'static str {
-        match self.system.given {
-            Some(_) => "subset",
-            None => "set",
+    /// What is listed; nothing where the given set was only wired.
+    pub fn thing(&self) -> Option<&'static str> {
+        match self.system.aim() {
+            None => Some("set"),
+            Some(Aim::Thinning) => Some("subset"),
+            Some(Aim::Wiring) => None,
         }
     }
 
@@ -91,20 +93,21 @@ impl Report<'_> {
         self.given().map(|given| if given.is_empty() { "empty".into() } else { given.join(", ") })
     }
 
-    /// Which set the patch is of, and what its signals are. Said of a whole search alone, as a patch is; where a set
-    /// was thinned, of its subsets alone.
+    /// Which set the patch is of, and what its signals are. "Smallest" is said of a whole search alone, where a set was
+    /// thinned of its subsets alone, and where it was only wired not at all.
     pub fn which_set(&self) -> String {
         let Some(patch) = self.patch.filter(|patch| !patch.new.is_empty()) else {
             return "Nothing needs to be added.".into();
         };
         let (which, count) = (self.settings.which, self.answer.reply.count);
-        let set = match (&self.system.given, count) {
+        let set = match (self.system.aim(), count) {
             (None, 1) => "The smallest set".to_string(),
             (None, count) => format!("Set {which} of the {} smallest sets", grouped(count)),
-            (Some(_), 1) => "The smallest subset of the given set that will do".to_string(),
-            (Some(_), count) => {
+            (Some(Aim::Thinning), 1) => "The smallest subset of the given set that will do".to_string(),
+            (Some(Aim::Thinning), count) => {
                 format!("Subset {which} of the {} smallest subsets of the given set that will do", grouped(count))
             }
+            (Some(Aim::Wiring), _) => "New signals".to_string(),
         };
         format!("{set}: {}", patch.equations()[..patch.new.len()].join(", "))
     }
@@ -113,7 +116,7 @@ impl Report<'_> {
     pub fn no_such_set(&self) -> Option<String> {
         let (which, count) = (self.settings.which, self.answer.reply.count);
         let missing = self.answer.reply.code == DONE && self.patch.is_none();
-        let thing = self.thing();
+        let thing = self.thing()?;
         missing.then(|| format!("There is no {thing} {which}: the list has {}.", counted(count, thing)))
     }
 
@@ -124,57 +127,73 @@ impl Report<'_> {
     }
 
     pub fn for_a_person(&self) -> String {
-        let mut out = String::new();
-        let said = self.said();
-        if self.was_taken() {
-            let given = self.given_text().map(|text| format!("given set: {text}"));
-            for line in self.equations().into_iter().chain(given) {
-                out += &format!("  {line}\n");
-            }
-            for note in self.notes() {
-                out += &format!("{note}\n");
-            }
-            out += "\n";
+        let mut out = self.taken() + &self.answered() + &self.list() + &self.wired();
+        for words in [self.further(), self.drawn.words()].into_iter().flatten() {
+            out += &format!("\n{words}\n");
         }
-        out += &format!("{}\n", said.words);
+        out
+    }
+
+    /// The system and the set as they were read; nothing where they were refused.
+    fn taken(&self) -> String {
+        if !self.was_taken() {
+            return String::new();
+        }
+        let given = self.given_text().map(|text| format!("given set: {text}"));
+        let read = self.equations().into_iter().chain(given).map(|line| format!("  {line}\n"));
+        let notes = self.notes().into_iter().map(|note| format!("{note}\n"));
+        read.chain(notes).chain(std::iter::once("\n".into())).collect()
+    }
+
+    /// The words for the reply, and what they point at.
+    fn answered(&self) -> String {
+        let said = self.said();
+        let mut out = format!("{}\n", said.words);
         for (words, span) in said.places {
             if !words.is_empty() {
                 out += &format!("{words}\n");
             }
             out += &point(self.sources, span);
         }
-        let count = self.answer.sets.len();
-        let thing = self.thing();
-        if 0 < self.answer.reply.order {
-            for number in 0..count {
-                out += &format!("  {thing} {}: {}", number + 1, self.set(number).join(", "));
-                out += &match self.can_go(number)[..] {
-                    [] => "\n".to_string(),
-                    ref spare => format!("; {} can go\n", spare.join(", ")),
-                };
-            }
-        }
-        if let Some(patch) = self.patch {
-            let which = self.settings.which;
-            out += &match (self.answer.reply.order, &self.system.given) {
-                (0, _) => "\nWired:\n".to_string(),
-                (_, None) => format!("\nSet {which} wired:\n"),
-                (_, Some(_)) => format!("\nSubset {which} wired:\n"),
-            };
-            for equation in patch.equations() {
-                out += &format!("  {equation}\n");
-            }
-        }
-        if let Some(words) = self.no_such_set() {
-            out += &format!("\n{words}\n");
-        } else if 1 < count {
-            let anew = if self.system.given.is_some() { "judges them" } else { "searches" };
-            out += &format!("\n--set N wires another {thing}, 1 to {count}; it {anew} anew.\n");
-        }
-        if let Some(words) = self.drawn.words() {
-            out += &format!("\n{words}\n");
-        }
         out
+    }
+
+    /// The sets that were asked for. Of the empty one the words have told.
+    fn list(&self) -> String {
+        let Some(thing) = self.thing().filter(|_| 0 < self.answer.reply.order) else {
+            return String::new();
+        };
+        let line = |number: usize| {
+            let spare = match self.can_go(number)[..] {
+                [] => String::new(),
+                ref spare => format!("; {} can go", spare.join(", ")),
+            };
+            format!("  {thing} {}: {}{spare}\n", number + 1, self.set(number).join(", "))
+        };
+        (0..self.answer.sets.len()).map(line).collect()
+    }
+
+    /// The patch as equations.
+    fn wired(&self) -> String {
+        let Some(patch) = self.patch else {
+            return String::new();
+        };
+        let which = self.settings.which;
+        let heading = match (self.answer.reply.order, self.system.aim()) {
+            (0, _) | (_, Some(Aim::Wiring)) => "Wired:".to_string(),
+            (_, None) => format!("Set {which} wired:"),
+            (_, Some(Aim::Thinning)) => format!("Subset {which} wired:"),
+        };
+        let equations = patch.equations().into_iter().map(|equation| format!("  {equation}\n"));
+        std::iter::once(format!("\n{heading}\n")).chain(equations).collect()
+    }
+
+    /// How to wire another set, or why this one is not there.
+    fn further(&self) -> Option<String> {
+        let (count, thing) = (self.answer.sets.len(), self.thing()?);
+        let anew = if self.system.given.is_some() { "judges them" } else { "searches" };
+        let others = || format!("--set N wires another {thing}, 1 to {count}; it {anew} anew.");
+        self.no_such_set().or_else(|| (1 < count).then(others))
     }
 }
 
@@ -199,10 +218,10 @@ pub fn not_understood(sources: &[Source], fault: &Fault) -> String {
 #[cfg(test)]
 mod tests {
     use super::*;
-    use crate::asking::answer::{planned, Reply, FULL, NOT_QUADRATIC, OF_THINNING};
+    use crate::asking::answer::{planned, wired, Reply, FULL, NOT_QUADRATIC, OF_A_SET};
     use crate::recorded;
     use crate::saying::export;
-    use crate::typed::system::tests::{sources_with_set, system, with_set};
+    use crate::typed::system::tests::{given, sources_with_set, system, with_set};
 
     /// What is said of an answer about a system, where set `which` is asked to be wired.
     fn report<T>(
@@ -228,6 +247,12 @@ mod tests {
     fn printed_of_set(text: &str, set: &str, answer: &Answer, which: u64) -> String {
         let sources = sources_with_set(text, set);
         report(&sources, &with_set(text, set), answer, which, |report| report.for_a_person())
+    }
+
+    /// The same where it is only wired; and all else that is said of it.
+    fn said_of_wiring(text: &str, set: &str, answer: &Answer) -> [String; 3] {
+        let (sources, system) = (sources_with_set(text, set), given(Aim::Wiring, text, set));
+        report(&sources, &system, answer, 1, |r| [r.for_a_person(), export::answer(r), r.which_set()])
     }
 
     #[test]
@@ -329,7 +354,7 @@ mod tests {
     fn a_refused_set_is_neither_shown_as_taken_nor_wired() {
         let printed = printed_of_set("x' = x^3", "x^2, x", &Answer::refused(SET, 0), 1);
         assert!(printed.starts_with("Refused: signal 2"), "{printed}");
-        for code in OF_THINNING.into_iter().filter(|&code| code != DONE) {
+        for code in OF_A_SET.into_iter().filter(|&code| code != DONE) {
             let reply = Reply { code, order: 2, count: 0, steps: 4, place: 1 };
             let printed = printed_of_set("x' = x^3", "x^2, x", &Answer { reply, ..Answer::default() }, 1);
             assert_eq!(printed.contains("given set: "), matches!(code, FULL | NOT_QUADRATIC), "{printed}");
@@ -343,5 +368,53 @@ mod tests {
         let printed = printed_of_set(text, set, &recorded::thinning(&with_set(text, set), 3), 3);
         assert!(printed.ends_with("\nThere is no subset 3: the list has 2 subsets.\n"), "{printed}");
         assert!(!printed.contains("wired:"), "{printed}");
+    }
+
+    #[test]
+    fn a_set_that_is_wired_is_listed_once() {
+        let (text, set) = recorded::WIRED[0];
+        let [printed, json, which] = said_of_wiring(text, set, &recorded::wiring(&given(Aim::Wiring, text, set)));
+        assert!(printed.starts_with("  x' = x^4 + x^3\n  given set: x^3, x^4\n\nQuadratic: "), "{printed}");
+        let wired = "\n\nWired:\n  w1 = x^3\n  w2 = x^4\n  x' = w1 + w2\n  w1' = 3*x*w2 + 3*w1^2\n  \
+                     w2' = 4*w1^2 + 4*w1*w2\n";
+        assert!(printed.ends_with(wired), "{printed}");
+        assert_eq!(printed.matches("x^3, x^4").count(), 1, "{printed}");
+        assert!(json.contains("\"verdict\": \"quadratic\",\n  \"reason\": null,\n  \"wiring\": {\n    \"signals\""));
+        assert!(!json.contains("\"sets\"") && !json.contains("\"subsets\"") && !json.contains("\"set\""), "{json}");
+        assert_eq!(which, "New signals: w1 = x^3, w2 = x^4");
+    }
+
+    #[test]
+    fn smallest_is_never_said_of_a_set_that_is_only_wired() {
+        let mut quadratic = 0;
+        for (text, set) in recorded::WIRED {
+            let answer = recorded::wiring(&given(Aim::Wiring, text, set));
+            quadratic += answer.sets.len();
+            let others = OF_A_SET.into_iter().filter(|&code| code != DONE).map(|code| Answer::refused(code, 1));
+            for answer in others.chain([answer]) {
+                for said in said_of_wiring(text, set, &answer).map(|said| said.to_lowercase()) {
+                    for boast in ["smallest", "minimal", "optimal", "fewest", "best", "subset 1", "set 1", "level"] {
+                        assert!(!said.contains(boast), "{boast}: {said}");
+                    }
+                    // The reply's own number is for other programs alone.
+                    assert!(!said.replace("\"steps\": 0,", "").contains("step"), "{said}");
+                }
+            }
+        }
+        assert!(0 < quadratic && quadratic < recorded::WIRED.len());
+    }
+
+    #[test]
+    fn a_set_that_will_not_do_is_not_wired() {
+        let (text, set) = recorded::WIRED[2];
+        let [printed, json, _] = said_of_wiring(text, set, &recorded::wiring(&given(Aim::Wiring, text, set)));
+        assert!(printed.contains("\nNot quadratic: the given set will not do.\n"), "{printed}");
+        assert!(!printed.contains("Wired:"), "{printed}");
+        let reason = "\"signal\": 2,\n    \"exponents\": [5, 0, 0, 0, 0, 0],\n    \"coefficient\": 2\n";
+        assert!(json.contains(reason) && json.contains("\"verdict\": \"not quadratic\""), "{json}");
+        let full = wired(1, &[], "6 0 0 0 0\n").unwrap();
+        let [printed, json, _] = said_of_wiring("x' = x", "", &full);
+        assert!(printed.contains("longer than there is room for") && !printed.contains("Wired:"), "{printed}");
+        assert!(json.contains("\"wiring\": null"), "{json}");
     }
 }

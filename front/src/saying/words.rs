@@ -4,7 +4,7 @@
 use crate::asking::answer::{Reply, DONE, FULL, LENGTH, NONE, SETTING, SPENT, TERM, TWICE};
 use crate::panel::{CARDS, SETS, STEPS, TERMS};
 use crate::saying::numbers::{counted, grouped};
-use crate::saying::{rule, thinned};
+use crate::saying::{given, rule};
 use crate::typed::settings::Settings;
 use crate::typed::system::System;
 use crate::typed::text::{short, text_of, Source, Span};
@@ -88,7 +88,7 @@ pub fn said(reply: &Reply, settings: &Settings, system: &System, sources: &[Sour
             }
         }
         _ => match &system.given {
-            Some(given) => return thinned::said(reply, given, system, sources),
+            Some(set) => return given::said(reply, set, system, sources),
             None => planned(reply, settings),
         },
     };

@@ -1,4 +1,4 @@
-//! The set that is to be thinned, as the box takes it: a set record.
+//! The set that is given, as the box takes it: a set record; and what it is given for.
 
 use crate::algebra::Exponents;
 use crate::panel::{CARDS, SET_BYTES, VARIABLES};
@@ -12,8 +12,18 @@ pub struct Signal {
     pub span: Span,
 }
 
+/// What is asked of a given set.
+#[derive(Debug, Clone, Copy, PartialEq)]
+pub enum Aim {
+    /// Which of its signals can go.
+    Thinning,
+    /// Whether it will do as it is, and then its wiring.
+    Wiring,
+}
+
 #[derive(Debug, Clone, PartialEq)]
 pub struct Given {
+    pub aim: Aim,
     /// In the order of the text.
     pub signals: Vec<Signal>,
 }

@@ -1,4 +1,4 @@
-//! What was typed: the command line, the equations with the system that they are, and the set that is to be thinned.
+//! What was typed: the command line, the equations with the system that they are, and the set that is given.
 
 pub mod given;
 pub mod lexer;

@@ -2,14 +2,15 @@
 
 use std::io::Read;
 
+use crate::typed::given::Aim;
 use crate::typed::settings::{Count, Settings};
 use crate::typed::text::{short, Source};
 
 #[derive(Debug, PartialEq, Default)]
 pub struct Options {
     pub settings: Settings,
-    /// The text of the set that is to be thinned.
-    pub thin: Option<String>,
+    /// What is asked of a given set, and its text.
+    pub given: Option<(Aim, String)>,
     pub svg: Option<String>,
     pub json: bool,
     pub help: bool,
@@ -26,7 +27,7 @@ pub fn options(arguments: impl IntoIterator<Item = String>) -> Result<Options, S
     let mut options = Options::default();
     let mut arguments = arguments.into_iter();
     let mut plain = false;
-    let mut limit = None;
+    let mut named = Vec::new();
     while let Some(argument) = arguments.next() {
         if plain || !argument.starts_with('-') || argument == "-" {
             options.inputs.push(input(argument));
@@ -47,7 +48,7 @@ pub fn options(arguments: impl IntoIterator<Item = String>) -> Result<Options, S
             }
             continue;
         }
-        if !matches!(name.as_str(), "--cards" | "--steps" | "--sets" | "--set" | "--thin" | "--svg" | "--file") {
+        if !VALUED.contains(&name.as_str()) {
             return Err(format!("{name} is no option (--help lists them)"));
         }
         let value = joined.or_else(|| arguments.next()).ok_or(format!("{name} needs a value after it"))?;
@@ -60,20 +61,38 @@ pub fn options(arguments: impl IntoIterator<Item = String>) -> Result<Options, S
                 let which = number()?.value().filter(|&which| which != 0);
                 options.settings.which = which.ok_or(format!("{name} takes the number of a set, from 1"))?;
             }
-            "--thin" => options.thin = Some(value),
+            THIN => options.given = Some((Aim::Thinning, value)),
+            GIVEN => options.given = Some((Aim::Wiring, value)),
             "--svg" => options.svg = Some(value),
             _ => options.inputs.push(Input::File(value)),
         }
-        if matches!(name.as_str(), "--cards" | "--steps" | "--sets") {
-            limit = limit.or(Some(name));
+        named.push(name);
+    }
+    go_together(&named)?;
+    Ok(options)
+}
+
+const THIN: &str = "--thin";
+const GIVEN: &str = "--given";
+
+/// The options that have a value.
+const VALUED: [&str; 8] = ["--cards", "--steps", "--sets", "--set", THIN, GIVEN, "--svg", "--file"];
+
+/// Those that limit a search.
+const LIMITS: [&str; 3] = ["--cards", "--steps", "--sets"];
+
+/// Refuses an option that says nothing beside another one: where a set is given, nothing is searched.
+fn go_together(named: &[String]) -> Result<(), String> {
+    for (option, second, does) in [
+        (THIN, GIVEN, "judges every subset of the given set"),
+        (GIVEN, "--set", "judges the given set alone and wires it"),
+    ] {
+        let idle = named.iter().find(|name| *name == second || LIMITS.contains(&name.as_str()));
+        if let Some(idle) = idle.filter(|_| named.iter().any(|name| name == option)) {
+            return Err(format!("{idle} does not go with {option}, which {does}"));
         }
     }
-    match limit {
-        Some(name) if options.thin.is_some() => {
-            Err(format!("{name} does not go with --thin, which judges every subset of the given set"))
-        }
-        _ => Ok(options),
-    }
+    Ok(())
 }
 
 fn input(argument: String) -> Input {
@@ -152,12 +171,16 @@ mod tests {
     #[test]
     fn a_set_is_kept_as_typed() {
         let read = |words: &[&str]| read(words).unwrap();
-        assert_eq!(read(&["x' = x^3"]).thin, None);
-        assert_eq!(read(&["--thin", "x^2, x", "x' = x^3"]).thin, Some("x^2, x".into()));
-        assert_eq!(read(&["--thin", ""]).thin, Some("".into()), "an empty set is a set");
-        let options = read(&["--thin=w1 = x^2", "--set", "2", "--svg", "a.svg", "--json"]);
-        assert_eq!(options.thin, Some("w1 = x^2".into()));
-        assert_eq!((options.settings.which, options.svg, options.json), (2, Some("a.svg".into()), true));
+        assert_eq!(read(&["x' = x^3"]).given, None);
+        for (option, aim) in [(THIN, Aim::Thinning), (GIVEN, Aim::Wiring)] {
+            let set = |text: &str| Some((aim, text.to_string()));
+            assert_eq!(read(&[option, "x^2, x", "x' = x^3"]).given, set("x^2, x"));
+            assert_eq!(read(&[option, ""]).given, set(""), "an empty set is a set");
+            let options = read(&[&format!("{option}=w1 = x^2"), "--svg", "a.svg", "--json"]);
+            assert_eq!(options.given, set("w1 = x^2"));
+            assert_eq!((options.svg, options.json), (Some("a.svg".into()), true));
+        }
+        assert_eq!(read(&["--thin", "x^2", "--set", "2"]).settings.which, 2);
     }
 
     #[test]
@@ -181,6 +204,12 @@ mod tests {
             (vec!["--thin", "x^2", "--cards", "2"], "--cards does not go with --thin"),
             (vec!["--steps=9", "--sets", "1", "--thin", "x^2"], "--steps does not go with --thin"),
             (vec!["--sets", "1", "--thin="], "--sets does not go with --thin"),
+            (vec!["--given"], "needs a value"),
+            (vec!["--given", "x^2", "--cards", "2"], "--cards does not go with --given"),
+            (vec!["--sets=9", "--steps", "1", "--given", "x^2"], "--sets does not go with --given"),
+            (vec!["--given=", "--set", "1"], "--set does not go with --given"),
+            (vec!["--given", "x^2", "--thin", "x^2"], "--given does not go with --thin"),
+            (vec!["--thin", "x^2", "--cards", "2", "--given", "x^2"], "--cards does not go with --thin"),
         ] {
             let fault = read(&words).unwrap_err();
             assert!(fault.contains(said), "{words:?}: {fault}");

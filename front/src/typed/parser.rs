@@ -2,6 +2,7 @@
 //! a system or a set is for the planner to say, and what is none at all is said here.
 
 use crate::panel::{CARDS, VARIABLES};
+use crate::typed::given::Aim;
 use crate::typed::lexer::{tokens, Token, Word};
 use crate::typed::text::{short, text_of, Fault, Source, Span};
 
@@ -61,13 +62,14 @@ pub struct Typed {
     pub namings: Vec<(Variable, Span)>,
     /// Every name that stands in an equation, in the order of the text.
     pub names: Vec<(Variable, Span)>,
-    /// The set that is to be thinned.
+    /// The set that is given.
     pub given: Option<Given>,
 }
 
 /// A set of new signals.
-#[derive(Debug, Default, PartialEq)]
+#[derive(Debug, PartialEq)]
 pub struct Given {
+    pub aim: Aim,
     /// In the order of the text, each a term without sign and coefficient.
     pub signals: Vec<Term>,
     pub names: Vec<(Variable, Span)>,
@@ -99,8 +101,8 @@ pub fn parse(sources: &[Source]) -> Result<Typed, Fault> {
     Ok(typed)
 }
 
-/// The same where a set is to be thinned: its text is the last source, the others hold the equations.
-pub fn parse_with_set(sources: &[Source]) -> Result<Typed, Fault> {
+/// The same where a set is given: its text is the last source, the others hold the equations.
+pub fn parse_with_set(sources: &[Source], aim: Aim) -> Result<Typed, Fault> {
     let Some((set, equations)) = sources.split_last() else {
         return parse(sources);
     };
@@ -109,7 +111,7 @@ pub fn parse_with_set(sources: &[Source]) -> Result<Typed, Fault> {
     let mut own = Typed::default();
     let mut parser = Parser { tokens: tokens(equations.len(), set), at: 0, text: &set.text, typed: &mut own };
     let signals = parser.set()?;
-    typed.given = Some(Given { signals, names: own.names });
+    typed.given = Some(Given { aim, signals, names: own.names });
     one_style(&typed)?;
     Ok(typed)
 }
@@ -601,7 +603,7 @@ mod tests {
     /// The powers and the text of each signal of a set.
     fn signals(set: &str) -> Vec<(Vec<(Variable, u128)>, String)> {
         let sources = sources(&["x' = y", set]);
-        let typed = parse_with_set(&sources).unwrap_or_else(|fault| panic!("{set}: {fault:?}"));
+        let typed = parse_with_set(&sources, Aim::Thinning).unwrap_or_else(|fault| panic!("{set}: {fault:?}"));
         let signals = typed.given.unwrap().signals.into_iter();
         signals.map(|s| (s.powers, text_of(&sources, s.span).to_string())).collect()
     }
@@ -609,7 +611,7 @@ mod tests {
     /// The words of a refusal of a set, and what they point at, which is in the set.
     fn bad_set(set: &str) -> (String, String) {
         let sources = sources(&["x' = y", set]);
-        let fault = parse_with_set(&sources).expect_err(set);
+        let fault = parse_with_set(&sources, Aim::Thinning).expect_err(set);
         let span = fault.span.unwrap();
         assert_eq!(span.source, 1, "{set}");
         (fault.words, text_of(&sources, span).to_string())
@@ -672,7 +674,7 @@ mod tests {
         let (words, at) = bad_set("y^2, x2^2, x1");
         assert!(words.contains("not both"), "{words}");
         assert_eq!(at, "x2");
-        let faulty = parse_with_set(&sources(&["x' = x +", "1"])).unwrap_err();
+        let faulty = parse_with_set(&sources(&["x' = x +", "1"]), Aim::Thinning).unwrap_err();
         assert_eq!(faulty.span.unwrap().source, 0, "the equations come first");
     }
 }

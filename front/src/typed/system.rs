@@ -1,8 +1,8 @@
-//! The typed equations as the box takes them: numbered variables and term records; and the set that is to be thinned.
+//! The typed equations as the box takes them: numbered variables and term records; and the set that is given.
 
 use crate::algebra::{self, Exponents};
 use crate::panel::{COEFFICIENT_AT, EXPONENTS_AT, TERM_BYTES, VARIABLES};
-use crate::typed::given::{Given, Signal};
+use crate::typed::given::{Aim, Given, Signal};
 use crate::typed::parser::{self, Typed, Variable, LETTERS};
 use crate::typed::text::{Fault, Span};
 
@@ -72,7 +72,7 @@ pub struct System {
     pub wired: usize,
     /// The names that lines like `w1 = x^2` gave.
     pub namings: Vec<String>,
-    /// The set that is to be thinned; nothing where a plan is asked for.
+    /// The set that is given; nothing where a plan is asked for.
     pub given: Option<Given>,
 }
 
@@ -135,7 +135,8 @@ impl System {
             }
         }
         let signal = |typed: &parser::Term| Signal { powers: powers(&typed.powers), span: typed.span };
-        system.given = typed.given.as_ref().map(|set| Given { signals: set.signals.iter().map(signal).collect() });
+        let given = |set: &parser::Given| Given { aim: set.aim, signals: set.signals.iter().map(signal).collect() };
+        system.given = typed.given.as_ref().map(given);
         Ok(system)
     }
 
@@ -150,7 +151,12 @@ impl System {
         all.filter(|((_, &used), &fed)| used && !fed).map(|((name, _), _)| name.as_str()).collect()
     }
 
-    /// Variables that stand in no equation, and in the set that is to be thinned.
+    /// What is asked of the given set; nothing where a plan is asked for.
+    pub fn aim(&self) -> Option<Aim> {
+        self.given.as_ref().map(|given| given.aim)
+    }
+
+    /// Variables that stand in no equation, and in the set that is given.
     pub fn only_given(&self) -> Vec<&str> {
         let stands = |i: usize| self.given.iter().flat_map(|given| &given.signals).any(|s| s.powers[i] != 0);
         let all = self.names.iter().enumerate();
@@ -203,13 +209,19 @@ pub mod tests {
         System::of(&parse(&sources).unwrap()).unwrap()
     }
 
-    /// The equations and the set that is to be thinned, as sources.
+    /// The equations and the set that is given, as sources.
     pub fn sources_with_set(text: &str, set: &str) -> [Source; 2] {
         [text, set].map(|text| Source { file: None, text: text.into() })
     }
 
+    /// A system with a set that is given for something.
+    pub fn given(aim: Aim, text: &str, set: &str) -> System {
+        System::of(&parse_with_set(&sources_with_set(text, set), aim).unwrap()).unwrap()
+    }
+
+    /// The same where it does not matter for what, and where it is to be thinned.
     pub fn with_set(text: &str, set: &str) -> System {
-        System::of(&parse_with_set(&sources_with_set(text, set)).unwrap()).unwrap()
+        given(Aim::Thinning, text, set)
     }
 
     fn exponents(first: [u8; 3]) -> Exponents {
@@ -275,9 +287,11 @@ pub mod tests {
         assert_eq!(system.unfed(), ["x2"]);
         assert_eq!(system.only_given(), ["x4"], "x3 stands there with the power 0");
         assert_eq!(system.given.as_ref().unwrap().signals[0].powers, [0, 0, 0, 2, 0, 0]);
-        assert_eq!(super::tests::system("x1' = x2^3").only_given(), Vec::<&str>::new());
+        let plain = super::tests::system("x1' = x2^3");
+        assert_eq!((plain.only_given(), plain.aim()), (Vec::<&str>::new(), None));
+        assert_eq!(given(Aim::Wiring, "x' = y", "").aim(), Some(Aim::Wiring));
         let sources = sources_with_set("x4' = w2", "x4^2, w2*w3");
-        let fault = System::of(&parse_with_set(&sources).unwrap()).unwrap_err();
+        let fault = System::of(&parse_with_set(&sources, Aim::Wiring).unwrap()).unwrap_err();
         assert_eq!(fault.words, "7 variables, and the box takes up to 6");
         assert_eq!(fault.span.map(|span| (span.source, span.from)), Some((1, 9)));
     }
@@ -379,7 +393,7 @@ pub mod tests {
         let (mut seed, mut read) = (1, 0);
         for _ in 0..20_000 {
             let sources = sources_with_set("x' = y, z' = 1", &babble(&mut seed, "x*y, x"));
-            let system = match parse_with_set(&sources).and_then(|typed| System::of(&typed)) {
+            let system = match parse_with_set(&sources, Aim::Wiring).and_then(|typed| System::of(&typed)) {
                 Ok(system) => system,
                 Err(fault) => {
                     fault.span.map(|span| crate::typed::text::point(&sources, span));

@@ -3,16 +3,17 @@ use mathlib.Core.Path.{_≡_, sym, _∙_}
 use mathlib.Core.List.{List}
 use Prim.Native.Nat.{ℕ, _*_}
 use native.Mathlib.Omega.{arith}
-use lib.ListN.{length, take, drop}
+use lib.ListN.{length}
 use Rattle.wiring.specs.Panel.{setBytes}
 use Rattle.report.specs.declared.prepare.Prepared.{Prepared}
 use Rattle.report.specs.Prepare.{resultsIn}
 use Rattle.report.specs.Report.{linesOf}
 use Rattle.report.proofs.prepare.Laws.{roomy}
-use Rattle.report.proofs.prepare.Exact.{prepare-determined, prepared-lines, thin-prepared-lines, setting-line}
+use Rattle.report.proofs.prepare.Exact.{prepare-determined, prepared-lines, thin-prepared-lines, wire-prepared-lines, setting-line}
 use Rattle.asked.specs.declared.settings.Asked.{Asked}
-use Rattle.asked.specs.declared.settings.Asked.the-variants.{Plan, Thin, Wrong}
+use Rattle.asked.specs.declared.settings.Asked.the-variants.{Plan, Thin, Wire, Wrong}
 use Rattle.asked.specs.Settings.{mostSets, Roomy}
+use Rattle.asked.specs.Input.{setIn, termsIn}
 use Rattle.asked.specs.Answer.{answered, Answers}
 
 pub answered-lines : (a : Asked) (input : List ℕ) (p : Prepared) (sets setsAfter wires wiresAfter : List ℕ) → Roomy a
@@ -21,11 +22,13 @@ unfolding answered
 answered-lines (Plan s) input p sets setsAfter wires wiresAfter h long e =
     prepared-lines s input (roomy s input (omega arith) e)
 answered-lines (Thin n which) input p sets setsAfter wires wiresAfter h long e =
-    rw (← long) (thin-prepared-lines n which (drop setBytes input) (take setBytes input) e)
+    rw (← long) (thin-prepared-lines n which (termsIn input) (setIn input) e)
+answered-lines (Wire n) input p sets setsAfter wires wiresAfter h long e = wire-prepared-lines n (termsIn input) (setIn input) e
 answered-lines Wrong input p sets setsAfter wires wiresAfter h long e = rw (e .0) (setting-line setsAfter wiresAfter)
 
 pub asked-determined : (a : Asked) (input sets wires : List ℕ) (p p' : Prepared) (b b' w w' : List ℕ)
     → Answers a input p sets b wires w → Answers a input p' sets b' wires w' → (p ≡ p') × (b ≡ b') × (w ≡ w')
 asked-determined (Plan s) input sets wires p p' b b' w w' e e' = prepare-determined e e'
 asked-determined (Thin n which) input sets wires p p' b b' w w' e e' = prepare-determined e e'
+asked-determined (Wire n) input sets wires p p' b b' w w' e e' = prepare-determined e e'
 asked-determined Wrong input sets wires p p' b b' w w' e e' = (e .0 ∙ sym (e' .0), e .1 ∙ sym (e' .1), e .2 ∙ sym (e' .2))

@@ -2,12 +2,12 @@
 use Prim.Native.Nat.{ℕ}
 use lib.Dec.{leb, leb→le}
 use Rattle.monomial.proofs.Tests.{cond-cases}
-use Rattle.asked.specs.Settings.{mostSets, Roomy, numbered, within, asked, askedThin}
+use Rattle.asked.specs.Settings.{mostSets, Roomy, numbered, within, asked, askedThin, askedWire}
 use Rattle.lines.specs.declared.number.Number.{Number}
 use Rattle.lines.specs.declared.number.Number.the-variants.{Of, Nothing}
 use Rattle.report.specs.declared.prepare.Settings.{Settings}
 use Rattle.asked.specs.declared.settings.Asked.{Asked}
-use Rattle.asked.specs.declared.settings.Asked.the-variants.{Plan, Thin, Wrong}
+use Rattle.asked.specs.declared.settings.Asked.the-variants.{Plan, Thin, Wire, Wrong}
 
 numbered-roomy : (x : Number) (f : ℕ → Asked) → ((v : ℕ) → Roomy (f v)) → Roomy (numbered x f)
 numbered-roomy (Of v) f h = h v
@@ -26,3 +26,7 @@ asked-roomy a b c d e =
 pub thin-roomy : (a b : Number) → Roomy (askedThin a b)
 unfolding askedThin
 thin-roomy a b = numbered-roomy a _ (λ n. numbered-roomy b (Thin n) (λ which. tt))
+
+pub wire-roomy : (a : Number) → Roomy (askedWire a)
+unfolding askedWire
+wire-roomy a = numbered-roomy a Wire (λ n. tt)

@@ -10,8 +10,8 @@ use Rattle.wiring.proofs.reply.Laws.{same-reply}
 use Rattle.lines.specs.Answer.{replyLine}
 use Rattle.report.specs.declared.prepare.Settings.{Settings}
 use Rattle.report.specs.declared.prepare.Prepared.{Prepared}
-use Rattle.report.specs.Prepare.{Results, resultsIn, Leaves, Prepares, PreparesThin}
-use Rattle.report.specs.Report.{linesOf, report, thinReport}
+use Rattle.report.specs.Prepare.{Results, resultsIn, Leaves, Prepares, PreparesThin, PreparesWire}
+use Rattle.report.specs.Report.{linesOf, report, thinReport, wireReport}
 
 abbrev made : Reply → ℕ → ℕ → Prepared
 made reply lent wires = record { reply = reply; lent = lent; wires = wires }
@@ -30,6 +30,11 @@ module _ {p : Prepared} {sets after wires : List ℕ} where
   unfolding thinReport
   thin-prepared-lines n which terms set a = ap linesOf (a .left)
 
+  pub wire-prepared-lines : (n : ℕ) (terms set : List ℕ) → PreparesWire n terms set p sets after wires
+      → linesOf (resultsIn p after wires) ≡ wireReport n terms set
+  unfolding wireReport
+  wire-prepared-lines n terms set a = ap linesOf (a .left)
+
   -- two outcomes that a promise allows are equal: what is given, and every byte that was lent
   pub prepare-determined : {size : ℕ} {r : Results} {q : Prepared} {b w : List ℕ} → Leaves size r p sets after wires → Leaves size r q sets b w
       → (p ≡ q) × (after ≡ b) × (wires ≡ w)
@@ -44,6 +49,11 @@ module _ {p : Prepared} {sets after wires : List ℕ} where
         sym (take-append-drop (p .lent) after) ∙ rw (front, rest) (take-append-drop (q .lent) b),
         ap (λ (r : Results). r .wiring .bytes) both,
       )
+
+-- so too of wiring, which no buffer is lent for sets
+pub wire-prepare-determined : (n : ℕ) (terms set : List ℕ) {p q : Prepared} {w v : List ℕ} → ((sets : List ℕ) → PreparesWire n terms set p sets sets w)
+    → ((sets : List ℕ) → PreparesWire n terms set q sets sets v) → (p ≡ q) × (w ≡ v)
+wire-prepare-determined n terms set a c = let both = prepare-determined (a []) (c []) in (both .0, both .2)
 
 -- of a refused setting only the reply is told
 pub setting-line : (sets wires : List ℕ)

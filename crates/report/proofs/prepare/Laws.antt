@@ -1,6 +1,7 @@
--- The wiring of one set, planning into the front of a buffer, and thinning into all of one. Assumes nothing.
+-- The wiring of one set, planning into the front of a buffer, thinning into all of one, and wiring a given set into
+-- none of it. Assumes nothing.
 use mathlib.Core.Path.{_≡_, refl, sym, ap, _∙_}
-use mathlib.Core.List.{List, _++_}
+use mathlib.Core.List.{List, [], _++_}
 use Prim.Native.Nat.{ℕ, _+_, _*_, _-_, _/_, _≤_, _<_, min}
 use native.Mathlib.Omega.{arith}
 use borrow.Author.Tests.{le-leb, lt-leb}
@@ -18,7 +19,7 @@ use Rattle.thin.proofs.thin.Exact.{thin-finds, thin-length}
 use Rattle.walk.proofs.plan.Exact.{plan-finds, plan-length}
 use Rattle.report.specs.declared.prepare.Settings.{Settings}
 use Rattle.report.specs.declared.prepare.Prepared.{Prepared}
-use Rattle.report.specs.Prepare.{Counted, counted, slot, wiringOf, Results, resultsOf, results, thinResults, fitted, Prepares, PreparesThin}
+use Rattle.report.specs.Prepare.{Counted, counted, countedOf, slot, wiringOf, Results, resultsOf, results, thinResults, wireResults, fitted, Prepares, PreparesThin, PreparesWire}
 
 -- ---- the wiring of set number `which`, into a buffer of so many bytes
 module _ (n : ℕ) (terms : List ℕ) (which count : ℕ) (sets : List ℕ) (size : ℕ) (long : size ≡ wiresBytes) where
@@ -37,7 +38,7 @@ module _ (n : ℕ) (terms : List ℕ) (which count : ℕ) (sets : List ℕ) (siz
   wires-there low high at from r out five e f =
       let same : at + setBytes - at ≡ setBytes = omega arith in
       let whole : outcome r out ≡ wired n terms (slot setBytes sets (which - 1)) wiresBytes = rw (same, from, long) at e in
-      rw (le-leb 1 which low, le-leb which count high, f) (ap (λ (x : Outcome). counted (x .said .count) (x .bytes)) whole)
+      rw (le-leb 1 which low, le-leb which count high, f) (ap countedOf whole)
 
 -- ---- an outcome and the wiring of one of its sets are its results
 abbrev asResults : Outcome → Counted → Results
@@ -110,6 +111,19 @@ module _ (n : ℕ) (terms set sets : List ℕ) (reply : Reply) (bytes : List ℕ
           left = rw whole (results-are n terms which reply bytes five e f count out w);
           rest = drop-of-length-le bytes short ∙ sym (drop-of-length-le sets full);
         }
+
+-- ---- no buffer was lent for sets, and the given set was wired into so many bytes
+pub prepares-wire : (n : ℕ) (terms set : List ℕ) (size : ℕ) → size ≡ wiresBytes → (reply : Reply) (out five : List ℕ)
+    → outcome reply out ≡ wired n terms set size → five ≡ inOrder (numbers reply) → (sets : List ℕ)
+    → PreparesWire n terms set (record { reply = reply; lent = 0; wires = getD five 2 0 }) sets sets out
+unfolding wireResults
+prepares-wire n terms set size long reply out five e f sets =
+    let whole : outcome reply out ≡ wired n terms set wiresBytes = rw long at e in
+    record {
+      lent = refl;
+      left = rw f (ap (λ (x : Outcome). asResults (record { said = x .said; bytes = [] }) (countedOf x)) whole);
+      rest = refl;
+    }
 
 -- settings whose room the buffer has are taken as they are
 pub roomy : (s : Settings) (terms : List ℕ) {sets after wires : List ℕ} {p : Prepared} → setBytes * s .room ≤ length sets

@@ -1,7 +1,7 @@
 -- Exactly when each reply of thinning is given, for all numbers n, all lists of bytes and a buffer of any size, and what the buffer then holds. Done
 -- lists the smallest quadratic subsets of the given set, over Definition 1 itself, and none of them is refused by wiring. Assumes nothing.
 use mathlib.Core.Path.{_≡_, refl, sym, ap, ap₂, subst, _∙_}
-use mathlib.Core.Logic.{_↔_}
+use mathlib.Core.Logic.{_⊎_, _↔_}
 use mathlib.Core.List.{List, [], _++_}
 use Prim.Native.Nat.{ℕ, _*_, _-_, _/_, _^_, _≤_, _<_}
 use native.Mathlib.Omega.{arith}
@@ -17,30 +17,30 @@ use Rattle.wiring.specs.Reply.{numbers, Outcome, outcome}
 use Rattle.wiring.specs.Terms.{records, system}
 use Rattle.wiring.specs.Sets.{setOf, setRecord}
 use Rattle.wiring.specs.Wires.{wireList}
-use Rattle.wiring.specs.Answers.{verdict, checked, wired}
+use Rattle.wiring.specs.Answers.{verdict, wired}
 use Rattle.wiring.specs.declared.reply.Reply.{Reply}
 use Rattle.wiring.specs.declared.reply.Reply.the-variants.{Done, Setting, Length, Term, Twice, Nothing, Full, Spent, BadSet, NotQuadratic}
-use Rattle.wiring.specs.Claims.{WellFormed, listIn, CheckSays}
+use Rattle.wiring.specs.Claims.{WellFormed, listIn, VerdictSays, QuadraticIn}
 use Rattle.wiring.proofs.reply.Laws.{same-reply, code-done}
 use Rattle.wiring.proofs.sets.Exact.{record-length, right-iff, right-recordable}
 use Rattle.wiring.proofs.answers.Exact.{verdict-exact, verdict-says}
 use Rattle.walk.specs.Plan.{Ending, setsBytes, said}
 use Rattle.walk.proofs.listing.Laid.{sets-laid}
-use Rattle.walk.proofs.listing.Wiring.{Usable, usable-checks, laid-wired, laid-wires}
+use Rattle.walk.proofs.listing.Wiring.{Usable, usable-judged, laid-wired, laid-wires}
 use Rattle.walk.proofs.plan.Laws.{said-done, said-full}
 use Rattle.thin.specs.Thin.{thinned}
-use Rattle.thin.specs.Claims.{Thinnest, leastIn, thinnestIn, Thinnable, ThinSays, thinLeaves, Thinned, Overfull}
+use Rattle.thin.specs.Claims.{Thinnest, leastIn, thinnestIn, ThinSays, thinLeaves, Thinned, Overfull}
 use Rattle.thin.proofs.thin.Laws.{thinned-refused, thinned-done, thinning-done, thinning-full}
 use Rattle.thin.proofs.thin.Smallest.{thinnest-most, thin-smallest}
 
 module _ (n : ℕ) (terms set : List ℕ) (size : ℕ) where
   -- ---- what holds is said
-  -- a refusal of checking is passed on
-  passed-on : (r : Reply) → CheckSays n terms set r → (numbers r .code ≡ 0 → ⊥) → thinned n terms set size ≡ outcome r (replicate size 0)
+  -- a verdict that refuses is passed on
+  passed-on : (r : Reply) → VerdictSays n terms set r → (numbers r .code ≡ 0 → ⊥) → thinned n terms set size ≡ outcome r (replicate size 0)
   passed-on r h k = thinned-refused n terms set size r (verdict-exact n terms set r .1 h) k
 
   -- a set that can be thinned is judged, and its subsets decide
-  with-ending : Thinnable n terms set → (e : Ending) → Rattle.thin.specs.Thin.thinning n (system (records terms)) (setOf set) (size / setBytes) ≡ e → thinned n terms set size ≡ said e size
+  with-ending : QuadraticIn n terms set → (e : Ending) → Rattle.thin.specs.Thin.thinning n (system (records terms)) (setOf set) (size / setBytes) ≡ e → thinned n terms set size ≡ said e size
   with-ending t e q =
       let says = verdict-exact n terms set (Done (length (setOf set)) 0 0) .1 (t .formed, refl, refl, refl, t .quadratic) in
       thinned-done n terms set size (length (setOf set)) 0 0 says ∙ ap (λ (x : Ending). said x size) q
@@ -69,7 +69,7 @@ module _ (n : ℕ) (terms set : List ℕ) (size : ℕ) where
     reply : Reply
     holds : ThinSays n terms set size reply
 
-  told-list : Thinnable n terms set → Told
+  told-list : QuadraticIn n terms set → Told
   told-list t = go (test (leb (length (thinnestIn n terms set)) (size / setBytes)))
     where
       go : Tested (leb (length (thinnestIn n terms set)) (size / setBytes)) → Told
@@ -82,7 +82,7 @@ module _ (n : ℕ) (terms set : List ℕ) (size : ℕ) where
         holds = (t, refl, refl, leb-false (length (thinnestIn n terms set)) (size / setBytes) e);
       }
 
-  told-reply : (r : Reply) → CheckSays n terms set r → Told
+  told-reply : (r : Reply) → VerdictSays n terms set r → Told
   told-reply Setting h = record { reply = Setting; holds = h }
   told-reply Length h = record { reply = Length; holds = h }
   told-reply (Term p) h = record { reply = Term p; holds = h }
@@ -124,7 +124,7 @@ module _ (n : ℕ) (terms set : List ℕ) (size : ℕ) where
   thin-zeros r bytes e h = rw (ne-eqb (numbers r .code) 0 h) at (thin-exact r bytes .0 e .1)
 
   -- ---- done and full, over Definition 1
-  smallest-of : Thinnable n terms set → Thinnest n terms (setOf set) (leastIn n terms set) (thinnestIn n terms set)
+  smallest-of : QuadraticIn n terms set → Thinnest n terms (setOf set) (leastIn n terms set) (thinnestIn n terms set)
   smallest-of t = thin-smallest n terms (setOf set) (right-recordable n set (right-iff n set .1 (t .formed .right)) (t .formed .lengths .long)) (t .quadratic)
 
   pub thin-finds : (o c k : ℕ) (bytes : List ℕ) → outcome (Done o c k) bytes ≡ thinned n terms set size → Thinned n terms set size o c k bytes
@@ -174,7 +174,7 @@ module _ (n : ℕ) (terms set : List ℕ) (size : ℕ) where
           let same : outcome (Done (d .order) (d .count) (d .steps)) bytes ≡ thinned n terms set size = ap (λ (x : Reply). outcome x bytes) (sym (d .is)) ∙ e in
           thin-finds (d .order) (d .count) (d .steps) bytes same .laid .long
 
-  -- ---- a listed subset can be handed to checking and wiring, and neither refuses it
+  -- ---- a listed subset can be handed to wiring, which never refuses it
   module _ (o c k : ℕ) (bytes : List ℕ) (e : outcome (Done o c k) bytes ≡ thinned n terms set size) where
     abbrev found : Thinned n terms set size o c k bytes
     found = thin-finds o c k bytes e
@@ -185,8 +185,10 @@ module _ (n : ℕ) (terms set : List ℕ) (size : ℕ) where
     each : (t : List Mono) → t ∈ thinnestIn n terms set → Usable n terms o t
     each t m = let l = found .smallest .each t m in record { recordable = l .recordable; quadratic = l .quadratic; size = l .size }
 
-    pub thin-checks : (t : List Mono) → t ∈ thinnestIn n terms set → numbers (Done o 0 0) ≡ checked n terms (setRecord t)
-    thin-checks t m = usable-checks n terms (formed .ranged) (formed .lengths .measured) (formed .flawless) o t (each t m)
+    -- whatever the buffer, it is called quadratic: done or full
+    pub thin-judged : (t : List Mono) → t ∈ thinnestIn n terms set → (room : ℕ) (r : Reply) (left : List ℕ) → outcome r left ≡ wired n terms (setRecord t) room
+        → (numbers r .code ≡ 0) ⊎ (numbers r .code ≡ 6)
+    thin-judged t m = usable-judged n terms (formed .ranged) (formed .lengths .measured) (formed .flawless) o t (each t m)
 
     module _ (i : ℕ) (h : i < c) where
       -- record number i, wired into 1,792 bytes or more, is done: its list, then zeros

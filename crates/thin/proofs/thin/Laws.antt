@@ -13,7 +13,7 @@ use Rattle.wiring.specs.Poly.{Poly}
 use Rattle.wiring.specs.Reply.{numbers, outcome, refused}
 use Rattle.wiring.specs.Terms.{records, system}
 use Rattle.wiring.specs.Sets.{setOf, monomialsOf}
-use Rattle.wiring.specs.Answers.{verdict, Listable}
+use Rattle.wiring.specs.Answers.{verdict, judged, Judgeable, Takes}
 use Rattle.wiring.specs.declared.reply.Reply.{Reply}
 use Rattle.wiring.specs.declared.reply.Reply.the-variants.{Done, Full}
 use Rattle.wiring.specs.declared.sets.Set.{Set}
@@ -23,7 +23,7 @@ use Rattle.walk.specs.Plan.{Ending, done, fullAt, setsBytes, said}
 use Rattle.walk.proofs.plan.Laws.{said-done, said-full}
 use Rattle.thin.specs.declared.subsets.Best.{Best}
 use Rattle.thin.specs.Subsets.{subsets, Tally, tally, allSifted, Holds, Sifting, Bounded, undecided, Deciding}
-use Rattle.thin.specs.Thin.{least, thinnest, thinning, thinned}
+use Rattle.thin.specs.Thin.{least, thinnest, thinning, thinnedBy, thinned}
 use Rattle.thin.proofs.subsets.Laws.{subsets-count}
 use Rattle.thin.proofs.subsets.Listing.{begun-none}
 use Rattle.thin.proofs.thin.Tallies.{tally-thinnest}
@@ -38,12 +38,12 @@ module _ (n : ℕ) (fs : List (Poly Mono)) (s : List Mono) (size : ℕ) where
   unfolding thinning
   thinning-full h = rw (lt-leb (length (thinnest n fs s)) (size / setBytes) h)
 
--- ---- a quadratic set and a buffer of zeros
+-- ---- a set and a buffer of zeros
 -- the set without signals, as the code has it
 abbrev no-signals : Set
 no-signals = record { m = replicate cards (record { e = one width }); len = 0 }
 
-module _ (n : ℕ) (terms : List ℕ) (set : Set) (out : List ℕ) (w : Listable n terms set) (blank : out ≡ replicate (length out) 0) (full : length (set .m) ≡ cards) where
+module _ (n : ℕ) (terms : List ℕ) (set : Set) (out : List ℕ) (w : Judgeable n terms set) (blank : out ≡ replicate (length out) 0) (full : length (set .m) ≡ cards) where
   abbrev fs : List (Poly Mono)
   fs = system (records terms)
 
@@ -54,12 +54,12 @@ module _ (n : ℕ) (terms : List ℕ) (set : Set) (out : List ℕ) (w : Listable
   start = record { order = set .len; count = 0; steps = 0 }
 
   size : set .len ≡ length s
-  size = sym (front-length (set .len) (set .m) (omega (arith, w .judgeable .small)))
+  size = sym (front-length (set .len) (set .m) (omega (arith, w .small)))
 
   pub start-deciding : Deciding n terms set 0 no-signals
   start-deciding = record {
-    whole = w .judgeable;
-    part = record { few = w .judgeable .few; clean = w .judgeable .clean; small = omega arith; fits = λ m h. absurd (List·Memᴰ·not-nil h) };
+    whole = w;
+    part = record { few = w .few; clean = w .clean; small = omega arith; fits = λ m h. absurd (List·Memᴰ·not-nil h) };
     within = omega arith;
     fewer = omega arith;
   }
@@ -70,7 +70,7 @@ module _ (n : ℕ) (terms : List ℕ) (set : Set) (out : List ℕ) (w : Listable
   pub start-bounded : Bounded start (length (undecided set 0 no-signals))
   start-bounded =
       let many : length (undecided set 0 no-signals) ≡ 2 ^ length s = ap length all-subsets ∙ subsets-count s in
-      let most : 2 ^ length s ≤ 2 ^ cards = pow-le-pow-right {n = 2} (omega arith) {i = length s} {j = cards} (omega (arith, size, w .judgeable .small)) in
+      let most : 2 ^ length s ≤ 2 ^ cards = pow-le-pow-right {n = 2} (omega arith) {i = length s} {j = cards} (omega (arith, size, w .small)) in
       record { counted = omega arith; within = omega arith }
 
   -- when all subsets are sifted
@@ -106,17 +106,28 @@ module _ (n : ℕ) (terms : List ℕ) (set : Set) (out : List ℕ) (w : Listable
           ∙ ap (outcome (Full (least n fs s) (2 ^ length s))) (z ∙ ap (λ (k : ℕ). replicate k 0) same)
           ∙ said-full (least n fs s) (2 ^ length s) (length out) ∙ ap (λ (e : Ending). said e (length out)) (sym (thinning-full n fs s (length out) over))
 
--- ---- the checks
+-- ---- a verdict with the subsets
+pub by-refused : (r : Reply) (ends : Ending) (size : ℕ) → (numbers r .code ≡ 0 → ⊥) → thinnedBy r ends size ≡ refused r size
+unfolding thinnedBy
+by-refused r ends size k = rw (ne-eqb (numbers r .code) 0 k)
+
+pub by-done : (o c k : ℕ) (ends : Ending) (size : ℕ) → thinnedBy (Done o c k) ends size ≡ said ends size
+unfolding thinnedBy
+by-done o c k ends size = refl
+
 module _ (n : ℕ) (terms set : List ℕ) (size : ℕ) where
   pub thinned-refused : (r : Reply) → verdict n terms set ≡ r → (numbers r .code ≡ 0 → ⊥) → thinned n terms set size ≡ refused r size
   unfolding thinned
-  thinned-refused r e k = rw (e, ne-eqb (numbers r .code) 0 k)
+  thinned-refused r e k = rw e (by-refused r (thinning n (system (records terms)) (setOf set) (size / setBytes)) size k)
 
   pub thinned-done : (o c k : ℕ) → verdict n terms set ≡ Done o c k → thinned n terms set size ≡ said (thinning n (system (records terms)) (setOf set) (size / setBytes)) size
   unfolding thinned
-  thinned-done o c k e = rw e
+  thinned-done o c k e = rw e (by-done o c k (thinning n (system (records terms)) (setOf set) (size / setBytes)) size)
 
--- the subsets of the set that was read are those of the set that was given
-pub thinning-as : (n : ℕ) (terms bytes : List ℕ) (size size' : ℕ) (set : List Mono) → set ≡ setOf bytes → size' ≡ size
-    → said (thinning n (system (records terms)) set (size' / setBytes)) size' ≡ said (thinning n (system (records terms)) (setOf bytes) (size / setBytes)) size
-thinning-as n terms bytes size size' set held e = ap₂ (λ (m : List Mono) (k : ℕ). said (thinning n (system (records terms)) m (k / setBytes)) k) held e
+-- the set that was read is the set that was given, and the verdict is about it
+pub thinned-given : (n : ℕ) (terms bytes : List ℕ) (size size' : ℕ) (set : Set) → Takes n terms bytes set → size' ≡ size
+    → thinnedBy (judged n (system (records terms)) (monomialsOf set)) (thinning n (system (records terms)) (monomialsOf set) (size' / setBytes)) size' ≡ thinned n terms bytes size
+unfolding thinned
+thinned-given n terms bytes size size' set t e =
+    ap₂ (λ (m : List Mono) (k : ℕ). thinnedBy (judged n (system (records terms)) m) (thinning n (system (records terms)) m (k / setBytes)) k) (t .holds) e
+    ∙ ap (λ (r : Reply). thinnedBy r (thinning n (system (records terms)) (setOf bytes) (size / setBytes)) size) (sym (t .says))

@@ -1,5 +1,6 @@
--- Records of quadratic sets in a buffer: each of them, handed to checking or wiring, is accepted. Assumes nothing.
+-- Records of quadratic sets in a buffer: each of them, handed to wiring, is called quadratic and wired. Assumes nothing.
 use mathlib.Core.Path.{_≡_, sym, ap, _∙_}
+use mathlib.Core.Logic.{_⊎_}
 use mathlib.Core.List.{List, [], _++_}
 use Prim.Native.Nat.{ℕ, _*_, _-_, _≤_, _<_}
 use lib.ListN.{length, getD, take, drop, replicate}
@@ -11,11 +12,11 @@ use Rattle.wiring.specs.Reply.{numbers, outcome}
 use Rattle.wiring.specs.Terms.{records, system}
 use Rattle.wiring.specs.Sets.{setRecord}
 use Rattle.wiring.specs.Wires.{wireList}
-use Rattle.wiring.specs.Answers.{checked, wired}
+use Rattle.wiring.specs.Answers.{wired}
 use Rattle.wiring.specs.Claims.{Measured, Flawless, beyond, Ranged, Recordable, listIn}
 use Rattle.wiring.specs.declared.reply.Reply.{Reply}
 use Rattle.wiring.specs.declared.reply.Reply.the-variants.{Done}
-use Rattle.wiring.proofs.answers.Recorded.{recorded-checks, recorded-wired, recorded-wires}
+use Rattle.wiring.proofs.answers.Recorded.{recorded-judged, recorded-wired, recorded-wires}
 use Rattle.walk.specs.Walk.{Finds}
 use Rattle.walk.specs.Claims.{QuadraticList, Laid}
 
@@ -27,8 +28,9 @@ pub record Usable (n : ℕ) (terms : List ℕ) (o : ℕ) (s : List Mono) : Type 
 
 module _ (n : ℕ) (terms : List ℕ) (ranged : Ranged n) (measured : Measured terms) (flawless : Flawless n (records terms) beyond) (o : ℕ) where
   module _ (s : List Mono) (u : Usable n terms o s) where
-    pub usable-checks : numbers (Done o 0 0) ≡ checked n terms (setRecord s)
-    usable-checks = ap (λ (x : ℕ). numbers (Done x 0 0)) (sym (u .size)) ∙ recorded-checks n terms ranged measured flawless s (u .recordable) (u .quadratic)
+    -- whatever the buffer, it is called quadratic: done or full
+    pub usable-judged : (size : ℕ) (r : Reply) (bytes : List ℕ) → outcome r bytes ≡ wired n terms (setRecord s) size → (numbers r .code ≡ 0) ⊎ (numbers r .code ≡ 6)
+    usable-judged = recorded-judged n terms ranged measured flawless s (u .recordable) (u .quadratic)
 
     -- into 1,792 bytes or more
     pub usable-wires : (room : ℕ) → wiresBytes ≤ room → (r : Reply) (bytes : List ℕ) → outcome r bytes ≡ wired n terms (setRecord s) room

@@ -1,7 +1,7 @@
 -- Exactly when each reply of planning is given, for all settings, all bytes and a buffer of any size, and what the buffer then holds: each refusal
 -- in plain equations and inequalities, in the order of document 01, then the four endings of the walk. Assumes nothing.
 use mathlib.Core.Path.{_≡_, refl, sym, ap, _∙_, subst}
-use mathlib.Core.Logic.{_↔_}
+use mathlib.Core.Logic.{_⊎_, _↔_}
 use mathlib.Core.Bool.{true, false}
 use mathlib.Core.List.{List, _++_}
 use Prim.Native.Nat.{ℕ, suc, _+_, _*_, _-_, _/_, _≤_}
@@ -18,7 +18,7 @@ use Rattle.wiring.specs.Poly.{Poly}
 use Rattle.wiring.specs.Reply.{numbers, Outcome, outcome, refused}
 use Rattle.wiring.specs.Terms.{records, lengthRight, fault, system}
 use Rattle.wiring.specs.Sets.{setRecord}
-use Rattle.wiring.specs.Answers.{unlessFault, checked, wired}
+use Rattle.wiring.specs.Answers.{unlessFault, wired}
 use Rattle.wiring.specs.declared.reply.Reply.{Reply}
 use Rattle.wiring.specs.declared.reply.Reply.the-variants.{Done, Setting, Length, Term, Twice, Nothing, Full, Spent, BadSet, NotQuadratic}
 use Rattle.wiring.specs.declared.terms.Fault.{Fault}
@@ -37,7 +37,7 @@ use Rattle.walk.proofs.children.Laws.{empty-walked}
 use Rattle.walk.proofs.Sound.{empty-proper}
 use Rattle.walk.proofs.Smallest.{none-smaller, plan-done}
 use Rattle.walk.proofs.listing.Laid.{sets-laid}
-use Rattle.walk.proofs.listing.Wiring.{Usable, usable-checks, usable-wires}
+use Rattle.walk.proofs.listing.Wiring.{Usable, usable-judged, usable-wires}
 
 -- ---- the settings
 range-out : (n cap limit : ℕ) → T (settingsRight n cap limit) → InRange n cap limit
@@ -240,13 +240,14 @@ module _ (n cap limit : ℕ) (terms : List ℕ) (size : ℕ) where
           let same : outcome (Done (d .order) (d .count) (d .steps)) bytes ≡ planned n cap limit terms size = ap (λ (x : Reply). outcome x bytes) (sym (d .is)) ∙ e in
           plan-finds (d .order) (d .count) (d .steps) bytes same .laid .long
 
--- ---- a listed set can be handed to checking and wiring, and neither refuses it
+-- ---- a listed set can be handed to wiring, which never refuses it
 pub listed-usable : (n : ℕ) (terms : List ℕ) (o : ℕ) (s : List Mono) → Listed bare n terms o s → Usable n terms o s
 listed-usable n terms o s l = record { recordable = l .recordable; quadratic = l .quadratic; size = l .size }
 
 module _ (n cap limit : ℕ) (terms : List ℕ) (size : ℕ) (a : Accepted n cap limit terms) (o : ℕ) (s : List Mono) (l : Listed bare n terms o s) where
-  pub listed-checks : numbers (Done o 0 0) ≡ checked n terms (setRecord s)
-  listed-checks = usable-checks n terms (a .range .ranged) (a .measured) (a .flawless) o s (listed-usable n terms o s l)
+  -- whatever the buffer, it is called quadratic: done or full
+  pub listed-judged : (room : ℕ) (r : Reply) (bytes : List ℕ) → outcome r bytes ≡ wired n terms (setRecord s) room → (numbers r .code ≡ 0) ⊎ (numbers r .code ≡ 6)
+  listed-judged = usable-judged n terms (a .range .ranged) (a .measured) (a .flawless) o s (listed-usable n terms o s l)
 
   -- into 1,792 bytes or more
   pub listed-wires : (room : ℕ) → wiresBytes ≤ room → (r : Reply) (bytes : List ℕ) → outcome r bytes ≡ wired n terms (setRecord s) room

@@ -1,4 +1,4 @@
--- Exactly when each reply of checking is given, for all numbers n and all lists of bytes: every refusal in plain equations and inequalities, in
+-- Exactly when each verdict is given, for all numbers n and all lists of bytes: every refusal in plain equations and inequalities, in
 -- the order of document 01, and done where Definition 1 holds. The cases are all, and no two replies meet the promise. Assumes nothing.
 use mathlib.Core.Path.{_≡_, refl, sym, ap, ap₂, _∙_, subst}
 use mathlib.Core.Logic.{_⊎_, inl, inr, ⊎-elim, _↔_}
@@ -20,19 +20,17 @@ use Rattle.wiring.specs.declared.reply.Reply.{Reply}
 use Rattle.wiring.specs.declared.reply.Reply.the-variants.{Done, Setting, Length, Term, Twice, Nothing, Full, Spent, BadSet, NotQuadratic}
 use Rattle.wiring.specs.declared.terms.Fault.{Fault}
 use Rattle.wiring.specs.declared.terms.Fault.the-variants.{Clean, Wrong, Repeated}
-use Rattle.wiring.specs.Reply.{numbers}
 use Rattle.wiring.specs.Poly.{Poly, plain}
 use Rattle.wiring.specs.Quadratic.{Quadratic}
 use Rattle.wiring.specs.Terms.{records, lengthRight, fault, system}
 use Rattle.wiring.specs.Sets.{setOf, setRight}
-use Rattle.wiring.specs.Answers.{unlessFault, countRight, missing, firstUnmet, judged, recordJudged, verdict, checked}
-use Rattle.wiring.specs.Claims.{Measured, Breaks, Repeats, Flawless, Ranged, Lengths, beyond, WellFormed, signalsIn, derivativeIn, CheckSays, FirstUnlinked, RightRecord}
-use Rattle.wiring.proofs.reply.Laws.{same-reply}
+use Rattle.wiring.specs.Answers.{unlessFault, countRight, missing, firstUnmet, judged, recordJudged, verdict}
+use Rattle.wiring.specs.Claims.{Measured, Breaks, Repeats, Flawless, Ranged, Lengths, beyond, WellFormed, signalsIn, derivativeIn, VerdictSays, FirstUnlinked, RightRecord}
 use Rattle.wiring.proofs.terms.Exact.{length-exact, wrong-exact, repeated-exact, clean-exact}
 use Rattle.wiring.proofs.sets.Exact.{right-iff}
 use Rattle.wiring.proofs.quadratic.Definition1.{definition1, first-unlinked, first-unlinked-one, first-unlinked-raised}
 use Rattle.wiring.proofs.signals.Laws.{signals-length}
-use Rattle.wiring.proofs.answers.Laws.{judged-not, said-setting, said-terms-length, said-set-length, said-rest, record-bad, record-right, is-verdict}
+use Rattle.wiring.proofs.answers.Laws.{judged-not, said-setting, said-terms-length, said-set-length, said-rest, record-bad, record-right}
 
 -- ---- the facts
 pub count-in : (n : ℕ) → Ranged n → countRight n ≡ true
@@ -43,7 +41,7 @@ pub count-out : (n : ℕ) → T (countRight n) → Ranged n
 unfolding countRight
 count-out n t = (leb→le 1 n (and-l (leb 1 n) (leb n width) t), leb→le n width (and-r (leb 1 n) (leb n width) t))
 
--- ---- what each reply of checking says
+-- ---- what each verdict says
 module _ (n : ℕ) (terms set : List ℕ) where
   abbrev fs : List (Poly Mono)
   fs = system (records terms)
@@ -93,6 +91,14 @@ module _ (n : ℕ) (terms set : List ℕ) where
           let meets : Meets = none-meets (some-none (missing n fs s) (is→nT (some (missing n fs s)) e)) in
           absurd (f .unlinked (meets (getD (signalsIn n set) p []) (at-in (signalsIn n set) p [] (f .below))))
 
+  -- a set is quadratic, or has a first signal whose derivative is not met
+  pub met-or-not : Meets ⊎ ((p : ℕ) × First p)
+  met-or-not = go (test (some (missing n fs s)))
+    where
+      go : Tested (some (missing n fs s)) → Meets ⊎ ((p : ℕ) × First p)
+      go (passed e) = inr (firstUnmet n fs s, first-unmet (is→T (some (missing n fs s)) e))
+      go (failed e) = inl (none-meets (some-none (missing n fs s) (is→nT (some (missing n fs s)) e)))
+
   unlinked-not : (p : ℕ) → First p → judged n fs s ≡ NotQuadratic (length s) p
   unlinked-not p f =
       let one : p ≡ firstUnmet n fs s =
@@ -110,7 +116,7 @@ module _ (n : ℕ) (terms set : List ℕ) where
       go (failed e) = said-terms-length n terms set (count-in n r) e
       go (passed e) = said-set-length n terms set (count-in n r) e f
 
-  said : (r : Reply) → CheckSays n terms set r → verdict n terms set ≡ r
+  said : (r : Reply) → VerdictSays n terms set r → verdict n terms set ≡ r
   said Setting h = said-setting n terms set (nT→is (countRight n) (λ t. h (count-out n t)))
   said Length h = ⊎-elim (unmeasured (h .0)) (misfit (h .0)) (h .1)
   said (Term p) h = said-fault (h .0) (h .1) (Wrong p) (wrong-exact n (records terms) beyond p .1 (h .2))
@@ -126,20 +132,12 @@ module _ (n : ℕ) (terms set : List ℕ) where
   -- ---- and one of them holds
   record Told : Type 0 where
     reply : Reply
-    holds : CheckSays n terms set reply
+    holds : VerdictSays n terms set reply
 
   told-set : WellFormed n terms set → Told
-  told-set w = go (test (some (missing n fs s)))
-    where
-      go : Tested (some (missing n fs s)) → Told
-      go (passed e) = record {
-        reply = NotQuadratic (length s) (firstUnmet n fs s);
-        holds = (w, refl, first-unmet (is→T (some (missing n fs s)) e));
-      }
-      go (failed e) = record {
-        reply = Done (length s) 0 0;
-        holds = (w, refl, refl, refl, none-meets (some-none (missing n fs s) (is→nT (some (missing n fs s)) e)));
-      }
+  told-set w =
+      ⊎-elim (λ q. record { reply = Done (length s) 0 0; holds = (w, refl, refl, refl, q) }) (λ f. record { reply = NotQuadratic (length s) (f .0); holds = (w, refl, f .1) })
+      met-or-not
 
   told-fault : Ranged n → Lengths terms set → (f : Fault) → fault n (records terms) ≡ f → Told
   told-fault r l (Wrong p) e = record { reply = Term p; holds = (r, l, wrong-exact n (records terms) beyond p .0 e) }
@@ -170,11 +168,11 @@ module _ (n : ℕ) (terms set : List ℕ) where
       go (failed e) = record { reply = Setting; holds = λ r. is→nT (countRight n) e (is→T (countRight n) (count-in n r)) }
 
   -- ---- what is said holds: one of the seven cases, since the other three hold of nothing
-  pub verdict-says : CheckSays n terms set (verdict n terms set)
-  verdict-says = subst (CheckSays n terms set) (sym (said (told .reply) (told .holds))) (told .holds)
+  pub verdict-says : VerdictSays n terms set (verdict n terms set)
+  verdict-says = subst (VerdictSays n terms set) (sym (said (told .reply) (told .holds))) (told .holds)
 
-  pub verdict-exact : (r : Reply) → (verdict n terms set ≡ r) ↔ CheckSays n terms set r
-  verdict-exact r = ((λ e. subst (CheckSays n terms set) e verdict-says), said r)
+  pub verdict-exact : (r : Reply) → (verdict n terms set ≡ r) ↔ VerdictSays n terms set r
+  verdict-exact r = ((λ e. subst (VerdictSays n terms set) e verdict-says), said r)
 
   -- ---- the seven, one by one
   pub says-setting : (verdict n terms set ≡ Setting) ↔ ((1 ≤ n) × (n ≤ width) → ⊥)
@@ -207,11 +205,3 @@ module _ (n : ℕ) (terms set : List ℕ) where
       let m = h .0 .ranged .1 in
       let l = signals-length n (setOf set) m in
       (first-unlinked-raised width n fs s p (h .2), omega (arith, h .2 .below))
-
-  -- ---- the contract of `check`: a reply keeps it exactly where what it says holds, and there is one such reply
-  pub check-exact : (r : Reply) → (numbers r ≡ checked n terms set) ↔ CheckSays n terms set r
-  unfolding checked
-  check-exact r = ((λ e. verdict-exact r .0 (is-verdict n terms set r e)), (λ h. ap numbers (sym (said r h))))
-
-  pub check-determined : (r r' : Reply) → numbers r ≡ checked n terms set → numbers r' ≡ checked n terms set → r ≡ r'
-  check-determined r r' e e' = same-reply r r' (e ∙ sym e')

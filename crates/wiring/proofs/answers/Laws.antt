@@ -1,37 +1,37 @@
--- Checking and wiring, step by step: what each test of the code says of the reply. Assumes nothing.
+-- Wiring, step by step: what each test of the code says of the reply. Assumes nothing.
 use mathlib.Core.Path.{_≡_, refl, sym, ap, ap₂, _∙_, subst}
+use mathlib.Core.Logic.{_⊎_, inl, inr, ⊎-elim}
 use mathlib.Core.Bool.{Bool, true, false, not, _&&_}
 use mathlib.Core.List.{List, [], _++_, List·Memᴰ·not-nil}
 use Prim.Native.Nat.{ℕ, _*_, _-_, _<_, _≤_}
 use native.Mathlib.Omega.{arith}
-use borrow.Author.Tests.{eq-eqb, ne-eqb, eqb-true, eqb-false, le-leb, lt-leb}
-use lib.Dec.{T, eqb, leb, leb→le, eqb→eq}
-use lib.ListN.{length, getD, replicate}
+use borrow.Author.Tests.{eq-eqb, ne-eqb, le-leb, lt-leb}
+use lib.Dec.{T, leb, leb→le}
+use lib.ListN.{length, replicate}
 use Rattle.monomial.specs.Lists.{any, some, place, gather}
 use Rattle.monomial.specs.Monomial.{Mono, width}
 use Rattle.monomial.specs.Claims.{_∈_}
-use Rattle.monomial.proofs.Tests.{and-l, and-r, T→is, nT→is, is→T, is→nT, Tested, passed, failed, test}
+use Rattle.monomial.proofs.Tests.{and-r, T→is, nT→is, is→T, is→nT, Tested, passed, failed, test}
 use Rattle.monomial.proofs.Counting.{place-lt, place-any}
-use Rattle.monomial.proofs.Members.{some-none}
 use Rattle.monomial.proofs.order.Laws.{mono-order}
 use Rattle.wiring.specs.Panel.{setBytes, setExponent, wireBytes}
 use Rattle.wiring.specs.declared.answers.Given.{Given}
 use Rattle.wiring.specs.declared.reply.Reply.{Reply}
 use Rattle.wiring.specs.declared.reply.Reply.the-variants.{Done, Setting, Length, Full, BadSet, NotQuadratic}
 use Rattle.wiring.specs.declared.terms.Fault.{Fault}
-use Rattle.wiring.specs.declared.terms.Fault.the-variants.{Clean, Wrong, Repeated}
-use Rattle.wiring.specs.Reply.{numbers, inOrder, outcome, refused}
+use Rattle.wiring.specs.declared.terms.Fault.the-variants.{Clean}
+use Rattle.wiring.specs.Reply.{Numbers, numbers, Outcome, outcome, refused}
 use Rattle.wiring.specs.Poly.{Poly, plain}
 use Rattle.wiring.specs.Derivative.{derivative}
 use Rattle.wiring.specs.Quadratic.{inV2, unmet}
-use Rattle.wiring.specs.declared.sets.SetRead.{SetRead}
+use Rattle.wiring.specs.declared.sets.Set.{Set}
 use Rattle.wiring.specs.Signals.{signals, Fitting}
 use Rattle.wiring.specs.Terms.{records, lengthRight, fault, system}
-use Rattle.wiring.specs.Sets.{setOf, setRight, monomialsOf, SetReads}
+use Rattle.wiring.specs.Sets.{setOf, setRight, monomialsOf}
 use Rattle.wiring.specs.Wires.{Wire, wireRecord, Sheet, Met}
-use Rattle.wiring.specs.Answers.{unless, unlessFault, countRight, missing, firstUnmet, judged, recordJudged, verdict, checked, listed, wires, wired, Listable, Gives}
+use Rattle.wiring.specs.Answers.{unlessFault, countRight, missing, firstUnmet, judged, recordJudged, verdict, listed, told, wires, wired, Reads, Takes, Gives}
 use Rattle.wiring.proofs.quadratic.Laws.{some-nonsquares, unmet-in, nonsquares-in}
-use Rattle.wiring.proofs.reply.Laws.{same-reply, IsDone, code-done}
+use Rattle.wiring.proofs.reply.Laws.{same-reply}
 use Rattle.wiring.proofs.sets.Laws.{right-fits}
 use Rattle.wiring.proofs.terms.Laws.{clean-widens}
 
@@ -64,32 +64,6 @@ module _ (n : ℕ) (fs : List (Poly Mono)) (s : List Mono) where
   pub judged-done : (at : ℕ) → at ≡ firstUnmet n fs s → length (signals width n s) ≤ at → Done (length s) 0 0 ≡ judged n fs s
   unfolding judged
   judged-done at e h = rw (first-none at e h)
-
-  -- a reply of done says that there is no nonsquare
-  pub done-none : {o c k : ℕ} → judged n fs s ≡ Done o c k → missing n fs s ≡ []
-  unfolding judged
-  done-none {o} {c} {k} e = some-none (missing n fs s) (λ t. clash (rw (T→is (some (missing n fs s)) t) at e))
-    where
-      clash : NotQuadratic (length s) (firstUnmet n fs s) ≡ Done o c k → ⊥
-      clash q = let z : _≡_ {A = ℕ} 0 1 = cc in omega arith
-
-  pub done-size : {o c k : ℕ} → judged n fs s ≡ Done o c k → o ≡ length s
-  unfolding judged
-  done-size {o} {c} {k} e = go (test (some (missing n fs s)))
-    where
-      go : Tested (some (missing n fs s)) → o ≡ length s
-      go (passed p) = let q : NotQuadratic (length s) (firstUnmet n fs s) ≡ Done o c k = rw p at e in let z : _≡_ {A = ℕ} 0 1 = cc in let y : ⊥ = omega arith in absurd y
-      go (failed p) = let q : Done (length s) 0 0 ≡ Done o c k = rw p at e in cc
-
-  -- the code of the reply is 0 exactly where there is no nonsquare
-  pub judged-code : eqb (numbers (judged n fs s) .code) 0 ≡ not (some (missing n fs s))
-  unfolding judged
-  judged-code = go (test (some (missing n fs s)))
-    where
-      go : Tested (some (missing n fs s)) → eqb (numbers (unless (not (some (missing n fs s))) (NotQuadratic (length s) (firstUnmet n fs s)) (Done (length s) 0 0)) .code) 0
-          ≡ not (some (missing n fs s))
-      go (passed e) = rw e
-      go (failed e) = rw e
 
   -- every monomial of every derivative is then in V2
   pub none-met : missing n fs s ≡ [] → Met plain (signals width n s) (derivative plain fs)
@@ -136,50 +110,7 @@ module _ (n : ℕ) (terms set : List ℕ) where
   unfolding recordJudged
   record-right e = rw e
 
-  -- ---- what a reply of done says
-  pub record Readable : Type 0 where
-    pub count : T (countRight n)
-    pub measured : T (lengthRight terms)
-    pub long : length set ≡ setBytes
-    pub clean : fault n (records terms) ≡ Clean
-    pub right : T (setRight n set)
-    pub none : missing n fs (setOf set) ≡ []
-
-  accepted-set : (o c k : ℕ) → recordJudged n fs set ≡ Done o c k → T (setRight n set) × (judged n fs (setOf set) ≡ Done o c k)
-  accepted-set o c k e = go (test (setRight n set))
-    where
-      go : Tested (setRight n set) → T (setRight n set) × (judged n fs (setOf set) ≡ Done o c k)
-      go (passed p) = (is→T (setRight n set) p, sym (record-right p) ∙ e)
-      go (failed p) = let q : BadSet ≡ Done o c k = sym (record-bad p) ∙ e in let z : _≡_ {A = ℕ} 0 1 = cc in let y : ⊥ = omega arith in absurd y
-
-  accepted-fault : (o c k : ℕ) (f : Fault) (r : Reply) → unlessFault (λ x. x) f r ≡ Done o c k → (f ≡ Clean) × (r ≡ Done o c k)
-  accepted-fault o c k Clean r e = (refl, e)
-  accepted-fault o c k (Wrong p) r e = let z : _≡_ {A = ℕ} 0 1 = cc in let y : ⊥ = omega arith in absurd y
-  accepted-fault o c k (Repeated p) r e = let z : _≡_ {A = ℕ} 0 1 = cc in let y : ⊥ = omega arith in absurd y
-
-  unless-done : (b : Bool) (r rest : Reply) (o c k : ℕ) → (r ≡ Done o c k → ⊥) → unless b r rest ≡ Done o c k → T b × (rest ≡ Done o c k)
-  unless-done true r rest o c k n e = (tt, e)
-  unless-done false r rest o c k n e = absurd (n e)
-
-  pub accepted : (o c k : ℕ) → verdict n terms set ≡ Done o c k → Readable × (o ≡ length (setOf set))
-  unfolding verdict
-  accepted o c k e =
-      let a = unless-done (countRight n) Setting _ o c k (λ q. let z : _≡_ {A = ℕ} 0 1 = cc in omega arith) e in
-      let b = unless-done (lengthRight terms && eqb (length set) setBytes) Length _ o c k (λ q. let z : _≡_ {A = ℕ} 0 1 = cc in omega arith) (a .1) in
-      let f = accepted-fault o c k (fault n (records terms)) (recordJudged n fs set) (b .1) in
-      let s = accepted-set o c k (f .1) in (
-        record {
-          count = a .0;
-          measured = and-l (lengthRight terms) (eqb (length set) setBytes) (b .0);
-          long = eqb→eq (length set) setBytes (and-r (lengthRight terms) (eqb (length set) setBytes) (b .0));
-          clean = f .0;
-          right = s .0;
-          none = done-none n fs (setOf set) (s .1);
-        },
-        done-size n fs (setOf set) (s .1),
-      )
-
--- ---- wiring
+-- ---- a verdict with a list
 pub listed-done : (order : ℕ) (list : List Wire) (at size : ℕ) (out : List ℕ) → Sheet list at out → length out ≡ size → outcome (Done order at 0) out ≡ listed order list size
 unfolding listed
 listed-done order list at size out s e =
@@ -193,62 +124,120 @@ pub listed-full : (order : ℕ) (list : List Wire) (size : ℕ) (out zeros : Lis
 unfolding listed
 listed-full order list size out zeros h e z = rw (lt-leb (wireBytes * length list) size (omega arith), z)
 
+pub told-refused : (r : Reply) (list : List Wire) (size : ℕ) → (numbers r .code ≡ 0 → ⊥) → told r list size ≡ refused r size
+unfolding told
+told-refused r list size k = rw (ne-eqb (numbers r .code) 0 k)
+
+pub told-listed : (o c k : ℕ) (list : List Wire) (size : ℕ) → told (Done o c k) list size ≡ listed o list size
+unfolding told
+told-listed o c k list size = refl
+
+-- ---- the pass over the left variables, and the verdict on the set
+module _ (n : ℕ) (fs : List (Poly Mono)) (s : List Mono) (size : ℕ) where
+  abbrev list : List Wire
+  list = wires n fs s
+
+  -- the first left variable that is not met
+  pub told-unmet : (at : ℕ) (zeros : List ℕ) → at ≡ firstUnmet n fs s → at < length (signals width n s) → zeros ≡ replicate size 0
+      → outcome (NotQuadratic (length s) at) zeros ≡ told (judged n fs s) list size
+  told-unmet at zeros e h z =
+      ap (outcome (NotQuadratic (length s) at)) z
+      ∙ sym (told-refused (NotQuadratic (length s) at) list size (λ q. omega arith))
+      ∙ ap (λ (r : Reply). told r list size) (judged-not n fs s at e h)
+
+  -- all are met
+  pub told-met : firstUnmet n fs s ≡ length (signals width n s) → listed (length s) list size ≡ told (judged n fs s) list size
+  told-met e =
+      sym (told-listed (length s) 0 0 list size) ∙ ap (λ (r : Reply). told r list size) (judged-done n fs s (firstUnmet n fs s) refl (omega arith))
+
+-- a reply with a list tells the verdict: not quadratic exactly where there is a nonsquare
+listed-code : (order : ℕ) (l : List Wire) (size : ℕ) → (listed order l size .said .code ≡ 0) ⊎ (listed order l size .said .code ≡ 6)
+unfolding listed
+listed-code order l size = go (test (leb (wireBytes * length l) size))
+  where
+    go : Tested (leb (wireBytes * length l) size) → (listed order l size .said .code ≡ 0) ⊎ (listed order l size .said .code ≡ 6)
+    go (passed e) = inl (rw e)
+    go (failed e) = inr (rw e)
+
+module _ (n : ℕ) (fs : List (Poly Mono)) (s : List Mono) (size : ℕ) (r : Reply) (e : numbers r ≡ told (judged n fs s) (wires n fs s) size .said) where
+  abbrev first : ℕ
+  first = firstUnmet n fs s
+
+  missing-said : some (missing n fs s) ≡ true → r ≡ NotQuadratic (length s) first
+  unfolding judged
+  missing-said t =
+      same-reply r (NotQuadratic (length s) first)
+      (e ∙ rw t (ap (λ (o : Outcome). o .said) (told-refused (NotQuadratic (length s) first) (wires n fs s) size (λ z. omega arith))))
+
+  none-said : some (missing n fs s) ≡ false → (o p : ℕ) → r ≡ NotQuadratic o p → ⊥
+  unfolding judged
+  none-said t o p q =
+      let code : numbers r .code ≡ 9 = ap (λ (x : Reply). numbers x .code) q in
+      let same : numbers r ≡ listed (length s) (wires n fs s) size .said = e ∙ rw t (ap (λ (x : Outcome). x .said) (told-listed (length s) 0 0 (wires n fs s) size)) in
+      let codes : numbers r .code ≡ listed (length s) (wires n fs s) size .said .code = ap (λ (x : Numbers). x .code) same in
+      ⊎-elim (λ z. omega arith) (λ z. omega arith) (listed-code (length s) (wires n fs s) size)
+
+  pub says-missing : (o p : ℕ) → r ≡ NotQuadratic o p → (some (missing n fs s) ≡ true) × (r ≡ judged n fs s)
+  unfolding judged
+  says-missing o p q = go (test (some (missing n fs s)))
+    where
+      go : Tested (some (missing n fs s)) → (some (missing n fs s) ≡ true) × (r ≡ judged n fs s)
+      go (passed t) = (t, rw t (missing-said t))
+      go (failed t) = absurd (none-said t o p q)
+
+  pub says-none : ((o p : ℕ) → r ≡ NotQuadratic o p → ⊥) → (some (missing n fs s) ≡ false) × (Done (length s) 0 0 ≡ judged n fs s)
+  unfolding judged
+  says-none f = go (test (some (missing n fs s)))
+    where
+      go : Tested (some (missing n fs s)) → (some (missing n fs s) ≡ false) × (Done (length s) 0 0 ≡ judged n fs s)
+      go (passed t) = absurd (f (length s) first (missing-said t))
+      go (failed t) = (t, rw t)
+
+-- ---- wiring
 module _ (n : ℕ) (terms set : List ℕ) (size : ℕ) where
   pub wired-refused : (r : Reply) → verdict n terms set ≡ r → (numbers r .code ≡ 0 → ⊥) → wired n terms set size ≡ refused r size
   unfolding wired
-  wired-refused r e k = rw (e, ne-eqb (numbers r .code) 0 k)
+  wired-refused r e k = rw e (told-refused r (wires n (system (records terms)) (setOf set)) size k)
 
-  pub wired-listed : (o c k : ℕ) → verdict n terms set ≡ Done o c k
-      → wired n terms set size ≡ listed (length (setOf set)) (wires n (system (records terms)) (setOf set)) size
+  pub wired-listed : (o c k : ℕ) → verdict n terms set ≡ Done o c k → wired n terms set size ≡ listed o (wires n (system (records terms)) (setOf set)) size
   unfolding wired
-  wired-listed o c k e = rw e
+  wired-listed o c k e = rw e (told-listed o c k (wires n (system (records terms)) (setOf set)) size)
 
--- ---- what `wire` does with the reply of `check`
--- the reply of `check` is the verdict
-pub is-verdict : (n : ℕ) (terms set : List ℕ) (r : Reply) → numbers r ≡ checked n terms set → verdict n terms set ≡ r
-unfolding checked
-is-verdict n terms set r e = sym (same-reply r (verdict n terms set) e)
-
--- its code, read off the array
-pub code-is : (five : List ℕ) (r : Reply) → five ≡ inOrder (numbers r) → getD five 0 0 ≡ numbers r .code
-code-is five r e = ap (λ (l : List ℕ). getD l 0 0) e
-
--- where its code is 0, everything is accepted
-pub done-accepted : (n : ℕ) (terms set : List ℕ) (r : Reply) → numbers r ≡ checked n terms set → numbers r .code ≡ 0 → Readable n terms set
-done-accepted n terms set r e k =
-    let d : IsDone r = code-done r k in
-    accepted n terms set (d .order) (d .count) (d .steps) (is-verdict n terms set r e ∙ d .is) .0
-
--- the set that was read is that of the record, and a list can be made of it
-module _ (n : ℕ) (terms bytes : List ℕ) (r : SetRead) (a : Readable n terms bytes) (s : SetReads n bytes r) where
-  pub read-held : monomialsOf (r .set) ≡ setOf bytes
-  read-held = s .holds (s .right ∙ T→is (setRight n bytes) (a .right))
-
-  pub read-lists : Listable n terms (r .set)
-  read-lists = record {
-    judgeable = record {
-      few = count-few n count;
-      clean = clean-widens n (records terms) (count-few n count) (a .clean);
-      small = s .fits;
-      fits = subst (Fitting setExponent) (sym read-held) (right-fits n bytes (a .long) (a .right));
-    };
-    met = subst (λ (m : List Mono). Met plain (signals width n m) (derivative plain (system (records terms)))) (sym read-held) (none-met n (system (records terms)) (setOf bytes) (a .none));
+-- ---- what was given, as the code reads it
+module _ (n : ℕ) (terms bytes : List ℕ) (g : Given) where
+  -- a refusal
+  pub given-refused : (r : Reply) → verdict n terms bytes ≡ r → (numbers r .code ≡ 0 → ⊥) → (g .good ≡ false) × (g .said ≡ r) → Gives n terms bytes g
+  given-refused r e k h = record {
+    taken = λ t. absurd (is→nT (g .good) (h .0) (is→T (g .good) t));
+    refused = λ t. record { says = e ∙ sym (h .1); code = λ z. k (ap (λ (q : Reply). numbers q .code) (sym (h .1)) ∙ z) };
   }
-    where
-      count : countRight n ≡ true
-      count = T→is (countRight n) (a .count)
 
--- ---- what lists something of the set that was given
-module _ (n : ℕ) (terms bytes : List ℕ) (g : Given) (gives : Gives n terms bytes g) where
-  -- it was refused
-  pub given-refused : g .good ≡ false → (verdict n terms bytes ≡ g .said) × (numbers (g .said) .code ≡ 0 → ⊥)
-  given-refused e = (gives .said, eqb-false (numbers (g .said) .code) 0 (sym (gives .good) ∙ e))
+  -- the record, once the rest is in order
+  pub given-read : countRight n ≡ true → length bytes ≡ setBytes → fault n (records terms) ≡ Clean → verdict n terms bytes ≡ recordJudged n (system (records terms)) bytes
+      → Reads n bytes g → Gives n terms bytes g
+  given-read count long clean e r = record {
+    taken = λ t.
+        let right : setRight n bytes ≡ true = sym (r .right) ∙ t in
+        record {
+          says = e ∙ record-right n terms bytes right;
+          holds = r .holds t;
+          judgeable = record {
+            few = count-few n count;
+            clean = clean-widens n (records terms) (count-few n count) clean;
+            small = r .small;
+            fits = subst (Fitting setExponent) (sym (r .holds t)) (right-fits n bytes long (is→T (setRight n bytes) right));
+          };
+        };
+    refused = λ t. record {
+      says = e ∙ record-bad n terms bytes (sym (r .right) ∙ t) ∙ sym (r .said);
+      code = λ z. let q : _≡_ {A = ℕ} 8 0 = ap (λ (w : Reply). numbers w .code) (sym (r .said)) ∙ z in omega arith;
+    };
+  }
 
-  -- it was not
-  pub given-done : g .good ≡ true → IsDone (verdict n terms bytes)
-  given-done e = let d = code-done (g .said) (eqb-true (numbers (g .said) .code) 0 (sym (gives .good) ∙ e)) in record { order = d .order; count = d .count; steps = d .steps; is = gives .said ∙ d .is }
-
--- the list of the set that was read is the list of the set that was given
-pub listed-as : (n : ℕ) (terms bytes : List ℕ) (size size' : ℕ) (set : List Mono) → set ≡ setOf bytes → size' ≡ size
-    → listed (length set) (wires n (system (records terms)) set) size' ≡ listed (length (setOf bytes)) (wires n (system (records terms)) (setOf bytes)) size
-listed-as n terms bytes size size' set held e = ap₂ (λ (m : List Mono) (k : ℕ). listed (length m) (wires n (system (records terms)) m) k) held e
+-- the set that was read is the set that was given, and the verdict is about it
+pub wired-given : (n : ℕ) (terms bytes : List ℕ) (size size' : ℕ) (set : Set) → Takes n terms bytes set → size' ≡ size
+    → told (judged n (system (records terms)) (monomialsOf set)) (wires n (system (records terms)) (monomialsOf set)) size' ≡ wired n terms bytes size
+unfolding wired
+wired-given n terms bytes size size' set t e =
+    ap₂ (λ (m : List Mono) (k : ℕ). told (judged n (system (records terms)) m) (wires n (system (records terms)) m) k) (t .holds) e
+    ∙ ap (λ (r : Reply). told r (wires n (system (records terms)) (setOf bytes)) size) (sym (t .says))

@@ -1,5 +1,7 @@
--- A quadratic set that can stand in a record: its record is accepted by checking, and wired into a buffer that is large enough. Assumes nothing.
+-- A quadratic set that can stand in a record: its record is called quadratic whatever the buffer, and wired into one that is large enough.
+-- Assumes nothing.
 use mathlib.Core.Path.{_≡_, refl, sym, ap, _∙_, subst}
+use mathlib.Core.Logic.{_⊎_}
 use mathlib.Core.List.{List, _++_}
 use Prim.Native.Nat.{ℕ, _*_, _-_, _≤_}
 use native.Mathlib.Omega.{arith}
@@ -13,12 +15,12 @@ use Rattle.wiring.specs.Signals.{signals}
 use Rattle.wiring.specs.Terms.{records}
 use Rattle.wiring.specs.Sets.{setOf, setRecord}
 use Rattle.wiring.specs.Wires.{wireList}
-use Rattle.wiring.specs.Answers.{checked, wired}
+use Rattle.wiring.specs.Answers.{wired}
 use Rattle.wiring.specs.declared.reply.Reply.{Reply}
 use Rattle.wiring.specs.declared.reply.Reply.the-variants.{Done}
 use Rattle.wiring.specs.Claims.{Measured, Flawless, beyond, Ranged, Recordable, WellFormed, signalsIn, derivativeIn, listIn}
 use Rattle.wiring.proofs.sets.Exact.{record-length, record-set, record-right, right-iff}
-use Rattle.wiring.proofs.answers.Exact.{check-exact}
+use Rattle.wiring.proofs.answers.Alone.{wire-verdict}
 use Rattle.wiring.proofs.answers.Wired.{list-most, wire-exact, wire-enough}
 
 module _ (n : ℕ) (terms : List ℕ) (ranged : Ranged n) (measured : Measured terms) (flawless : Flawless n (records terms) beyond) where
@@ -37,9 +39,11 @@ module _ (n : ℕ) (terms : List ℕ) (ranged : Ranged n) (measured : Measured t
     recorded-size : length (setOf (setRecord s)) ≡ length s
     recorded-size = ap length (record-set n s r)
 
-    pub recorded-checks : numbers (Done (length s) 0 0) ≡ checked n terms (setRecord s)
-    recorded-checks =
-        check-exact n terms (setRecord s) (Done (length s) 0 0) .1 (recorded-formed, sym recorded-size, refl, refl, recorded-quadratic)
+    -- whatever the buffer, it is called quadratic: done or full
+    pub recorded-judged : (size : ℕ) (reply : Reply) (bytes : List ℕ) → outcome reply bytes ≡ wired n terms (setRecord s) size
+        → (numbers reply .code ≡ 0) ⊎ (numbers reply .code ≡ 6)
+    recorded-judged size reply bytes e =
+        wire-verdict n terms (setRecord s) size reply bytes e .quadratic .1 (record { formed = recorded-formed; quadratic = recorded-quadratic })
 
     module _ (room : ℕ) (enough : wiresBytes ≤ room) where
       -- the list, then zeros

@@ -25,7 +25,7 @@ use Rattle.wiring.specs.Terms.{records, system}
 use Rattle.wiring.specs.Sets.{setOf}
 use Rattle.wiring.specs.Wires.{Wire, wireRecord, wireList}
 use Rattle.wiring.specs.Answers.{verdict, listed, wired}
-use Rattle.wiring.specs.Claims.{WellFormed, signalsIn, derivativeIn, CheckSays, Wired, joined, Correct, Decodes, listIn, WireSays, wireLeaves, Patch}
+use Rattle.wiring.specs.Claims.{WellFormed, signalsIn, derivativeIn, VerdictSays, Wired, joined, Correct, Decodes, listIn, WireSays, wireLeaves, Patch}
 use Rattle.wiring.proofs.reply.Laws.{same-reply, code-done}
 use Rattle.wiring.proofs.quadratic.Definition1.{definition1}
 use Rattle.wiring.proofs.signals.Laws.{signals-length}
@@ -45,7 +45,7 @@ module _ (n : ℕ) (terms set : List ℕ) (size : ℕ) where
   list = listIn n terms set
 
   -- ---- what holds is said
-  refuses : (r : Reply) → CheckSays n terms set r → (numbers r .code ≡ 0 → ⊥) → outcome r (replicate size 0) ≡ wired n terms set size
+  refuses : (r : Reply) → VerdictSays n terms set r → (numbers r .code ≡ 0 → ⊥) → outcome r (replicate size 0) ≡ wired n terms set size
   refuses r h f = sym (wired-refused n terms set size r (verdict-exact n terms set r .1 h) f)
 
   module _ (w : WellFormed n terms set) (q : Quadratic plain (signalsIn n set) (derivativeIn terms)) where
@@ -84,7 +84,7 @@ module _ (n : ℕ) (terms set : List ℕ) (size : ℕ) where
       go (passed e) = record { reply = Done (length (setOf set)) (length list) 0; holds = (w, q, refl, refl, refl, leb-true (wireBytes * length list) size e) }
       go (failed e) = record { reply = Full (length (setOf set)) 0; holds = (w, q, refl, refl, leb-false (wireBytes * length list) size e) }
 
-  told-by : (r : Reply) → CheckSays n terms set r → Told
+  told-by : (r : Reply) → VerdictSays n terms set r → Told
   told-by (Done o c k) h = told-list (h .0) (h .4)
   told-by Setting h = record { reply = Setting; holds = h }
   told-by Length h = record { reply = Length; holds = h }

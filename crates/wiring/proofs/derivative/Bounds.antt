@@ -201,6 +201,11 @@ module _ (bytes : List ℕ) (clean : CleanTerms bytes) where
   pub total-fits : (z m : Mono) → length z ≡ width → AtMost setExponent z → natAbs (coeff plain (derivative plain (system (records bytes)) z) m) < 2147483648
   total-fits z m lz a = let h = clean-total setExponent z m lz a in omega arith
 
+  -- so a machine number that is the total holds it
+  pub total-held : (z m : Mono) → length z ≡ width → AtMost setExponent z → (x : ℤ) → x ≡ coeff plain (derivative plain (system (records bytes)) z) m
+      → toZ w32 (ofZ w32 x) ≡ coeff plain (derivative plain (system (records bytes)) z) m
+  total-held z m lz a x e = toZ-ofZ w32 x (fits-32 x (rw e (total-fits z m lz a))) ∙ e
+
 -- ---- a loop that adds the records up in 32 bits, sum so far, and has come to record number t
 pub record Adding (bytes : List ℕ) (z m : Mono) (sum t : ℕ) : Type 0 where
   pub clean : CleanTerms bytes

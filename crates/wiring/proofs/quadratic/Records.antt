@@ -1,9 +1,9 @@
--- What a loop over the term records meets of a derivative's monomials: those with a coefficient that pass a test, each through a record.
--- The test "not in V2" gives the nonsquares, the test "behind the last one" the rest of a row of wiring. Assumes nothing.
+-- What a loop over the term records meets of a derivative's monomials: those that pass a test, each through a record, with a coefficient or
+-- whatever it is. The test "not in V2" gives the nonsquares, the test "behind the last one" the next monomial of a row. Assumes nothing.
 use mathlib.Core.Path.{_≡_, refl, sym, ap, _∙_, subst}
 use mathlib.Core.Logic.{⊎-elim}
 use mathlib.Core.Bool.{Bool, true, false, not, _&&_}
-use mathlib.Core.List.{List, [], _∷_, _++_, map, append-nil, append-assoc, List·Memᴰ·head, List·Memᴰ·cases-cons, List·Memᴰ·not-nil, List·Memᴰ·append-cases, Memᴰ·append-left, Memᴰ·append-right, Memᴰ·cast, Memᴰ·map, Memᴰ·of-map}
+use mathlib.Core.List.{List, [], _∷_, _++_, map, map-append, append-nil, append-assoc, List·Memᴰ·head, List·Memᴰ·cases-cons, List·Memᴰ·not-nil, List·Memᴰ·append-cases, Memᴰ·append-left, Memᴰ·append-right, Memᴰ·cast, Memᴰ·map, Memᴰ·of-map}
 use Prim.Native.Nat.{ℕ, _+_, _/_, _<_, _≤_}
 use native.Mathlib.Omega.{arith}
 use native.Mathlib.Numerals.{add-one}
@@ -15,19 +15,18 @@ use lib.Seq.{take-suc, take-all}
 use Rattle.monomial.specs.Lists.{any, some, keep, gather}
 use Rattle.monomial.specs.Monomial.{Mono}
 use Rattle.monomial.specs.Order.{same, before}
-use Rattle.monomial.specs.Claims.{_∈_, _⊆_, Order}
+use Rattle.monomial.specs.Claims.{_∈_, _⊆_, Ascending, Order}
 use Rattle.monomial.proofs.Tests.{and-l, and-r, and-i, T→is, nT→is, is→T, is→nT, Tested, passed, failed, test}
-use Rattle.monomial.proofs.Members.{there, any-in, any-out, Passing, some-in, some-out, keep-in, keep-out, gather-in, gather-out, Gathered}
+use Rattle.monomial.proofs.Members.{there, any-in, any-out, Passing, some-in, some-out, keep-in, keep-out, keep-append, gather-in, gather-out, Gathered}
 use Rattle.monomial.proofs.order.Laws.{mono-order}
-use Rattle.monomial.proofs.order.Ascending.{keep-asc}
 use Rattle.wiring.specs.Panel.{termBytes}
 use Rattle.wiring.specs.Coefficient.{isZero}
 use Rattle.wiring.specs.Poly.{Poly, plain, coeff, support}
-use Rattle.wiring.specs.Derivative.{derivative, power, image, offers}
+use Rattle.wiring.specs.Derivative.{derivative, power, image, gives, offers}
 use Rattle.wiring.specs.Terms.{Record, recordAt, records, system}
 use Rattle.wiring.specs.declared.choice.Pick.{Pick}
 use Rattle.wiring.specs.Choice.{cheaper, Picked, Heads, BestOf, Best, Offered}
-use Rattle.wiring.proofs.Poly.{support-asc, support-in, support-out, zero-is}
+use Rattle.wiring.proofs.Poly.{support-in, support-out, zero-is}
 use Rattle.wiring.proofs.derivative.Records.{Derived, derived}
 use Rattle.wiring.proofs.choice.Laws.{best-members, cheap-order, picked, heads}
 use Rattle.wiring.specs.Quadratic.{products, inV2, unmet, nonsquares}
@@ -35,28 +34,45 @@ use Rattle.wiring.proofs.terms.Laws.{records-at}
 use Rattle.wiring.proofs.kinds.Plain.{plain-lawful}
 use Rattle.wiring.proofs.quadratic.Laws.{products-is, nonsquares-in, nonsquares-out}
 
--- ---- a record's turn, by the tests of the code: the power x, the monomial m, the test's word b, whether the total is zero
-module _ (f : Mono → Bool) (fs : List (Poly Mono)) (z : Mono) (r : Record) where
-  -- nothing is offered
-  none-offered : (q : Pick) → q .some ≡ false → offers f fs z r ≡ false → Offered (offers f fs z r) (image r z) q
-  none-offered q e o = record { told = e ∙ sym o; is = λ t. absurd (is→nT (q .some) e (is→T (q .some) t)) }
+-- ---- a record's turn, by the tests of the code: the power x, the monomial m, the test's word, whether the total is zero
+-- nothing is offered
+none-offered : {b : Bool} (m : Mono) (q : Pick) → q .some ≡ false → b ≡ false → Offered b m q
+none-offered m q e o = record { told = e ∙ sym o; is = λ t. absurd (is→nT (q .some) e (is→T (q .some) t)) }
 
+module _ (f : Mono → Bool) (z : Mono) (r : Record) where
+  pub given-low : (x : ℕ) (q : Pick) → x ≡ power r z → x < 1 → q .some ≡ false → Offered (gives f z r) (image r z) q
+  unfolding gives
+  given-low x q ex h e = none-offered (image r z) q e (rw (lt-leb 1 (power r z) (omega arith)))
+
+  module _ (x : ℕ) (m : Mono) (ex : x ≡ power r z) (h : 1 ≤ x) (em : m ≡ image r z) where
+    gives-as : (b : Bool) → f m ≡ b → gives f z r ≡ b
+    unfolding gives
+    gives-as b p = rw (le-leb 1 (power r z) (omega arith), ← em, p)
+
+    pub given-fails : (q : Pick) → f m ≡ false → q .some ≡ false → Offered (gives f z r) (image r z) q
+    given-fails q p e = none-offered (image r z) q e (gives-as false p)
+
+    pub given-here : (q : Pick) → f m ≡ true → q .some ≡ true → q .m .e ≡ m → Offered (gives f z r) (image r z) q
+    given-here q p e qm = record { told = e ∙ sym (gives-as true p); is = λ s. qm ∙ em }
+
+-- and with a coefficient
+module _ (f : Mono → Bool) (fs : List (Poly Mono)) (z : Mono) (r : Record) where
   pub offered-low : (x : ℕ) (q : Pick) → x ≡ power r z → x < 1 → q .some ≡ false → Offered (offers f fs z r) (image r z) q
-  unfolding offers
-  offered-low x q ex h e = none-offered q e (rw (lt-leb 1 (power r z) (omega arith)))
+  unfolding offers gives
+  offered-low x q ex h e = none-offered (image r z) q e (rw (lt-leb 1 (power r z) (omega arith)))
 
   module _ (x : ℕ) (m : Mono) (ex : x ≡ power r z) (h : 1 ≤ x) (em : m ≡ image r z) where
     pub offered-fails : (q : Pick) → f m ≡ false → q .some ≡ false → Offered (offers f fs z r) (image r z) q
     unfolding offers
-    offered-fails q p e = none-offered q e (rw (le-leb 1 (power r z) (omega arith), ← em, p))
+    offered-fails q p e = none-offered (image r z) q e (rw (gives-as f z r x m ex h em false p))
 
     pub offered-zero : (q : Pick) → f m ≡ true → isZero (coeff plain (derivative plain fs z) m) ≡ true → q .some ≡ false → Offered (offers f fs z r) (image r z) q
     unfolding offers
-    offered-zero q p t e = none-offered q e (rw (le-leb 1 (power r z) (omega arith), ← em, p, t))
+    offered-zero q p t e = none-offered (image r z) q e (rw (gives-as f z r x m ex h em true p, ← em, t))
 
     pub offered-here : (q : Pick) → f m ≡ true → isZero (coeff plain (derivative plain fs z) m) ≡ false → q .some ≡ true → q .m .e ≡ m → Offered (offers f fs z r) (image r z) q
     unfolding offers
-    offered-here q p t e qm = record { told = e ∙ sym (rw (le-leb 1 (power r z) (omega arith), ← em, p, t)); is = λ s. qm ∙ em }
+    offered-here q p t e qm = record { told = e ∙ sym (rw (gives-as f z r x m ex h em true p, ← em, t)); is = λ s. qm ∙ em }
 
 -- two tests that agree
 pub keep-alike : {A : Type 0} (f g : A → Bool) (l : List A) → ((x : A) → f x ≡ g x) → keep f l ≡ keep g l
@@ -73,14 +89,14 @@ module _ (f : Mono → Bool) (rs : List Record) (z : Mono) where
   total m = isZero (coeff plain (derivative plain (system rs) z) m)
 
   pub offers-in : (r : Record) → 0 < power r z → T (f (image r z)) → (T (total (image r z)) → ⊥) → T (offers f (system rs) z r)
-  unfolding offers
+  unfolding offers gives
   offers-in r h t n =
       and-i (leb 1 (power r z) && f (image r z)) (not (total (image r z)))
       (and-i (leb 1 (power r z)) (f (image r z)) (le→leb 1 (power r z) h) t) (not-T (total (image r z)) n)
 
   -- a record that offers gives one of them
   pub offered-in : (r : Record) → T (offers f (system rs) z r) → image r z ∈ passing
-  unfolding offers isZero
+  unfolding offers gives isZero
   offered-in r t =
       let m = image r z in
       let front : T (leb 1 (power r z) && f m) = and-l (leb 1 (power r z) && f m) (not (total m)) t in
@@ -117,41 +133,50 @@ module _ (f : Mono → Bool) (rs : List Record) (z : Mono) where
           let o : Offering (x .0) = offered-out (x .0) (x .1) in
           is→nT (any (offers f (system rs) z) rs) e (any-in (offers f (system rs) z) (o .listed) (o .offered))))
 
-  -- ---- a loop that keeps the best of what the records offer
-  abbrev images : List Record → List Mono
-  images l = map (λ r. image r z) (keep (offers f (system rs) z) l)
+  -- so what the records offer are the monomials that pass
+  abbrev pub offering : Record → Bool
+  offering r = offers f (system rs) z r
+
+  pub offered-sub : map (λ r. image r z) (keep offering rs) ⊆ passing
+  offered-sub m h =
+      let q : (r : Record) × (r ∈ keep offering rs) × (image r z ≡ m) = Memᴰ·of-map (λ r. image r z) (keep offering rs) h in
+      Memᴰ·cast (sym (q .2)) (offered-in (q .0) (keep-out offering rs (q .1) .1))
+
+  pub passing-sub : passing ⊆ map (λ r. image r z) (keep offering rs)
+  passing-sub m h =
+      let w : Offering m = offered-out m h in
+      Memᴰ·cast (sym (w .is)) (Memᴰ·map (λ r. image r z) (keep-in offering rs (w .listed) (w .offered)))
+
+-- ---- a loop that keeps the best of the monomials of the records that pass a test
+module _ (g : Record → Bool) (rs : List Record) (z : Mono) where
+  abbrev pub imaged : List Record → List Mono
+  imaged l = map (λ r. image r z) (keep g l)
 
   module _ {earlier : Mono → Mono → Bool} (o : Order same earlier) (p : Pick) where
     -- the first t records have been met, on top of what p is the best of
     pub record Meeting (t : ℕ) (best : Pick) : Type 0 where
       pub within : t ≤ length rs
-      pub holds : (l : List Mono) → Best earlier l p → Best earlier (images (take t rs) ++ l) best
+      pub holds : (l : List Mono) → Best earlier l p → Best earlier (imaged (take t rs) ++ l) best
 
     pub meeting-start : Meeting 0 p
     unfolding keep
     meeting-start = record { within = omega arith; holds = λ l b. b }
 
-    images-append : (a b : List Record) → images (a ++ b) ≡ images a ++ images b
-    unfolding keep
-    images-append [] b = refl
-    images-append (r ∷ a) b = go (test (offers f (system rs) z r)) (images-append a b)
-      where
-        go : Tested (offers f (system rs) z r) → images (a ++ b) ≡ images a ++ images b → images (r ∷ a ++ b) ≡ images (r ∷ a) ++ images b
-        go (passed e) ih = rw e (ap (_∷_ (image r z)) ih)
-        go (failed e) ih = rw e ih
+    imaged-append : (a b : List Record) → imaged (a ++ b) ≡ imaged a ++ imaged b
+    imaged-append a b = ap (map (λ r. image r z)) (keep-append g a b) ∙ map-append (λ r. image r z) (keep g a) (keep g b)
 
-    images-next : (t : ℕ) (d : Record) → t < length rs → images (take (t + 1) rs) ≡ images (take t rs) ++ images (getD rs t d ∷ [])
-    images-next t d h = rw (add-one t, take-suc rs t d h) (images-append (take t rs) (getD rs t d ∷ []))
+    imaged-next : (t : ℕ) (d : Record) → t < length rs → imaged (take (t + 1) rs) ≡ imaged (take t rs) ++ imaged (getD rs t d ∷ [])
+    imaged-next t d h = rw (add-one t, take-suc rs t d h) (imaged-append (take t rs) (getD rs t d ∷ []))
 
-    -- the next record offers nothing
-    pub meeting-same : (t : ℕ) (best : Pick) (d : Record) → Meeting t best → t < length rs → offers f (system rs) z (getD rs t d) ≡ false → Meeting (t + 1) best
+    -- the next record gives nothing
+    pub meeting-same : (t : ℕ) (best : Pick) (d : Record) → Meeting t best → t < length rs → g (getD rs t d) ≡ false → Meeting (t + 1) best
     unfolding keep
     meeting-same t best d m h e =
-        let none : images (take (t + 1) rs) ≡ images (take t rs) = images-next t d h ∙ rw e (append-nil (images (take t rs))) in
+        let none : imaged (take (t + 1) rs) ≡ imaged (take t rs) = imaged-next t d h ∙ rw e (append-nil (imaged (take t rs))) in
         record { within = omega arith; holds = λ l b. rw none (m .holds l b) }
 
     -- or one monomial, of which the best is made
-    pub meeting-more : (t : ℕ) (best best' : Pick) (d : Record) → Meeting t best → t < length rs → offers f (system rs) z (getD rs t d) ≡ true
+    pub meeting-more : (t : ℕ) (best best' : Pick) (d : Record) → Meeting t best → t < length rs → g (getD rs t d) ≡ true
         → ((l : List Mono) → Best earlier l best → Best earlier (image (getD rs t d) z ∷ l) best') → Meeting (t + 1) best'
     unfolding keep
     meeting-more t best best' d m h e more = record { within = omega arith; holds = holds }
@@ -159,52 +184,42 @@ module _ (f : Mono → Bool) (rs : List Record) (z : Mono) where
         x : Mono
         x = image (getD rs t d) z
 
-        one-more : images (take (t + 1) rs) ≡ images (take t rs) ++ (x ∷ [])
-        one-more = images-next t d h ∙ rw e
+        one-more : imaged (take (t + 1) rs) ≡ imaged (take t rs) ++ (x ∷ [])
+        one-more = imaged-next t d h ∙ rw e
 
-        to-end : (l : List Mono) → (x ∷ (images (take t rs) ++ l)) ⊆ ((images (take t rs) ++ (x ∷ [])) ++ l)
+        to-end : (l : List Mono) → (x ∷ (imaged (take t rs) ++ l)) ⊆ ((imaged (take t rs) ++ (x ∷ [])) ++ l)
         to-end l y k =
-            ⊎-elim (λ q. Memᴰ·append-left l (Memᴰ·append-right (images (take t rs)) (List·Memᴰ·head q)))
-            (λ j. ⊎-elim (λ i. Memᴰ·append-left l (Memᴰ·append-left (x ∷ []) i)) (λ i. Memᴰ·append-right (images (take t rs) ++ (x ∷ [])) i) (List·Memᴰ·append-cases (images (take t rs)) j))
+            ⊎-elim (λ q. Memᴰ·append-left l (Memᴰ·append-right (imaged (take t rs)) (List·Memᴰ·head q)))
+            (λ j. ⊎-elim (λ i. Memᴰ·append-left l (Memᴰ·append-left (x ∷ []) i)) (λ i. Memᴰ·append-right (imaged (take t rs) ++ (x ∷ [])) i) (List·Memᴰ·append-cases (imaged (take t rs)) j))
             (List·Memᴰ·cases-cons k)
 
-        to-front : (l : List Mono) → ((images (take t rs) ++ (x ∷ [])) ++ l) ⊆ (x ∷ (images (take t rs) ++ l))
-        to-front l y k = ⊎-elim (λ j. ⊎-elim (λ i. there (Memᴰ·append-left l i)) (λ i. single i) (List·Memᴰ·append-cases (images (take t rs)) j))
-            (λ j. there (Memᴰ·append-right (images (take t rs)) j)) (List·Memᴰ·append-cases (images (take t rs) ++ (x ∷ [])) k)
+        to-front : (l : List Mono) → ((imaged (take t rs) ++ (x ∷ [])) ++ l) ⊆ (x ∷ (imaged (take t rs) ++ l))
+        to-front l y k = ⊎-elim (λ j. ⊎-elim (λ i. there (Memᴰ·append-left l i)) (λ i. single i) (List·Memᴰ·append-cases (imaged (take t rs)) j))
+            (λ j. there (Memᴰ·append-right (imaged (take t rs)) j)) (List·Memᴰ·append-cases (imaged (take t rs) ++ (x ∷ [])) k)
           where
-            single : y ∈ (x ∷ []) → y ∈ (x ∷ (images (take t rs) ++ l))
+            single : y ∈ (x ∷ []) → y ∈ (x ∷ (imaged (take t rs) ++ l))
             single i = ⊎-elim (λ q. List·Memᴰ·head q) (λ n. absurd (List·Memᴰ·not-nil n)) (List·Memᴰ·cases-cons i)
 
-        holds : (l : List Mono) → Best earlier l p → Best earlier (images (take (t + 1) rs) ++ l) best'
+        holds : (l : List Mono) → Best earlier l p → Best earlier (imaged (take (t + 1) rs) ++ l) best'
         holds l b = rw one-more
-            (best-members o (best' .some) (x ∷ (images (take t rs) ++ l)) ((images (take t rs) ++ (x ∷ [])) ++ l) (best' .m .e) (to-end l) (to-front l) (more (images (take t rs) ++ l) (m .holds l b)))
+            (best-members o (best' .some) (x ∷ (imaged (take t rs) ++ l)) ((imaged (take t rs) ++ (x ∷ [])) ++ l) (best' .m .e) (to-end l) (to-front l) (more (imaged (take t rs) ++ l) (m .holds l b)))
 
-    -- at the end it is the best of all that pass
-    images-in : images rs ⊆ passing
-    images-in m h =
-        let q : (r : Record) × (r ∈ keep (offers f (system rs) z) rs) × (image r z ≡ m) = Memᴰ·of-map (λ r. image r z) (keep (offers f (system rs) z) rs) h in
-        Memᴰ·cast (sym (q .2)) (offered-in (q .0) (keep-out (offers f (system rs) z) rs (q .1) .1))
-
-    images-out : passing ⊆ images rs
-    images-out m h =
-        let w : Offering m = offered-out m h in
-        Memᴰ·cast (sym (w .is)) (Memᴰ·map (λ r. image r z) (keep-in (offers f (system rs) z) rs (w .listed) (w .offered)))
-
+    -- at the end it is the best of any list with the same members
     both : (a b l : List Mono) → a ⊆ b → (a ++ l) ⊆ (b ++ l)
     both a b l sub y h = ⊎-elim (λ k. Memᴰ·append-left l (sub y k)) (λ k. Memᴰ·append-right b k) (List·Memᴰ·append-cases a h)
 
-    pub meeting-ends : (t : ℕ) (best : Pick) → Meeting t best → length rs ≤ t → (l : List Mono) → Best earlier l p → Best earlier (passing ++ l) best
-    meeting-ends t best m h l b =
-        best-members o (best .some) (images rs ++ l) (passing ++ l) (best .m .e) (both (images rs) passing l images-in) (both passing (images rs) l images-out)
-        (subst (λ (q : List Record). Best earlier (images q ++ l) best) (take-all t rs h) (m .holds l b))
+    module _ (all : List Mono) (inside : imaged rs ⊆ all) (outside : all ⊆ imaged rs) (t : ℕ) (best : Pick) (m : Meeting t best) (h : length rs ≤ t) where
+      pub meeting-ends : (l : List Mono) → Best earlier l p → Best earlier (all ++ l) best
+      meeting-ends l b =
+          best-members o (best .some) (imaged rs ++ l) (all ++ l) (best .m .e) (both (imaged rs) all l inside) (both all (imaged rs) l outside)
+          (subst (λ (q : List Record). Best earlier (imaged q ++ l) best) (take-all t rs h) (m .holds l b))
 
--- begun with nothing, it is the first of those that pass
-pub meeting-heads : (f : Mono → Bool) (rs : List Record) (z : Mono) (p : Pick) (t : ℕ) (best : Pick) → p .some ≡ false → Meeting f rs z mono-order p t best → length rs ≤ t
-    → Heads (passing f rs z) best
-meeting-heads f rs z p t best e m h =
-    heads (passing f rs z) (passing f rs z) best (keep-asc f (support plain (derivative plain (system rs) z)) (support-asc plain mono-order (derivative plain (system rs) z)))
-    (λ y k. k) (λ y k. k)
-    (subst (λ (l : List Mono). Best before l best) (append-nil (passing f rs z)) (meeting-ends f rs z mono-order p t best m h [] none))
+-- begun with nothing, it is the first of an ascending one
+pub meeting-heads : (g : Record → Bool) (rs : List Record) (z : Mono) (p : Pick) (t : ℕ) (best : Pick) → p .some ≡ false → Meeting g rs z mono-order p t best → length rs ≤ t
+    → (all : List Mono) → Ascending before all → imaged g rs z rs ⊆ all → all ⊆ imaged g rs z rs → Heads all best
+meeting-heads g rs z p t best e m h all asc inside outside =
+    heads all all best asc (λ y k. k) (λ y k. k)
+    (subst (λ (l : List Mono). Best before l best) (append-nil all) (meeting-ends g rs z mono-order p all inside outside t best m h [] none))
   where
     none : Best before [] p
     none = subst (λ (s : Bool). BestOf before s [] (p .m .e)) (sym e) (λ y k. List·Memᴰ·not-nil k)

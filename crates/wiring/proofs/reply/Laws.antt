@@ -1,10 +1,14 @@
 -- Two replies with the same numbers are the same reply: the numbers say which case it is and what it holds. Assumes nothing.
-use mathlib.Core.Path.{_≡_, refl, sym, ap, _∙_}
+use mathlib.Core.Path.{_≡_, refl, sym, ap, _∙_, subst}
 use mathlib.Core.Bool.{cond}
+use mathlib.Core.List.{List, [], _∷_}
 use Prim.Native.Nat.{ℕ}
 use native.Mathlib.Omega.{arith}
+use denote.Enum.Declared.{tagOf}
 use lib.Dec.{eqb}
+use types.Run.{OneOf, miss}
 use Rattle.wiring.specs.Reply.{Numbers, numbers}
+use Rattle.wiring.proofs.reply.Reply.{the-type}
 use Rattle.wiring.specs.declared.reply.Reply.{Reply}
 use Rattle.wiring.specs.declared.reply.Reply.the-variants.{Done, Setting, Length, Term, Twice, Nothing, Full, Spent, BadSet, NotQuadratic}
 
@@ -69,3 +73,10 @@ done-counts P (Full o k) z h = z
 done-counts P (Spent o k) z h = z
 done-counts P BadSet z h = z
 done-counts P (NotQuadratic o p) z h = z
+
+-- a match that came to another kind of reply than not quadratic, the last of the ten
+abbrev others : List ℕ
+others = 0 ∷ 1 ∷ 2 ∷ 3 ∷ 4 ∷ 5 ∷ 6 ∷ 7 ∷ 8 ∷ []
+
+pub other-kinds : (r : Reply) → OneOf others (tagOf the-type r) → (o p : ℕ) → r ≡ NotQuadratic o p → ⊥
+other-kinds r h o p e = miss others 9 tt (subst (λ (x : Reply). OneOf others (tagOf the-type x)) e h)

@@ -14,7 +14,7 @@ use Rattle.monomial.specs.Order.{same}
 use Rattle.monomial.specs.Product.{mul}
 use Rattle.monomial.proofs.Tests.{is→T, nT→is, T→is}
 use Rattle.monomial.proofs.Members.{any-in}
-use Rattle.monomial.proofs.Counting.{at-in, place-lt, place-least}
+use Rattle.monomial.proofs.Counting.{at-in, place-lt, place-any, place-least}
 use Rattle.monomial.proofs.Loops.{Placing, placing-start, placing-found, placing-on, placing-ends}
 use Rattle.monomial.proofs.product.Laws.{mul-comm}
 use Rattle.wiring.specs.Poly.{plain}
@@ -73,6 +73,10 @@ module _ (v : List Mono) (m : Mono) where
       pair-second =
           placing-found (beside (getD v a [])) [] i k t
           ∙ ap (λ (n : ℕ). place (λ y. same (mul (getD v n []) y) m) v) pair-first
+
+      pub pair-in : T (inV2 plain v m)
+      unfolding inV2 firstOf
+      pair-in = place-any (factor plain v m) v (let e = pair-first in omega arith)
 
   -- a product in V2 is found before the outer loop ends
   pub pair-there : (a : ℕ) → PairRow a → length v ≤ a → T (inV2 plain v m) → ⊥

@@ -7,8 +7,14 @@ use borrow.Author.Needs.{needs}
 use Rattle.asked.proofs.input.read_input.Statement.{statement}
 use Rattle.asked.proofs.input.read_input.Tie as tie
 
-most-input-requires : tie.Need-most-input-requires
-most-input-requires c κs = search needs
+given-bytes-requires : tie.Need-given-bytes-requires
+given-bytes-requires c κs = search needs
+
+add-right : tie.Need-add-right
+add-right c = search needs
+
+add-least : tie.Need-add-least
+add-least c = search needs
 
 least-requires : tie.Need-least-requires
 least-requires c κs = search needs
@@ -33,16 +39,18 @@ returns c =
     let at-least = at-read .before .before in
     let start = at-least .before .before .before in
     let front = length-take-le (at-least .least .result) (start .args .input .now) (omega (arith, at-least .least .ensures)) in
-    let most = at-least .before .most-input .ensures in (
+    let given = at-least .before .given-bytes .ensures .0 in (
       counts-front _ _ _ (at-read .read-full .ensures),
-      omega (arith, at-read .read-full .ensures .0, at-read .read-full .kept .1 .0, front, at-least .least .ensures, most),
+      omega (arith, at-read .read-full .ensures .0, at-read .read-full .kept .1 .0, front, at-least .least .ensures, given),
     )
 
 pub read-input-spec : {M : Type 1} → statement M
 read-input-spec =
     tie.close
     (tie.spec
-    most-input-requires
+    given-bytes-requires
+    add-right
+    add-least
     least-requires
     slice-relend-prefix-read-full
     slice-aggregate-read-full

@@ -1,60 +1,142 @@
--- `accept` meets its contract: where the code of checking is 0, the set of the record is read. Assumes nothing.
-use mathlib.Core.Path.{sym, subst, _∙_}
-use borrow.Author.Tests.{eq-eqb, ne-eqb}
-use lib.Dec.{T}
-use Rattle.wiring.specs.Reply.{numbers}
-use Rattle.wiring.proofs.answers.Laws.{is-verdict, code-is, done-accepted, read-held, read-lists}
+-- `accept` meets its contract: the checks run in their order, and then the record decides. Assumes nothing.
+use mathlib.Core.Path.{sym, _∙_}
 use borrow.Author.Needs.{needs}
+use borrow.Author.Tests.{not-true, not-false}
+use native.Mathlib.Omega.{arith}
+use Rattle.wiring.specs.declared.terms.Fault.the-variants.{Clean, Wrong, Repeated}
+use Rattle.wiring.specs.declared.reply.Reply.the-variants.{Setting, Length, Term, Twice}
+use Rattle.wiring.proofs.answers.Laws.{said-setting, said-terms-length, said-set-length, said-rest, given-refused, given-read}
 use Rattle.wiring.proofs.answers.accept.Statement.{statement}
 use Rattle.wiring.proofs.answers.accept.Tie as tie
 
-check-requires : tie.Need-check-requires
-check-requires c κs = search needs
+count-right-requires : tie.Need-count-right-requires
+count-right-requires c κs = search needs
 
-numbers-requires : tie.Need-numbers-requires
-numbers-requires c κs = search needs
-
-array-read-if1 : tie.Need-array-read-if1
-array-read-if1 c = search needs
+refused-requires : tie.Need-refused-requires
+refused-requires c κs = search needs
 
 returns : tie.Need-returns
 returns c =
-    let start = c .before .before .before .before .before in
-    let a = start .args in
-    let said = c .before .before .check .result in
-    let code = ne-eqb (numbers said .code) 0 (λ e. c .if1 .taken (code-is _ said (c .before .numbers .ensures) ∙ e)) in
-    record {
-      said = is-verdict (a .n) (a .terms .now) (a .set .now) said (c .before .before .check .ensures);
-      good = sym code;
-      holds = λ e. absurd (subst T (sym e) tt);
-      lists = λ e. absurd (subst T (sym e) tt);
-    }
-
-read-set-requires : tie.Need-read-set-requires
-read-set-requires c κs =
     let a = c .before .before .before .before .before .args in
-    let said = c .before .before .check .result in
-    let zero = sym (code-is _ said (c .before .numbers .ensures)) ∙ c .if1 .left in
-    done-accepted (a .n) (a .terms .now) (a .set .now) said (c .before .before .check .ensures) zero .long
+    let no = said-setting (a .n) (a .terms .now) (a .set .now) (sym (c .before .before .count-right .ensures) ∙ not-true _ (c .before .if1 .taken)) in
+    given-refused _ _ _ _ Setting no (λ z. omega arith) (c .refused .ensures)
+
+length-right-requires : tie.Need-length-right-requires
+length-right-requires c κs = search needs
+
+refused-requires-2 : tie.Need-refused-requires-2
+refused-requires-2 c κs = search needs
 
 returns-2 : tie.Need-returns-2
 returns-2 c =
-    let a = c .before .before .before .before .before .before .before .args in
-    let at-read-set = c .before in
-    let at-if1 = at-read-set .before in
-    let at-numbers = at-if1 .before in
-    let at-check = at-numbers .before in
-    let said = at-check .check .result in
-    let zero = sym (code-is _ said (at-numbers .numbers .ensures)) ∙ at-if1 .if1 .left in
-    let ok = done-accepted (a .n) (a .terms .now) (a .set .now) said (at-check .check .ensures) zero in
-    record {
-      said = is-verdict (a .n) (a .terms .now) (a .set .now) said (at-check .check .ensures);
-      good = sym (eq-eqb (numbers said .code) 0 zero);
-      holds = λ e. read-held (a .n) (a .terms .now) (a .set .now) (at-read-set .read-set .result) ok (at-read-set .read-set .ensures);
-      lists = λ e. read-lists (a .n) (a .terms .now) (a .set .now) (at-read-set .read-set .result) ok (at-read-set .read-set .ensures);
-    }
+    let at-length-right = c .before .before in
+    let at-if1 = at-length-right .before in
+    let at-count-right = at-if1 .before in
+    let a = at-count-right .before .before .before .args in
+    let count = sym (at-count-right .count-right .ensures) ∙ not-false _ (at-if1 .if1 .left) in
+    let no = said-terms-length (a .n) (a .terms .now) (a .set .now) count (sym (at-length-right .length-right .ensures) ∙ not-true _ (c .before .if2 .taken)) in
+    given-refused _ _ _ _ Length no (λ z. omega arith) (c .refused2 .ensures)
+
+refused-requires-3 : tie.Need-refused-requires-3
+refused-requires-3 c κs = search needs
+
+returns-3 : tie.Need-returns-3
+returns-3 c =
+    let at-if3 = c .before in
+    let at-if2 = at-if3 .before in
+    let at-length-right = at-if2 .before in
+    let at-if1 = at-length-right .before in
+    let at-count-right = at-if1 .before in
+    let a = at-count-right .before .before .before .args in
+    let count = sym (at-count-right .count-right .ensures) ∙ not-false _ (at-if1 .if1 .left) in
+    let measured = sym (at-length-right .length-right .ensures) ∙ not-false _ (at-if2 .if2 .left) in
+    given-refused _ _ _ _ Length (said-set-length (a .n) (a .terms .now) (a .set .now) count measured (at-if3 .if3 .taken)) (λ z. omega arith) (c .refused3 .ensures)
+
+fault-of-requires : tie.Need-fault-of-requires
+fault-of-requires c κs = search needs
+
+enum-told : tie.Need-enum-told
+enum-told c = search needs
+
+read-given-requires : tie.Need-read-given-requires
+read-given-requires c κs = search needs
+
+enum-known-place : tie.Need-enum-known-place
+enum-known-place c = search needs
+
+refused-requires-4 : tie.Need-refused-requires-4
+refused-requires-4 c κs = search needs
+
+enum-known-place-2 : tie.Need-enum-known-place-2
+enum-known-place-2 c = search needs
+
+refused-requires-5 : tie.Need-refused-requires-5
+refused-requires-5 c κs = search needs
+
+returns-4 : tie.Need-returns-4
+returns-4 c =
+    let at-fault-of = c .before .before .before in
+    let at-if3 = at-fault-of .before in
+    let at-if2 = at-if3 .before in
+    let at-length-right = at-if2 .before in
+    let at-if1 = at-length-right .before in
+    let at-count-right = at-if1 .before in
+    let a = at-count-right .before .before .before .args in
+    let count = sym (at-count-right .count-right .ensures) ∙ not-false _ (at-if1 .if1 .left) in
+    let measured = sym (at-length-right .length-right .ensures) ∙ not-false _ (at-if2 .if2 .left) in
+    let clean = sym (c .before .enum-told .given .1) ∙ at-fault-of .fault-of .ensures in
+    let says = sym (said-rest (a .n) (a .terms .now) (a .set .now) count measured (at-if3 .if3 .left) Clean clean) in
+    given-read _ _ _ _ count (at-if3 .if3 .left) (sym clean) says (c .read-given .ensures)
+
+returns-5 : tie.Need-returns-5
+returns-5 c =
+    let at-fault-of = c .before .before .before .before in
+    let at-if3 = at-fault-of .before in
+    let at-if2 = at-if3 .before in
+    let at-length-right = at-if2 .before in
+    let at-if1 = at-length-right .before in
+    let at-count-right = at-if1 .before in
+    let a = at-count-right .before .before .before .args in
+    let count = sym (at-count-right .count-right .ensures) ∙ not-false _ (at-if1 .if1 .left) in
+    let measured = sym (at-length-right .length-right .ensures) ∙ not-false _ (at-if2 .if2 .left) in
+    let place = c .before .before .place .given in
+    let says = sym (said-rest (a .n) (a .terms .now) (a .set .now) count measured (at-if3 .if3 .left) (Wrong (place .0 .0)) (sym (place .1) ∙ at-fault-of .fault-of .ensures)) in
+    given-refused _ _ _ _ (Term (place .0 .0)) says (λ z. omega arith) (c .refused4 .ensures)
+
+returns-6 : tie.Need-returns-6
+returns-6 c =
+    let at-fault-of = c .before .before .before .before in
+    let at-if3 = at-fault-of .before in
+    let at-if2 = at-if3 .before in
+    let at-length-right = at-if2 .before in
+    let at-if1 = at-length-right .before in
+    let at-count-right = at-if1 .before in
+    let a = at-count-right .before .before .before .args in
+    let count = sym (at-count-right .count-right .ensures) ∙ not-false _ (at-if1 .if1 .left) in
+    let measured = sym (at-length-right .length-right .ensures) ∙ not-false _ (at-if2 .if2 .left) in
+    let place = c .before .before .place2 .given in
+    let says = sym (said-rest (a .n) (a .terms .now) (a .set .now) count measured (at-if3 .if3 .left) (Repeated (place .0 .0)) (sym (place .1) ∙ at-fault-of .fault-of .ensures)) in
+    given-refused _ _ _ _ (Twice (place .0 .0)) says (λ z. omega arith) (c .refused5 .ensures)
 
 pub accept-spec : {M : Type 1} → statement M
 accept-spec =
     tie.close
-    (tie.spec check-requires numbers-requires array-read-if1 returns read-set-requires returns-2)
+    (tie.spec
+    count-right-requires
+    refused-requires
+    returns
+    length-right-requires
+    refused-requires-2
+    returns-2
+    refused-requires-3
+    returns-3
+    fault-of-requires
+    enum-told
+    read-given-requires
+    enum-known-place
+    refused-requires-4
+    enum-known-place-2
+    refused-requires-5
+    returns-4
+    returns-5
+    returns-6)

@@ -1,12 +1,11 @@
--- `wire` meets its contract: what is not accepted is refused over zeros, and what is accepted is listed. Assumes nothing.
+-- `wire` meets its contract: what is not taken is refused over zeros, and the set that is taken is wired. Assumes nothing.
 use mathlib.Core.Path.{sym, ap, _∙_}
 use Prim.Native.Nat.{ℕ}
-use lib.ListN.{length, replicate}
-use borrow.Author.Tests.{not-true, not-false}
-use Rattle.wiring.specs.Reply.{outcome}
-use Rattle.wiring.specs.Sets.{monomialsOf}
-use Rattle.wiring.proofs.answers.Laws.{given-refused, given-done, listed-as, wired-refused, wired-listed}
 use borrow.Author.Needs.{needs}
+use borrow.Author.Tests.{not-true, not-false}
+use lib.ListN.{length, replicate}
+use Rattle.wiring.specs.Reply.{outcome}
+use Rattle.wiring.proofs.answers.Laws.{wired-refused, wired-given}
 use Rattle.wiring.proofs.answers.wire.Statement.{statement}
 use Rattle.wiring.proofs.answers.wire.Tie as tie
 
@@ -21,33 +20,27 @@ same-length c = search needs
 
 returns : tie.Need-returns
 returns c =
-    let at-clear = c .before .before .before .before .before in
-    let a = at-clear .before .before .before .before .before .args in
+    let a = c .before .before .before .before .before .before .before .before .before .before .args in
     let g = c .before .before .accept in
-    let no = given-refused (a .n) (a .terms .now) (a .set .now) (g .result) (g .ensures) (not-true _ (c .if1 .taken)) in
-    ap (outcome (g .result .said)) (at-clear .clear .ensures)
-    ∙ sym (wired-refused (a .n) (a .terms .now) (a .set .now) (length (a .out .now)) (g .result .said) (no .0) (no .1))
+    let no = g .ensures .refused (not-true _ (c .if1 .taken)) in
+    ap (outcome (g .result .said)) (c .before .before .before .before .before .clear .ensures)
+    ∙ sym (wired-refused (a .n) (a .terms .now) (a .set .now) (length (a .out .now)) (g .result .said) (no .says) (no .code))
 
-list-wires-requires : tie.Need-list-wires-requires
-list-wires-requires c κs =
-    let at-clear = c .before .before .before .before .before .before in
-    let g = c .before .before .before .accept in
-    let good = not-false _ (c .before .if1 .left) in
-    (g .ensures .lists good, at-clear .clear .ensures ∙ ap (λ (k : ℕ). replicate k 0) (sym (at-clear .clear .kept .0)))
+wire-set-requires : tie.Need-wire-set-requires
+wire-set-requires c κs =
+    let cleared = c .before .before .before .before .before .before .clear in
+    let taken = c .before .before .before .accept .ensures .taken (not-false _ (c .before .if1 .left)) in
+    (taken .judgeable, cleared .ensures ∙ ap (λ (k : ℕ). replicate k 0) (sym (cleared .kept .0)))
 
 same-length-2 : tie.Need-same-length-2
 same-length-2 c = search needs
 
 returns-2 : tie.Need-returns-2
 returns-2 c =
-    let at-clear = c .before .before .before .before .before .before .before .before .before in
-    let a = at-clear .before .before .before .before .before .args in
+    let a = c .before .before .before .before .before .before .before .before .before .before .before .before .before .before .args in
     let g = c .before .before .before .before .before .before .accept in
-    let good = not-false _ (c .before .before .before .before .if1 .left) in
-    let d = given-done (a .n) (a .terms .now) (a .set .now) (g .result) (g .ensures) good in
-    c .before .before .list-wires .ensures
-    ∙ listed-as (a .n) (a .terms .now) (a .set .now) (length (a .out .now)) _ (monomialsOf (g .result .set)) (g .ensures .holds good) (at-clear .clear .kept .0)
-    ∙ sym (wired-listed (a .n) (a .terms .now) (a .set .now) (length (a .out .now)) (d .order) (d .count) (d .steps) (d .is))
+    let taken = g .ensures .taken (not-false _ (c .before .before .before .before .if1 .left)) in
+    c .before .before .wire-set .ensures ∙ wired-given (a .n) (a .terms .now) (a .set .now) (length (a .out .now)) _ (g .result .set) taken (c .before .before .before .before .before .before .before .before .before .clear .kept .0)
 
 pub wire-spec : {M : Type 1} → statement M
-wire-spec = tie.close (tie.spec clear-requires accept-requires same-length returns list-wires-requires same-length-2 returns-2)
+wire-spec = tie.close (tie.spec clear-requires accept-requires same-length returns wire-set-requires same-length-2 returns-2)

@@ -13,14 +13,14 @@ use mathlib.Core.List.{List, _++_}
 use Rattle.wiring.specs.Signals.{tabled}
 use Rattle.wiring.specs.Choice.{cheaper}
 use Rattle.wiring.proofs.choice.Laws.{cheap-order}
-use Rattle.wiring.proofs.quadratic.Records.{outside, passing-unmet, at-record, Meeting, meeting-start, meeting-same, meeting-more, meeting-ends}
+use Rattle.wiring.proofs.quadratic.Records.{outside, passing, offering, offered-sub, passing-sub, passing-unmet, at-record, Meeting, meeting-start, meeting-same, meeting-more, meeting-ends}
 use borrow.Author.Needs.{needs}
 use Rattle.wiring.specs.Panel.{termBytes}
 use Rattle.wiring.proofs.quadratic.choose_in.Statement.{statement}
 use Rattle.wiring.proofs.quadratic.choose_in.Tie as tie
 
 abbrev Inv-loop : tie.InvT-loop
-Inv-loop terms z sq count best₀ t₀ best t = (count ≡ length terms / termBytes) × Meeting (outside (tabled sq)) (records terms) (z .e) cheap-order best₀ t best
+Inv-loop terms z sq count best₀ t₀ best t = (count ≡ length terms / termBytes) × Meeting (offering (outside (tabled sq)) (records terms) (z .e)) (records terms) (z .e) cheap-order best₀ t best
 
 abbrev μ-loop : tie.MeasureT-loop
 μ-loop terms z sq count best₀ t₀ best t = count - t
@@ -57,9 +57,9 @@ loop-again c =
           (λ w.
           let same-image = at-record (λ r. image r (a .z .e)) l (k .t) (omega arith) ∙ sym (c .before .nonsquare-of .ensures .is (w .0 .taken)) in
           rw (w .2)
-          (meeting-more (outside (tabled (a .sq .now))) (records l) (a .z .e) cheap-order _ (k .t) (k .best) _ (recordAt l (k .t)) (k .inv .1) few (told ∙ w .0 .taken)
+          (meeting-more f (records l) (a .z .e) cheap-order _ (k .t) (k .best) _ (recordAt l (k .t)) (k .inv .1) few (told ∙ w .0 .taken)
           (λ m b. rw same-image (w .1 .ensures m b))))
-          (λ w. rw (w .1) (meeting-same (outside (tabled (a .sq .now))) (records l) (a .z .e) cheap-order _ (k .t) (k .best) (recordAt l (k .t)) (k .inv .1) few (told ∙ w .0 .left)))
+          (λ w. rw (w .1) (meeting-same f (records l) (a .z .e) cheap-order _ (k .t) (k .best) (recordAt l (k .t)) (k .inv .1) few (told ∙ w .0 .left)))
           (c .if1 .came),
     )
 
@@ -69,9 +69,10 @@ returns c =
     let r = records (a .terms .now) in
     let k = c .before .loop in
     let few : length r ≤ k .t = omega (arith, records-length (a .terms .now)) in
+    let test = outside (tabled (a .sq .now)) in
     λ v l e b.
     subst (λ (p : List Mono). Best cheaper (p ++ l) (k .best)) (passing-unmet (tabled (a .sq .now)) v r (a .z .e) e)
-    (meeting-ends (outside (tabled (a .sq .now))) r (a .z .e) cheap-order _ (k .t) (k .best) (k .inv .1) few l b)
+    (meeting-ends (offering test r (a .z .e)) r (a .z .e) cheap-order _ (passing test r (a .z .e)) (offered-sub test r (a .z .e)) (passing-sub test r (a .z .e)) (k .t) (k .best) (k .inv .1) few l b)
 
 pub choose-in-spec : {M : Type 1} → statement M
 choose-in-spec =

@@ -1,15 +1,11 @@
--- `following` meets its contract: the tests of the code are those of `offers`, in its order. Assumes nothing.
-use mathlib.Core.Path.{refl, sym, ap, _∙_}
+-- `following` meets its contract: the tests of the code are those of `gives`, in its order. Assumes nothing.
+use mathlib.Core.Path.{refl, sym, _∙_}
 use borrow.Author.Tests.{not-true, not-false}
 use Rattle.wiring.specs.Choice.{beyond}
 use native.Mathlib.Omega.{arith}
-use borrow.Author.Needs.{needs, sfits-of}
-use mir.Syntax.{w32}
-use mir.ValLaws.{toZ-ofZ}
 use Rattle.monomial.proofs.product.Laws.{atMost-weaken}
-use Rattle.wiring.specs.Coefficient.{isZero}
-use Rattle.wiring.specs.Terms.{recordAt, records, system}
-use Rattle.wiring.proofs.quadratic.Records.{offered-low, offered-fails, offered-zero, offered-here}
+use Rattle.wiring.specs.Terms.{recordAt}
+use Rattle.wiring.proofs.quadratic.Records.{given-low, given-fails, given-here}
 use borrow.Author.Needs.{needs}
 use Rattle.wiring.proofs.wires.following.Statement.{statement}
 use Rattle.wiring.proofs.wires.following.Tie as tie
@@ -23,7 +19,7 @@ returns : tie.Need-returns
 returns c =
     let a = c .before .before .before .args in
     let l = a .terms .now in
-    offered-low (beyond (a .last)) (system (records l)) (a .z .e) (recordAt l (a .t)) (c .before .power .result) _ (c .before .power .ensures) (c .if1 .taken) refl
+    given-low (beyond (a .last)) (a .z .e) (recordAt l (a .t)) (c .before .power .result) _ (c .before .power .ensures) (c .if1 .taken) refl
 
 image-requires : tie.Need-image-requires
 image-requires c κs =
@@ -44,65 +40,20 @@ returns-2 c =
     let l = a .terms .now in
     let x = at-power .power in
     let m = c .before .before .image in
-    offered-fails (beyond (a .last)) (system (records l)) (a .z .e) (recordAt l (a .t)) (x .result) (m .result .e) (x .ensures)
+    given-fails (beyond (a .last)) (a .z .e) (recordAt l (a .t)) (x .result) (m .result .e) (x .ensures)
     (at-if1 .if1 .left) (m .ensures) _ (sym (c .before .is-beyond .ensures) ∙ not-true _ (c .if2 .taken)) refl
-
-total-requires : tie.Need-total-requires
-total-requires c κs =
-    let s = c .before .before .before .before .before .before in
-    (s .pre .0, s .pre .1 .1)
-
-is-zero-requires : tie.Need-is-zero-requires
-is-zero-requires c κs = search needs
 
 returns-3 : tie.Need-returns-3
 returns-3 c =
-    let at-if2 = c .before .before .before in
-    let at-is-beyond = at-if2 .before in
-    let at-image = at-is-beyond .before in
-    let at-if1 = at-image .before in
+    let at-if1 = c .before .before .before in
     let at-power = at-if1 .before in
     let start = at-power .before .before in
     let a = start .args in
     let l = a .terms .now in
     let x = at-power .power in
-    let m = at-image .image in
-    let sum = c .before .before .total in
-    let same-sum = toZ-ofZ w32 (sum .result) (sfits-of (sum .ok)) in
-    let zero = ap isZero (sym (sum .ensures) ∙ sym same-sum) ∙ sym (c .before .is-zero .ensures) ∙ c .if3 .taken in
-    offered-zero (beyond (a .last)) (system (records l)) (a .z .e) (recordAt l (a .t)) (x .result) (m .result .e) (x .ensures)
-    (at-if1 .if1 .left) (m .ensures) _
-    (sym (at-is-beyond .is-beyond .ensures) ∙ not-false _ (at-if2 .if2 .left)) zero refl
-
-returns-4 : tie.Need-returns-4
-returns-4 c =
-    let at-if2 = c .before .before .before in
-    let at-is-beyond = at-if2 .before in
-    let at-image = at-is-beyond .before in
-    let at-if1 = at-image .before in
-    let at-power = at-if1 .before in
-    let start = at-power .before .before in
-    let a = start .args in
-    let l = a .terms .now in
-    let x = at-power .power in
-    let m = at-image .image in
-    let sum = c .before .before .total in
-    let same-sum = toZ-ofZ w32 (sum .result) (sfits-of (sum .ok)) in
-    let other = ap isZero (sym (sum .ensures) ∙ sym same-sum) ∙ sym (c .before .is-zero .ensures) ∙ c .if3 .left in
-    offered-here (beyond (a .last)) (system (records l)) (a .z .e) (recordAt l (a .t)) (x .result) (m .result .e) (x .ensures)
-    (at-if1 .if1 .left) (m .ensures) _
-    (sym (at-is-beyond .is-beyond .ensures) ∙ not-false _ (at-if2 .if2 .left)) other refl refl
+    let m = c .before .before .image in
+    given-here (beyond (a .last)) (a .z .e) (recordAt l (a .t)) (x .result) (m .result .e) (x .ensures)
+    (at-if1 .if1 .left) (m .ensures) _ (sym (c .before .is-beyond .ensures) ∙ not-false _ (c .if2 .left)) refl refl
 
 pub following-spec : {M : Type 1} → statement M
-following-spec =
-    tie.close
-    (tie.spec
-    power-requires
-    returns
-    image-requires
-    is-beyond-requires
-    returns-2
-    total-requires
-    is-zero-requires
-    returns-3
-    returns-4)
+following-spec = tie.close (tie.spec power-requires returns image-requires is-beyond-requires returns-2 returns-3)

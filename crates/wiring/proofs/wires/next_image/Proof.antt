@@ -1,22 +1,25 @@
--- `next_monomial` meets its contract: the loop keeps the best of what the records offer (`Meeting`). Assumes nothing.
+-- `next_image` meets its contract: the loop keeps the best of what the records give (`Meeting`). Assumes nothing.
 use mathlib.Core.Path.{_≡_, refl, sym, _∙_}
 use mathlib.Core.Logic.{⊎-elim}
 use Prim.Native.Nat.{_/_, _-_, _<_}
 use native.Mathlib.Omega.{arith}
 use lib.ListN.{length}
-use Rattle.wiring.specs.Derivative.{image, offers}
-use Rattle.wiring.specs.Terms.{recordAt, records, system}
+use Rattle.wiring.specs.Derivative.{image, gives, images}
+use Rattle.wiring.specs.Terms.{recordAt, records}
 use Rattle.wiring.proofs.terms.Laws.{records-length}
+use Rattle.monomial.specs.Lists.{keep}
 use Rattle.monomial.proofs.order.Laws.{mono-order}
+use Rattle.monomial.proofs.order.Ascending.{keep-asc}
 use Rattle.wiring.specs.Choice.{beyond}
 use Rattle.wiring.proofs.quadratic.Records.{at-record, Meeting, meeting-start, meeting-same, meeting-more, meeting-heads}
+use Rattle.wiring.proofs.wires.Parts.{images-asc, given-sub, images-sub}
 use borrow.Author.Needs.{needs}
 use Rattle.wiring.specs.Panel.{termBytes}
-use Rattle.wiring.proofs.wires.next_monomial.Statement.{statement}
-use Rattle.wiring.proofs.wires.next_monomial.Tie as tie
+use Rattle.wiring.proofs.wires.next_image.Statement.{statement}
+use Rattle.wiring.proofs.wires.next_image.Tie as tie
 
 abbrev Inv-loop : tie.InvT-loop
-Inv-loop terms z last count best₀ t₀ best t = (count ≡ length terms / termBytes) × Meeting (beyond last) (records terms) (z .e) mono-order best₀ t best
+Inv-loop terms z last count best₀ t₀ best t = (count ≡ length terms / termBytes) × Meeting (gives (beyond last) (z .e)) (records terms) (z .e) mono-order best₀ t best
 
 abbrev μ-loop : tie.MeasureT-loop
 μ-loop terms z last count best₀ t₀ best t = count - t
@@ -45,7 +48,7 @@ loop-again c =
     let a = start .args in
     let l = a .terms .now in
     let k = at-loop .loop in
-    let f = offers (beyond (a .last)) (system (records l)) (a .z .e) in
+    let f = gives (beyond (a .last)) (a .z .e) in
     let told = at-record f l (k .t) (omega arith) ∙ sym (c .before .following .ensures .told) in
     let few : k .t < length (records l) = omega (arith, records-length l) in (
       k .inv .0,
@@ -53,9 +56,9 @@ loop-again c =
           (λ w.
           let same-image = at-record (λ r. image r (a .z .e)) l (k .t) (omega arith) ∙ sym (c .before .following .ensures .is (w .0 .taken)) in
           rw (w .2)
-          (meeting-more (beyond (a .last)) (records l) (a .z .e) mono-order _ (k .t) (k .best) _ (recordAt l (k .t)) (k .inv .1) few (told ∙ w .0 .taken)
+          (meeting-more f (records l) (a .z .e) mono-order _ (k .t) (k .best) _ (recordAt l (k .t)) (k .inv .1) few (told ∙ w .0 .taken)
           (λ m b. rw same-image (w .1 .ensures m b))))
-          (λ w. rw (w .1) (meeting-same (beyond (a .last)) (records l) (a .z .e) mono-order _ (k .t) (k .best) (recordAt l (k .t)) (k .inv .1) few (told ∙ w .0 .left)))
+          (λ w. rw (w .1) (meeting-same f (records l) (a .z .e) mono-order _ (k .t) (k .best) (recordAt l (k .t)) (k .inv .1) few (told ∙ w .0 .left)))
           (c .if1 .came),
     )
 
@@ -64,10 +67,13 @@ returns c =
     let a = c .before .before .before .args in
     let l = a .terms .now in
     let k = c .before .loop in
-    meeting-heads (beyond (a .last)) (records l) (a .z .e) _ (k .t) (k .best) refl (k .inv .1) (omega (arith, records-length l))
+    let test = beyond (a .last) in
+    meeting-heads (gives test (a .z .e)) (records l) (a .z .e) _ (k .t) (k .best) refl (k .inv .1) (omega (arith, records-length l))
+    (keep test (images (records l) (a .z .e))) (keep-asc test (images (records l) (a .z .e)) (images-asc (records l) (a .z .e)))
+    (given-sub (records l) (a .z .e) test) (images-sub (records l) (a .z .e) test)
 
-pub next-monomial-spec : {M : Type 1} → statement M
-next-monomial-spec =
+pub next-image-spec : {M : Type 1} → statement M
+next-image-spec =
     tie.close
     (tie.spec
     Inv-loop
