@@ -11,7 +11,6 @@ unsafe extern "C" {
         out_len: usize,
         five: *mut [u64; 5],
     );
-    fn siragumon_check(n: u64, terms: *const u8, terms_len: usize, set: *const u8, set_len: usize, five: *mut [u64; 5]);
     fn siragumon_wire(
         n: u64,
         terms: *const u8,
@@ -43,13 +42,6 @@ pub fn plan(n: u64, cap: u64, limit: u64, terms: &[u8], out: &mut [u8]) -> [u64;
 }
 
 // The timing takes planning alone.
-#[allow(dead_code)]
-pub fn check(n: u64, terms: &[u8], set: &[u8]) -> [u64; 5] {
-    let mut five = [0; 5];
-    unsafe { siragumon_check(n, terms.as_ptr(), terms.len(), set.as_ptr(), set.len(), &mut five) };
-    five
-}
-
 #[allow(dead_code)]
 pub fn wire(n: u64, terms: &[u8], set: &[u8], out: &mut [u8]) -> [u64; 5] {
     let mut five = [0; 5];

@@ -1,6 +1,6 @@
-// Prints how many bytes of stack planning, checking, wiring and thinning take: the stack below is painted, the call
-// runs on it, and then we look how far down the paint is gone. About a hundred bytes of each number are the frames of
-// the caller. Thinning goes as deep as the set is large; some of the sets take every card.
+// Prints how many bytes of stack planning, wiring and thinning take: the stack below is painted, the call runs on it,
+// and then we look how far down the paint is gone. About a hundred bytes of each number are the frames of the caller.
+// Thinning goes as deep as the set is large; some of the sets take every card.
 
 mod panel;
 mod proved;
@@ -44,9 +44,8 @@ fn measured(call: &mut dyn FnMut() -> [u64; 5]) -> ([u64; 5], usize) {
 }
 
 fn main() {
-    let mut most = [0; 4];
-    print!("{:<28} {:>12} {:>13}", "variables: system", "plan: order", "check: code");
-    println!(" {:>12} {:>12}", "wire: code", "thin: code");
+    let mut most = [0; 3];
+    println!("{:<28} {:>12} {:>12} {:>12}", "variables: system", "plan: order", "wire: code", "thin: code");
     for s in systems::SYSTEMS {
         let terms = s.terms.as_flattened();
         let mut sets = vec![0; ROOM];
@@ -54,15 +53,17 @@ fn main() {
         let plan = measured(&mut || proved::plan(s.n, CAP, s.limit, black_box(terms), &mut sets));
         // The first set, or the empty one where planning is not done: the buffer is all zeros then.
         let set = &sets[..SET_BYTES];
-        let check = measured(&mut || proved::check(s.n, black_box(terms), set));
         let wire = measured(&mut || proved::wire(s.n, black_box(terms), set, &mut wires));
+        // The verdict alone may go another way than a list.
+        let (_, verdict) = measured(&mut || proved::wire(s.n, black_box(terms), set, &mut []));
+        let deepest = wire.1.max(verdict);
         let mut subsets = [0; SUBSETS];
         let thin = measured(&mut || proved::thin(s.n, black_box(terms), set, &mut subsets));
-        print!("{:<28} {:>4} {:>7} {:>5} {:>7}", s.name, plan.0[1], plan.1, check.0[0], check.1);
-        println!(" {:>4} {:>7} {:>4} {:>7}", wire.0[0], wire.1, thin.0[0], thin.1);
-        for (m, used) in most.iter_mut().zip([plan.1, check.1, wire.1, thin.1]) {
+        print!("{:<28} {:>4} {:>7} {:>4} {:>7}", s.name, plan.0[1], plan.1, wire.0[0], deepest);
+        println!(" {:>4} {:>7}", thin.0[0], thin.1);
+        for (m, used) in most.iter_mut().zip([plan.1, deepest, thin.1]) {
             *m = used.max(*m);
         }
     }
-    println!("bytes of stack at most: plan {}, check {}, wire {}, thin {}", most[0], most[1], most[2], most[3]);
+    println!("bytes of stack at most: plan {}, wire {}, thin {}", most[0], most[1], most[2]);
 }

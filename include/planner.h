@@ -1,6 +1,5 @@
 /*
- * The patch planner for C: planning, checking, wiring and thinning. Link libplanner_c.a, which `rt staticlib planner_c`
- * makes.
+ * The patch planner for C: planning, wiring and thinning. Link libplanner_c.a, which `rt staticlib planner_c` makes.
  *
  * Numbers. A reply is five numbers, written to `five` in every case: code, order, count, steps, place. A number that
  * the table below does not name is 0.
@@ -16,7 +15,7 @@
  *
  * Calls. There is no state behind them: they may run in any thread and at the same time. They take no heap, call
  * nothing but memcpy and memset, and always return. Stack, measured on x86-64 and rounded up: 12 KB for planning, 6 KB
- * for thinning, 2 KB for each of the others.
+ * for thinning, 2 KB for wiring.
  */
 #ifndef SIRAGUMON_PLANNER_H
 #define SIRAGUMON_PLANNER_H
@@ -44,8 +43,7 @@ enum siragumon_number {
  */
 enum siragumon_code {
     /* plan: all smallest sets; order: size of a set, count of sets, steps.
-       check: the set is quadratic; order: size of the set.
-       wire: the list; order: size of the set, count of records.
+       wire: the set is quadratic, and this is its list; order: size of the set, count of records.
        thin: all smallest quadratic subsets of the set; order: size of a subset, count of subsets, steps: all subsets
        of the set, 2 to the power of its size. */
     SIRAGUMON_DONE = 0,
@@ -61,7 +59,7 @@ enum siragumon_code {
     /* plan: no set with at most cap new signals; order: cap + 1, steps. */
     SIRAGUMON_NONE = 5,
     /* plan: more sets than `out` holds; order: the level, steps with the finding step.
-       wire: a longer list than `out` holds; order: size of the set.
+       wire: the set is quadratic, and its list is longer than `out` holds; order: size of the set.
        thin: more smallest subsets than `out` holds; order: size of a subset, steps as after SIRAGUMON_DONE. */
     SIRAGUMON_FULL = 6,
     /* plan: the next step would pass the limit; order: the level of the step not taken, steps: the limit. */
@@ -126,13 +124,14 @@ enum siragumon_code {
 void siragumon_plan(uint64_t n, uint64_t cap, uint64_t limit, const uint8_t *terms, size_t terms_len, uint8_t *out,
                     size_t out_len, uint64_t five[SIRAGUMON_NUMBERS]);
 
-/* Checks whether a set of new signals makes the system quadratic. */
-void siragumon_check(uint64_t n, const uint8_t *terms, size_t terms_len, const uint8_t *set, size_t set_len,
-                     uint64_t five[SIRAGUMON_NUMBERS]);
-
 /*
- * Wires: writes the wiring list of a quadratic set, for each left signal ascending, each monomial of its derivative
- * ascending. `out` holds out_len / SIRAGUMON_WIRE_BYTES records, rounded down.
+ * Wires: says whether a set of new signals makes the system quadratic, and writes the wiring list of one that does: for
+ * each left signal ascending, each monomial of its derivative ascending. `out` holds out_len / SIRAGUMON_WIRE_BYTES
+ * records, rounded down; SIRAGUMON_WIRES_BYTES are always enough.
+ *
+ * However long `out` is, SIRAGUMON_DONE and SIRAGUMON_FULL say that the set is quadratic, and SIRAGUMON_NOT_QUADRATIC
+ * that it is not. Who wants this verdict alone lends an `out` of length 0: then SIRAGUMON_FULL says that the set is
+ * quadratic and its list is not empty, SIRAGUMON_DONE that it is quadratic and its list is empty.
  */
 void siragumon_wire(uint64_t n, const uint8_t *terms, size_t terms_len, const uint8_t *set, size_t set_len,
                     uint8_t *out, size_t out_len, uint64_t five[SIRAGUMON_NUMBERS]);

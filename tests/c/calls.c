@@ -1,6 +1,6 @@
 /*
- * Calls planning, checking, wiring and thinning as C sees them. Each case runs on junk between guard bytes, and compares
- * the five numbers and every byte of the buffer. Ends with status 1 where one differs.
+ * Calls planning, wiring and thinning as C sees them. Each case runs on junk between guard bytes, and compares the five
+ * numbers and every byte of the buffer. Ends with status 1 where one differs.
  */
 #include "planner.h"
 
@@ -178,17 +178,6 @@ static void plan(const char *name, uint64_t n, uint64_t cap, uint64_t limit, con
     expect(unchanged(&terms, system), name, "changed the terms");
 }
 
-static void check(const char *name, uint64_t n, const uint8_t *system, size_t len, const uint8_t *record, size_t record_len, const uint64_t *five) {
-    cases++;
-    lend(&terms, system, len);
-    lend(&set, record, record_len);
-    lend_row();
-    siragumon_check(n, bytes(&terms), len, bytes(&set), record_len, row + 1);
-    expect_row(name, five);
-    expect(guarded(&terms) && guarded(&set), name, "wrote beside what it read");
-    expect(unchanged(&terms, system) && unchanged(&set, record), name, "changed what it read");
-}
-
 /* A call that lists something of a given set: wiring and thinning. */
 typedef void lister(uint64_t n, const uint8_t *terms, size_t terms_len, const uint8_t *set, size_t set_len, uint8_t *out, size_t out_len, uint64_t *five);
 
@@ -211,19 +200,30 @@ static void wire(const char *name, uint64_t n, const uint8_t *system, size_t len
     list(siragumon_wire, name, n, system, len, record, record_len, room, five, is, is_len);
 }
 
-/* The smallest quadratic subsets of a set, by checking each subset alone. A mask has a bit for each signal, the first
-   signal's the highest: so from the highest mask down the subsets of one size ascend. */
+/* The verdict alone, into no buffer and into the longest that holds no record. */
+static void verdict(const char *name, uint64_t n, const uint8_t *system, size_t len, const uint8_t *record, size_t record_len, const uint64_t *five) {
+    wire(name, n, system, len, record, record_len, 0, five, NO_BYTES);
+    wire(name, n, system, len, record, record_len, SIRAGUMON_WIRE_BYTES - 1, five, NO_BYTES);
+}
+
+static int is_quadratic(uint64_t n, const uint8_t *system, size_t len, const uint8_t *record) {
+    uint64_t five[SIRAGUMON_NUMBERS];
+    siragumon_wire(n, system, len, record, SIRAGUMON_SET_BYTES, NULL, 0, five);
+    return five[SIRAGUMON_CODE] == SIRAGUMON_DONE || five[SIRAGUMON_CODE] == SIRAGUMON_FULL;
+}
+
+/* The smallest quadratic subsets of a set, by the verdict on each subset alone. A mask has a bit for each signal, the
+   first signal's the highest: so from the highest mask down the subsets of one size ascend. */
 static struct {
     size_t count;
     uint8_t sets[SIRAGUMON_SUBSETS_BYTES];
-} by_checks;
+} by_verdicts;
 
-static void check_subsets(uint64_t n, const uint8_t *system, size_t len, const uint8_t *record, size_t size) {
+static void judge_subsets(uint64_t n, const uint8_t *system, size_t len, const uint8_t *record, size_t size) {
     size_t least = size;
-    by_checks.count = 0;
+    by_verdicts.count = 0;
     for (unsigned mask = 1u << size; mask-- > 0;) {
         uint8_t subset[SIRAGUMON_SET_BYTES] = {0};
-        uint64_t five[SIRAGUMON_NUMBERS];
         size_t kept = 0;
         for (size_t i = 0; i < size; i++) {
             if ((mask >> (size - 1 - i) & 1) == 0) continue;
@@ -231,30 +231,29 @@ static void check_subsets(uint64_t n, const uint8_t *system, size_t len, const u
                 subset[SIRAGUMON_VARIABLES * kept + j] = record[SIRAGUMON_VARIABLES * i + j];
             kept++;
         }
-        siragumon_check(n, system, len, subset, sizeof subset, five);
-        if (five[SIRAGUMON_CODE] != SIRAGUMON_DONE || kept > least) continue;
-        if (kept < least) by_checks.count = 0;
+        if (kept > least || !is_quadratic(n, system, len, subset)) continue;
+        if (kept < least) by_verdicts.count = 0;
         least = kept;
-        for (size_t j = 0; j < sizeof subset; j++) by_checks.sets[SIRAGUMON_SET_BYTES * by_checks.count + j] = subset[j];
-        by_checks.count++;
+        for (size_t j = 0; j < sizeof subset; j++) by_verdicts.sets[SIRAGUMON_SET_BYTES * by_verdicts.count + j] = subset[j];
+        by_verdicts.count++;
     }
 }
 
 static struct lent listed;
 
-/* Where it is done, the list is also what checking each subset gives, and each of its sets is wired. */
+/* Where it is done, the list is also what the verdict on each subset gives, and each of its sets is wired. */
 static void thin(const char *name, uint64_t n, const uint8_t *system, size_t len, const uint8_t *record, size_t record_len, size_t room,
                  const uint64_t *five, const uint8_t *is, size_t is_len) {
     list(siragumon_thin, name, n, system, len, record, record_len, room, five, is, is_len);
     if (five[SIRAGUMON_CODE] != SIRAGUMON_DONE && five[SIRAGUMON_CODE] != SIRAGUMON_FULL) return;
-    siragumon_check(n, system, len, record, record_len, row + 1);
-    check_subsets(n, system, len, record, row[1 + SIRAGUMON_ORDER]);
-    size_t found = by_checks.count;
+    siragumon_wire(n, system, len, record, record_len, NULL, 0, row + 1);
+    judge_subsets(n, system, len, record, row[1 + SIRAGUMON_ORDER]);
+    size_t found = by_verdicts.count;
     if (five[SIRAGUMON_CODE] == SIRAGUMON_FULL) {
         expect(room / SIRAGUMON_SET_BYTES < found, name, "full, where there is room for all");
         return;
     }
-    expect(found == five[SIRAGUMON_COUNT] && holds(&out, by_checks.sets, SIRAGUMON_SET_BYTES * found), name, "another list than by checking");
+    expect(found == five[SIRAGUMON_COUNT] && holds(&out, by_verdicts.sets, SIRAGUMON_SET_BYTES * found), name, "another list than by verdicts");
     listed = out;
     for (size_t i = 0; i < found; i++) {
         cases++;
@@ -264,9 +263,9 @@ static void thin(const char *name, uint64_t n, const uint8_t *system, size_t len
     }
 }
 
-/* A refusal of the three that take a set: the numbers, and a buffer of zeros. */
+/* A refusal of the two that take a set, whatever is lent: the numbers, and a buffer of zeros. */
 static void refused(const char *name, uint64_t n, const uint8_t *system, size_t len, const uint8_t *record, size_t record_len, const uint64_t *five) {
-    check(name, n, system, len, record, record_len, five);
+    verdict(name, n, system, len, record, record_len, five);
     wire(name, n, system, len, record, record_len, 101, five, NO_BYTES);
     thin(name, n, system, len, record, record_len, 101, five, NO_BYTES);
 }
@@ -290,16 +289,38 @@ static void worked(void) {
     static const uint8_t list[] = {1, 1, 3, 0, COEFFICIENT(1), 2, 2, 3, 0, COEFFICIENT(-1)};
     wire("two that cancel", 2, BYTES(cancelling), BYTES(set_x1x2), SIRAGUMON_WIRES_BYTES, FIVE(0, 1, 2, 0, 0), BYTES(list));
     wire("x'=x^4+x^3 of six", 6, BYTES(x4_x3), both_sets, SIRAGUMON_SET_BYTES, SIRAGUMON_WIRES_BYTES, FIVE(0, 2, 6, 0, 0), BYTES(first_wired));
-    check("Rabinovich-Fabrikant", 3, BYTES(waves), BYTES(set_waves), FIVE(0, 3, 0, 0, 0));
+    verdict("Rabinovich-Fabrikant", 3, BYTES(waves), BYTES(set_waves), FIVE(6, 3, 0, 0, 0));
 
-    check("coefficient 1,000,000", 1, BYTES(coefficient_in), BYTES(empty), FIVE(0, 0, 0, 0, 0));
+    static const uint8_t one[] = {1, 0, 1, 0, COEFFICIENT(SIRAGUMON_COEFFICIENT_MOST)};
+    wire("coefficient 1,000,000", 1, BYTES(coefficient_in), BYTES(empty), sizeof one, FIVE(0, 0, 1, 0, 0), BYTES(one));
+    verdict("coefficient 1,000,000", 1, BYTES(coefficient_in), BYTES(empty), FIVE(6, 0, 0, 0, 0));
     refused("coefficient 1,000,001", 1, BYTES(coefficient_out), BYTES(empty), FIVE(3, 0, 0, 0, 1));
-    check("exponent 9", 1, BYTES(exponent_in), BYTES(empty), FIVE(9, 0, 0, 0, 1));
+    verdict("exponent 9", 1, BYTES(exponent_in), BYTES(empty), FIVE(9, 0, 0, 0, 1));
     refused("exponent 10", 1, BYTES(exponent_out), BYTES(empty), FIVE(3, 0, 0, 0, 1));
-    check("32 records", 6, many, SIRAGUMON_TERMS_BYTES, BYTES(empty), FIVE(0, 0, 0, 0, 0));
+    verdict("32 records", 6, many, SIRAGUMON_TERMS_BYTES, BYTES(empty), FIVE(6, 0, 0, 0, 0));
     plan("32 records", 6, CAP, LIMIT, many, SIRAGUMON_TERMS_BYTES, ROOM, FIVE(0, 0, 1, 1, 0), BYTES(empty));
     refused("33 records", 6, BYTES(many), BYTES(empty), FIVE(2, 0, 0, 0, 0));
     refused("x'=x twice", 1, BYTES(twice), BYTES(empty), FIVE(4, 0, 0, 0, 2));
+}
+
+/* The verdict does not hang on the room: full and done are quadratic, done into no room where the list is empty. */
+static void verdicts(void) {
+    verdict("x'=x^3", 1, BYTES(x3), BYTES(set_x2), FIVE(6, 1, 0, 0, 0));
+    verdict("x'=x^4+x^3", 1, BYTES(x4_x3), both_sets, SIRAGUMON_SET_BYTES, FIVE(6, 2, 0, 0, 0));
+    verdict("two that cancel", 2, BYTES(cancelling), BYTES(set_x1x2), FIVE(6, 1, 0, 0, 0));
+    verdict("six cubes", 6, BYTES(cubes), BYTES(squares), FIVE(6, 6, 0, 0, 0));
+    verdict("x^54", 1, BYTES(x1), BYTES(power_in), FIVE(6, 1, 0, 0, 0));
+
+    verdict("no records", 1, NO_BYTES, BYTES(empty), FIVE(0, 0, 0, 0, 0));
+    verdict("no records, a signal", 1, NO_BYTES, BYTES(set_x2), FIVE(0, 1, 0, 0, 0));
+    verdict("no records, six signals", 6, NO_BYTES, BYTES(squares), FIVE(0, 6, 0, 0, 0));
+    wire("no records, room for every list", 6, NO_BYTES, BYTES(squares), SIRAGUMON_WIRES_BYTES, FIVE(0, 6, 0, 0, 0), NO_BYTES);
+
+    verdict("one signal too few", 1, BYTES(x4_x3), BYTES(set_x2), FIVE(9, 1, 0, 0, 2));
+    wire("one signal too few, room for every list", 1, BYTES(x4_x3), BYTES(set_x2), SIRAGUMON_WIRES_BYTES, FIVE(9, 1, 0, 0, 2), NO_BYTES);
+    /* the variable has a record and the new signal none: nothing of the list is left */
+    wire("x'=x^4 with x^2, room for every list", 1, BYTES(x4), BYTES(set_x2), SIRAGUMON_WIRES_BYTES, FIVE(9, 1, 0, 0, 2), NO_BYTES);
+    wire("x'=x^4 alone, room for every list", 1, BYTES(x4), BYTES(empty), SIRAGUMON_WIRES_BYTES, FIVE(9, 0, 0, 0, 1), NO_BYTES);
 }
 
 /* What can go from sets made by hand. */
@@ -376,7 +397,6 @@ static void refusals(void) {
     refused("twice before a later term", 1, BYTES(twice_then_out), BYTES(empty), FIVE(4, 0, 0, 0, 2));
     refused("a term before a later twice", 1, BYTES(out_then_twice), BYTES(empty), FIVE(3, 0, 0, 0, 2));
     refused("the set before what it makes", 1, BYTES(x4), BYTES(falling), FIVE(8, 0, 0, 0, 0));
-    wire("not quadratic before no room", 1, BYTES(x4), BYTES(set_x2), 0, FIVE(9, 1, 0, 0, 2), NO_BYTES);
     thin("not quadratic before no room", 1, BYTES(x4), BYTES(set_x2), 0, FIVE(9, 1, 0, 0, 2), NO_BYTES);
 }
 
@@ -411,7 +431,7 @@ static void lengths(void) {
 
 /* Where the length is 0, NULL will do. */
 static void null(void) {
-    cases += 8;
+    cases += 9;
     lend_row();
     siragumon_plan(1, CAP, LIMIT, NULL, 0, NULL, 0, row + 1);
     expect_row("NULL terms and buffer", FIVE(6, 0, 0, 1, 0));
@@ -419,7 +439,7 @@ static void null(void) {
     siragumon_plan(1, CAP, LIMIT, x3, sizeof x3, NULL, 0, row + 1);
     expect_row("NULL buffer", FIVE(6, 1, 0, 6, 0));
     lend_row();
-    siragumon_check(1, NULL, 0, NULL, 0, row + 1);
+    siragumon_wire(1, NULL, 0, NULL, 0, NULL, 0, row + 1);
     expect_row("NULL set", FIVE(2, 0, 0, 0, 0));
     lend_row();
     siragumon_wire(1, NULL, 0, empty, sizeof empty, NULL, 0, row + 1);
@@ -427,6 +447,9 @@ static void null(void) {
     lend_row();
     siragumon_wire(1, x3, sizeof x3, set_x2, sizeof set_x2, NULL, 0, row + 1);
     expect_row("a list into NULL", FIVE(6, 1, 0, 0, 0));
+    lend_row();
+    siragumon_wire(1, x4, sizeof x4, set_x2, sizeof set_x2, NULL, 0, row + 1);
+    expect_row("no list into NULL", FIVE(9, 1, 0, 0, 2));
     lend_row();
     siragumon_thin(1, NULL, 0, empty, sizeof empty, NULL, 0, row + 1);
     expect_row("the empty set, thinned into NULL", FIVE(6, 0, 0, 1, 0));
@@ -468,6 +491,7 @@ int main(void) {
     fill_many();
     fill_cubes();
     worked();
+    verdicts();
     thinned();
     refusals();
     lengths();

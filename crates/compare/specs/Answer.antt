@@ -1,16 +1,14 @@
--- What one case of a batch comes to: planned, checked, wired or thinned by the numbers of its head. Assumes nothing.
+-- What one case of a batch comes to: planned, wired or thinned by the numbers of its head. Assumes nothing.
 use mathlib.Core.Path.{_≡_}
 use mathlib.Core.Bool.{cond}
 use mathlib.Core.List.{List}
 use Prim.Native.Nat.{ℕ}
 use lib.Dec.{eqb}
-use lib.ListN.{replicate}
 use Rattle.wiring.specs.Reply.{Outcome, inOrder}
-use Rattle.wiring.specs.Answers.{checked, wired}
+use Rattle.wiring.specs.Answers.{wired}
 use Rattle.walk.specs.Plan.{planned}
 use Rattle.thin.specs.Thin.{thinned}
 use Rattle.lines.specs.Text.{Stands}
-use Rattle.lines.specs.Answer.{replyLine}
 use Rattle.lines.specs.Case.{caseLine}
 use Rattle.compare.specs.declared.head.Head.{Head}
 
@@ -19,21 +17,20 @@ pub record Case : Type 0 where
   pub text : List ℕ
   pub bytes : List ℕ
 
--- the buffer before the operation; checking leaves it so
+-- each byte of the buffer before the operation
 abbrev pub filler : ℕ
 filler = 165
 
 abbrev pub outcomeCase : Outcome → Case
 outcomeCase o = record { text = caseLine (inOrder (o .said)) (o .bytes); bytes = o .bytes }
 
--- operation 1 plans, 2 checks, 3 wires, and another thins; the buffer has so many bytes
+-- operation 1 plans, 2 wires, and another thins; the buffer has so many bytes
 unfoldable pub caseOf : Head → List ℕ → List ℕ → ℕ → Case
 caseOf h terms set size =
     let plan = outcomeCase (planned (h .n) (h .cap) (h .limit) terms size) in
-    let check : Case = record { text = replyLine (inOrder (checked (h .n) terms set)); bytes = replicate size filler } in
     let wire = outcomeCase (wired (h .n) terms set size) in
     let thin = outcomeCase (thinned (h .n) terms set size) in
-    cond (eqb (h .operation) 1) plan (cond (eqb (h .operation) 2) check (cond (eqb (h .operation) 3) wire thin))
+    cond (eqb (h .operation) 1) plan (cond (eqb (h .operation) 2) wire thin)
 
 -- its line stands in a line, and its bytes in the buffer
 abbrev pub Answers : Case → ℕ → List ℕ → List ℕ → List ℕ → Type 0

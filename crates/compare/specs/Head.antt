@@ -11,7 +11,7 @@ headBytes = 32
 
 -- the operations are numbered from 1
 abbrev pub operations : ℕ
-operations = 4
+operations = 3
 
 -- the longest set, terms and buffer that are answered
 abbrev pub longestSet : ℕ

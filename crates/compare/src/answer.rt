@@ -1,6 +1,5 @@
 // The answer to one case: its line, and the buffer as the operation leaves it.
 use super::head::Head;
-use lines::answer;
 use lines::case;
 use lines::lengths::LINE_BYTES;
 use thin::thin as thinning;
@@ -42,10 +41,6 @@ pub(crate) fn answer_case(
         return case::case_line(reply::numbers(planned), buffer, line);
     }
     if operation == 2 {
-        let checked = answers::check(h.n, terms, set);
-        return answer::reply_line(reply::numbers(checked), line);
-    }
-    if operation == 3 {
         let wired = answers::wire(h.n, terms, set, buffer);
         return case::case_line(reply::numbers(wired), buffer, line);
     }

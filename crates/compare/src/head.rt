@@ -7,7 +7,7 @@ ghost use Rattle.compare.specs.Head.{headBytes, two, four, eight, headOf
 pub(crate) const HEAD_BYTES: usize = 32;
 
 // The operations are numbered from 1.
-const OPERATIONS: u64 = 4;
+const OPERATIONS: u64 = 3;
 
 // The longest set, terms and buffer that are answered.
 const LONGEST_SET: usize = 255;

@@ -6,8 +6,7 @@ use wiring::answers;
 use wiring::reply;
 ghost use mathlib.Core.Path.{_≡_};
 ghost use lib.ListN.{length};
-ghost use Rattle.wiring.specs.Reply.{inOrder};
-ghost use Rattle.wiring.specs.Answers.{checked, wired};
+ghost use Rattle.wiring.specs.Answers.{wired};
 ghost use Rattle.walk.specs.Plan.{planned};
 ghost use Rattle.thin.specs.Thin.{thinned};
 ghost use Rattle.planner_c.specs.Calls.{answer, given};
@@ -28,16 +27,7 @@ pub extern "C" fn siragumon_plan(
     *five = reply::numbers(r);
 }
 
-// Checks a set, and writes nothing but the five numbers.
-#[no_mangle]
-pub extern "C" fn siragumon_check(n: u64, terms: &[u8], set: &[u8], five: &mut [u64; 5])
-    ensures { λ _. ⌜ now (five .exit) ≡ inOrder (checked n (now (terms .entry)) (now (set .entry))) ⌝ }
-{
-    let r = answers::check(n, terms, set);
-    *five = reply::numbers(r);
-}
-
-// Wires: the list of a quadratic set in the buffer.
+// Wires: judges a set, and writes the list of a quadratic one into the buffer. Who wants the verdict alone lends an empty buffer.
 #[no_mangle]
 pub extern "C" fn siragumon_wire(
     n: u64,

@@ -3,18 +3,16 @@ use mathlib.Core.Path.{_≡_, refl, sym, subst, _∙_}
 use mathlib.Core.List.{List}
 use Prim.Native.Nat.{ℕ}
 use borrow.Author.Tests.{eq-eqb, ne-eqb}
-use lib.ListN.{replicate}
 use Rattle.wiring.specs.Reply.{Outcome, numbers, inOrder, outcome}
-use Rattle.wiring.specs.Answers.{checked, wired}
+use Rattle.wiring.specs.Answers.{wired}
 use Rattle.wiring.specs.declared.reply.Reply.{Reply}
 use Rattle.walk.specs.Plan.{planned}
 use Rattle.thin.specs.Thin.{thinned}
 use Rattle.lines.specs.Text.{Stands}
-use Rattle.lines.specs.Answer.{replyLine}
 use Rattle.lines.specs.Case.{caseLine}
 use Rattle.lines.proofs.text.Laws.{stands-one}
 use Rattle.compare.specs.declared.head.Head.{Head}
-use Rattle.compare.specs.Answer.{filler, Case, outcomeCase, caseOf, Answers}
+use Rattle.compare.specs.Answer.{Case, outcomeCase, caseOf, Answers}
 
 -- a reply and a buffer, told as they are
 told : (r : Reply) (o : Outcome) (five bytes : List ℕ) {end : ℕ} {l m : List ℕ} → outcome r bytes ≡ o
@@ -28,25 +26,17 @@ module _ (h : Head) (terms set : List ℕ) (size now : ℕ) (same : now ≡ size
   unfolding caseOf
   plan-told p r five bytes e f s = rw (eq-eqb (h .operation) 1 p) (told r _ five bytes (rw same at e) f s)
 
-  pub check-told : (h .operation ≡ 1 → ⊥) → h .operation ≡ 2 → (r : Reply) (five bytes : List ℕ)
-      → numbers r ≡ checked (h .n) terms set → five ≡ inOrder (numbers r)
-      → bytes ≡ replicate now filler → Stands (replyLine five) end l m → Answers (caseOf h terms set size) end l m bytes
-  unfolding caseOf
-  check-told p q r five bytes e f b s = rw (ne-eqb (h .operation) 1 p, eq-eqb (h .operation) 2 q) (rw (f, e) at s, rw same at b)
-
-  pub wire-told : (h .operation ≡ 1 → ⊥) → (h .operation ≡ 2 → ⊥) → h .operation ≡ 3 → (r : Reply) (five bytes : List ℕ)
+  pub wire-told : (h .operation ≡ 1 → ⊥) → h .operation ≡ 2 → (r : Reply) (five bytes : List ℕ)
       → outcome r bytes ≡ wired (h .n) terms set now → five ≡ inOrder (numbers r)
       → Stands (caseLine five bytes) end l m → Answers (caseOf h terms set size) end l m bytes
   unfolding caseOf
-  wire-told p q w r five bytes e f s =
-      rw (ne-eqb (h .operation) 1 p, ne-eqb (h .operation) 2 q, eq-eqb (h .operation) 3 w) (told r _ five bytes (rw same at e) f s)
+  wire-told p q r five bytes e f s = rw (ne-eqb (h .operation) 1 p, eq-eqb (h .operation) 2 q) (told r _ five bytes (rw same at e) f s)
 
-  pub thin-told : (h .operation ≡ 1 → ⊥) → (h .operation ≡ 2 → ⊥) → (h .operation ≡ 3 → ⊥) → (r : Reply) (five bytes : List ℕ)
+  pub thin-told : (h .operation ≡ 1 → ⊥) → (h .operation ≡ 2 → ⊥) → (r : Reply) (five bytes : List ℕ)
       → outcome r bytes ≡ thinned (h .n) terms set now → five ≡ inOrder (numbers r)
       → Stands (caseLine five bytes) end l m → Answers (caseOf h terms set size) end l m bytes
   unfolding caseOf
-  thin-told p q w r five bytes e f s =
-      rw (ne-eqb (h .operation) 1 p, ne-eqb (h .operation) 2 q, ne-eqb (h .operation) 3 w) (told r _ five bytes (rw same at e) f s)
+  thin-told p q r five bytes e f s = rw (ne-eqb (h .operation) 1 p, ne-eqb (h .operation) 2 q) (told r _ five bytes (rw same at e) f s)
 
 -- two answers that the promise allows are equal
 pub answer-determined : (c : Case) {e f : ℕ} {l m n b d : List ℕ} → Answers c e l m b → Answers c f l n d → (e ≡ f) × (m ≡ n) × (b ≡ d)

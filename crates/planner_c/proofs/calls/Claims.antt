@@ -1,23 +1,21 @@
 -- What C gets of each call, said of the five numbers and the bytes alone: whose reply they are and what it means; done, none, full and spent of
--- planning, done of checking and wiring, and done and full of thinning, by their numbers. Assumes nothing.
+-- planning, done of wiring and its verdict, and done and full of thinning, by their numbers. Assumes nothing.
 use mathlib.Core.Path.{_≡_, sym, ap, _∙_}
 use mathlib.Core.Logic.{_↔_}
 use mathlib.Core.List.{List, [], _∷_}
-use Prim.Native.Nat.{ℕ, _/_}
-use lib.ListN.{length}
-use Rattle.wiring.specs.Panel.{setBytes}
+use Prim.Native.Nat.{ℕ, _/_, _<_}
+use Rattle.wiring.specs.Panel.{setBytes, wireBytes}
 use Rattle.wiring.specs.Poly.{plain}
 use Rattle.wiring.specs.Quadratic.{Quadratic}
 use Rattle.wiring.specs.Reply.{numbers, inOrder, Outcome, outcome}
 use Rattle.wiring.specs.Terms.{records, system}
-use Rattle.wiring.specs.Sets.{setOf}
-use Rattle.wiring.specs.Answers.{verdict, checked, wired}
+use Rattle.wiring.specs.Answers.{wired}
 use Rattle.wiring.specs.declared.reply.Reply.{Reply}
 use Rattle.wiring.specs.declared.reply.Reply.the-variants.{Done, Setting, Length, Term, Twice, Nothing, Full, Spent, BadSet, NotQuadratic}
-use Rattle.wiring.specs.Claims.{WellFormed, signalsIn, derivativeIn, CheckSays, Patch}
+use Rattle.wiring.specs.Claims.{signalsIn, derivativeIn, Patch, TellsVerdict, VerdictAlone}
 use Rattle.wiring.proofs.reply.Laws.{same-reply}
-use Rattle.wiring.proofs.answers.Exact.{verdict-says, check-exact}
 use Rattle.wiring.proofs.answers.Wired.{wire-exact, wire-replies, wire-done}
+use Rattle.wiring.proofs.answers.Alone.{wire-verdict, verdict-alone}
 use Rattle.walk.specs.Walk.{bare}
 use Rattle.walk.specs.Plan.{planned}
 use Rattle.walk.specs.Claims.{Lacks, Fills, Spends, Planned, PlanSays, planLeaves}
@@ -98,21 +96,6 @@ module _ (n cap limit : ℕ) (terms : List ℕ) (size : ℕ) where
       ↔ Stopped n cap limit terms size (Spends bare n (system (records terms)) limit (size / setBytes) cap) o k bytes
   siragumon-plan-spent o k bytes = exactly (Spent o k) bytes (λ s. ((s .accepted, s .exact), s .zeros))
 
--- ---- checking
-module _ (n : ℕ) (terms set : List ℕ) where
-  pub siragumon-check-means : (five : List ℕ) → five ≡ inOrder (checked n terms set) → Heard (CheckSays n terms set) five
-  siragumon-check-means five e =
-      let says : CheckSays n terms set (verdict n terms set) = verdict-says n terms set in
-      record { reply = verdict n terms set; numbered = e ∙ ap inOrder (sym (check-exact n terms set (verdict n terms set) .1 says)); means = says }
-
-  -- 0, order, 0, 0, 0: exactly where Definition 1 holds of the given set
-  pub siragumon-check-done : (o c k : ℕ) → ((0 ∷ o ∷ c ∷ k ∷ 0 ∷ []) ≡ inOrder (checked n terms set))
-      ↔ (WellFormed n terms set × (o ≡ length (setOf set)) × (c ≡ 0) × (k ≡ 0) × Quadratic plain (signalsIn n set) (derivativeIn terms))
-  siragumon-check-done o c k = (
-    (λ e. check-exact n terms set (Done o c k) .0 (in-order-one (numbers (Done o c k)) (checked n terms set) e)),
-    λ h. ap inOrder (check-exact n terms set (Done o c k) .1 h),
-  )
-
 -- ---- wiring
 module _ (n : ℕ) (terms set : List ℕ) (size : ℕ) where
   wire-means : (r : Reply) (bytes : List ℕ) → outcome r bytes ≡ wired n terms set size → WireMeans n terms set size r bytes
@@ -127,15 +110,26 @@ module _ (n : ℕ) (terms set : List ℕ) (size : ℕ) where
   wire-means (Nothing o k) bytes e = wire-exact n terms set size (Nothing o k) bytes .0 e .0
   wire-means (Spent o k) bytes e = wire-exact n terms set size (Spent o k) bytes .0 e .0
 
+  heard-wire : (Means : Reply → List ℕ → Type 0) → ((r : Reply) (bytes : List ℕ) → outcome r bytes ≡ wired n terms set size → Means r bytes)
+      → (five bytes : List ℕ) → answer five bytes ≡ given (wired n terms set size) → Heard (λ r. Means r bytes) five
+  heard-wire = let some = wire-replies n terms set size in heard (wired n terms set size) (some .0) _ (some .1)
+
   pub siragumon-wire-means : (five bytes : List ℕ) → answer five bytes ≡ given (wired n terms set size) → Heard (λ r. WireMeans n terms set size r bytes) five
-  siragumon-wire-means five bytes e =
-      let some = wire-replies n terms set size in
-      heard (wired n terms set size) (some .0) _ (some .1) (WireMeans n terms set size) wire-means five bytes e
+  siragumon-wire-means = heard-wire (WireMeans n terms set size) wire-means
 
   -- 0, order, count, 0, 0: Definition 1 holds of the given set, and the buffer holds its list, which is correct, then zeros
   pub siragumon-wire-done : (o c k : ℕ) (bytes : List ℕ) → answer (0 ∷ o ∷ c ∷ k ∷ 0 ∷ []) bytes ≡ given (wired n terms set size)
       → Quadratic plain (signalsIn n set) (derivativeIn terms) × Patch n terms set c bytes
   siragumon-wire-done o c k bytes e = let m = wire-means (Done o c k) bytes (given-exact (Done o c k) bytes (wired n terms set size) .0 e) in (m .0 .1, m .1)
+
+  -- the code, whatever the buffer: 0 or 6 exactly where Definition 1 holds of the given set, 9 exactly where it does not
+  pub siragumon-wire-verdict : (five bytes : List ℕ) → answer five bytes ≡ given (wired n terms set size) → Heard (TellsVerdict n terms set) five
+  siragumon-wire-verdict = heard-wire (λ r bytes. TellsVerdict n terms set r) (wire-verdict n terms set size)
+
+  -- and into a buffer that holds no record, the empty one among them: 0 exactly where the list is empty besides, 6 exactly where it is not
+  pub siragumon-verdict-alone : size < wireBytes → (five bytes : List ℕ) → answer five bytes ≡ given (wired n terms set size)
+      → Heard (VerdictAlone n terms set) five
+  siragumon-verdict-alone short = heard-wire (λ r bytes. VerdictAlone n terms set r) (λ r bytes e. verdict-alone n terms set size r bytes e short)
 
 -- ---- thinning
 module _ (n : ℕ) (terms set : List ℕ) (size : ℕ) where

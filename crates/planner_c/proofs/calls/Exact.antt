@@ -5,7 +5,7 @@ use mathlib.Core.List.{List}
 use Prim.Native.Nat.{ℕ}
 use lib.ListN.{getD}
 use Rattle.wiring.specs.Reply.{Numbers, numbers, five, inOrder, Outcome, outcome}
-use Rattle.wiring.specs.Answers.{checked, wired}
+use Rattle.wiring.specs.Answers.{wired}
 use Rattle.wiring.specs.declared.reply.Reply.{Reply}
 use Rattle.walk.specs.Plan.{planned}
 use Rattle.thin.specs.Thin.{thinned}
@@ -20,9 +20,6 @@ determined o a a' b b' e e' =
 pub siragumon-plan-determined : (n cap limit : ℕ) (terms : List ℕ) (size : ℕ) (a a' b b' : List ℕ)
     → answer a b ≡ given (planned n cap limit terms size) → answer a' b' ≡ given (planned n cap limit terms size) → (a ≡ a') × (b ≡ b')
 siragumon-plan-determined n cap limit terms size = determined (planned n cap limit terms size)
-
-pub siragumon-check-determined : (n : ℕ) (terms set a a' : List ℕ) → a ≡ inOrder (checked n terms set) → a' ≡ inOrder (checked n terms set) → a ≡ a'
-siragumon-check-determined n terms set a a' e e' = e ∙ sym e'
 
 pub siragumon-wire-determined : (n : ℕ) (terms set : List ℕ) (size : ℕ) (a a' b b' : List ℕ)
     → answer a b ≡ given (wired n terms set size) → answer a' b' ≡ given (wired n terms set size) → (a ≡ a') × (b ≡ b')
