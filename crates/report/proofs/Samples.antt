@@ -16,12 +16,12 @@ use Rattle.wiring.specs.Quadratic.{factor, inV2, unmet, nonsquares}
 use Rattle.wiring.specs.Choice.{cheaper, chosen}
 use Rattle.wiring.specs.Sets.{places, sizeOf, setOf, ascending, monomialRight, setRight, setRecord}
 use Rattle.wiring.specs.Wires.{firstOf, secondOf, row as rowOf, rowsFrom, wiring, wireRecord}
-use Rattle.wiring.specs.Answers.{countRight, firstUnmet, judged, recordJudged, verdict, listed, wired}
+use Rattle.wiring.specs.Answers.{countRight, firstUnmet, judged, recordJudged, verdict, listed, told, wired}
 use Rattle.walk.specs.Walk.{added, child, opens, ends, tried, after, opened, level, kept, onward, run}
 use Rattle.walk.specs.Plan.{settled, levels, plan, setsBytes, said, settingsRight, planned}
 use Rattle.walk.proofs.Worked.{padded, plus, minus}
 use Rattle.thin.specs.Subsets.{subsets}
-use Rattle.thin.specs.Thin.{leastSize, quadraticOnes, least, thinnest, thinning, thinned}
+use Rattle.thin.specs.Thin.{leastSize, quadraticOnes, least, thinnest, thinning, thinnedBy, thinned}
 use Rattle.lines.specs.Text.{decimalWithin, decimal, signedText, joined}
 use Rattle.lines.specs.Answer.{replyLine, exponents, setText, wireLine}
 use Rattle.lines.proofs.Samples.{written, line}
@@ -140,8 +140,8 @@ table =
 sampled : map (λ r. r .got) table ≡ map (λ r. r .want) table
 unfolding table row powersOf thinRow wireRow padded plus minus example wiring-set written line report thinReport wireReport linesOf setLines wireLines slots resultsOf results thinResults
     wireResults wiringOf decimalWithin decimal
-    signedText joined replyLine exponents setText wireLine planned thinned thinning thinnest least quadraticOnes leastSize subsets settingsRight said setsBytes plan levels settled run onward
-    kept level opened after ends tried opens child added cheaper chosen pairs divisors score setRecord wired listed verdict recordJudged judged firstUnmet
+    signedText joined replyLine exponents setText wireLine planned thinned thinnedBy thinning thinnest least quadraticOnes leastSize subsets settingsRight said setsBytes plan levels settled run onward
+    kept level opened after ends tried opens child added cheaper chosen pairs divisors score setRecord wired told listed verdict recordJudged judged firstUnmet
     countRight records lengthRight exponentsRight coefficientRight termRight faultFrom equation system places sizeOf setOf ascending monomialRight
     setRight firstOf secondOf rowOf rowsFrom wiring wireRecord signals factor inV2 unmet nonsquares partsFrom derivative coeff times support signed
     unsigned isZero vars any some all keep place gather below pairwise pointwise dictionary insertBy arrangeBy

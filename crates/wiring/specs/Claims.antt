@@ -273,6 +273,8 @@ pub record Unquadratic (n : ℕ) (terms set : List ℕ) : Type 0 where
 pub record TellsVerdict (n : ℕ) (terms set : List ℕ) (r : Reply) : Type 0 where
   pub quadratic : ((numbers r .code ≡ 0) ⊎ (numbers r .code ≡ 6)) ↔ QuadraticIn n terms set
   pub not-quadratic : (numbers r .code ≡ 9) ↔ Unquadratic n terms set
+  -- every other code says that what was given is not well-formed
+  pub refused : ((numbers r .code ≡ 0 → ⊥) × (numbers r .code ≡ 6 → ⊥) × (numbers r .code ≡ 9 → ⊥)) ↔ (WellFormed n terms set → ⊥)
 
 -- and where the buffer is shorter than a record, done says besides that there is nothing to list, and full that there is something
 pub record VerdictAlone (n : ℕ) (terms set : List ℕ) (r : Reply) : Type 0 where

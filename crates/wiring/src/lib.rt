@@ -1,4 +1,4 @@
-// Derivatives, checking and wiring: term and set records with their refusals, V and V2, nonsquares, the wiring list, the reply.
+// Derivatives and wiring: term and set records with their refusals, V and V2, nonsquares, verdict and wiring list in one, the reply.
 //
 // Rests on what the crate monomial promises. Every operation takes its bytes as they are and refuses what breaks a rule.
 pub mod answers;
@@ -7,6 +7,7 @@ pub mod choice;
 pub mod coefficient;
 pub mod derivative;
 pub mod panel;
+pub mod parts;
 pub mod quadratic;
 pub mod reply;
 pub mod sets;

@@ -1,26 +1,20 @@
 // The wiring list, judged and written in one pass: a record that has room is written, and a monomial that no two signals multiply to ends it.
-use super::choice;
 use super::choice::Pick;
 use super::coefficient;
-use super::derivative;
-use super::panel::TERM_BYTES;
 use super::panel::WIRE_BYTES;
+use super::parts;
 use super::signals::Signals;
 use monomial::Monomial;
 ghost use mathlib.Core.Path.{_≡_};
-ghost use mathlib.Core.Bool.{true};
 ghost use mathlib.Core.List.{List, [], _∷_, _++_};
 ghost use Prim.Native.Nat.{_+_, _*_, _≤_, _<_};
 ghost use lib.ListN.{length, getD};
 ghost use lib.Seq.{paste};
-ghost use Rattle.monomial.specs.Lists.{keep};
-ghost use Rattle.monomial.specs.Product.{AtMost};
-ghost use Rattle.wiring.specs.Panel.{termBytes, setExponent, mostSignals, wireBytes};
-ghost use Rattle.wiring.specs.Poly.{plain, coeff, support};
-ghost use Rattle.wiring.specs.Derivative.{derivative, image, gives, images};
+ghost use Rattle.wiring.specs.Panel.{setExponent, mostSignals, wireBytes};
+ghost use Rattle.wiring.specs.Poly.{plain};
+ghost use Rattle.wiring.specs.Derivative.{derivative};
 ghost use Rattle.wiring.specs.Signals.{Fitting, signalsOf};
-ghost use Rattle.wiring.specs.Terms.{recordAt, records, system, CleanTerms};
-ghost use Rattle.wiring.specs.Choice.{Heads, beyond, Offered};
+ghost use Rattle.wiring.specs.Terms.{records, system, CleanTerms};
 ghost use Rattle.wiring.specs.Wires.{Wire, wireRecord, Sheet, Wrote, FirstPair, RowPassed, Passed};
 
 // The numbers of two signals, where some is true.
@@ -36,12 +30,6 @@ impl Pair {
         a: 0,
         b: 0,
     };
-}
-
-// A monomial of a derivative with its total, where the pick is some.
-pub struct Part {
-    pub pick: Pick,
-    pub total: i32,
 }
 
 // How far the list has come. It is longer than the buffer holds where ok is false, and then at counts no further.
@@ -74,70 +62,6 @@ fn pair_of(v: Signals, m: Monomial) -> Pair
         }
     }
     r
-}
-
-// Whether m stands behind the pick.
-fn is_beyond(p: Pick, m: Monomial) -> bool
-    ensures { λ r. ⌜ r ≡ beyond p (m .e) ⌝ }
-{
-    let last = p.m;
-    if p.some {
-        return last.before(m);
-    }
-    true
-}
-
-// The monomial of record t in the derivative of z, where it stands behind the last one. Its total is not asked here: it may be 0.
-fn following(terms: &[u8], t: usize, z: Monomial, last: Pick) -> Pick
-    requires { ⌜ CleanTerms (now terms) × ((termBytes * t + termBytes ≤ length (now terms)) × AtMost setExponent (z .e)) ⌝ }
-    ensures { λ r. ⌜ Offered (gives (beyond last) (z .e) (recordAt (now (terms .entry)) t)) (image (recordAt (now (terms .entry)) t) (z .e)) r ⌝ }
-{
-    if derivative::power(terms, t, z) < 1 {
-        return Pick::NONE;
-    }
-    let m = derivative::image(terms, t, z);
-    if !is_beyond(last, m) {
-        return Pick::NONE;
-    }
-    Pick { some: true, m }
-}
-
-// The smallest monomial behind the last one that a record gives to the derivative of z.
-fn next_image(terms: &[u8], z: Monomial, last: Pick) -> Pick
-    requires { ⌜ CleanTerms (now terms) × AtMost setExponent (z .e) ⌝ }
-    ensures { λ r. ⌜ Heads (keep (beyond last) (images (records (now (terms .entry))) (z .e))) r ⌝ }
-{
-    let count = terms.len() / TERM_BYTES;
-    let mut best = Pick::NONE;
-    let mut t: usize = 0;
-    while t < count {
-        let p = following(terms, t, z, last);
-        if p.some {
-            best = choice::least(best, p.m);
-        }
-        t += 1;
-    }
-    best
-}
-
-// The smallest monomial of the derivative of z behind the last one. Those whose parts cancel are passed over; each total is summed once.
-fn next_part(terms: &[u8], z: Monomial, last: Pick) -> Part
-    requires { ⌜ CleanTerms (now terms) × AtMost setExponent (z .e) ⌝ }
-    ensures { λ r. ⌜ Heads (keep (beyond last) (support plain (derivative plain (system (records (now (terms .entry)))) (z .e)))) (r .pick) ⌝ }
-    ensures { λ r. ⌜ (r .pick .some ≡ true → r .total ≡ coeff plain (derivative plain (system (records (now (terms .entry)))) (z .e)) (r .pick .m .e)) ⌝ }
-{
-    let mut behind = last;
-    loop {
-        let pick = next_image(terms, z, behind);
-        if !pick.some {
-            return Part { pick, total: 0 };
-        }
-        let total = derivative::total(terms, z, pick.m);
-        if !coefficient::is_zero(total) {
-            return Part { pick, total };
-        }
-        behind = pick;
-    }
 }
 
 // Writes record number at.
@@ -196,7 +120,7 @@ fn wire_row(terms: &[u8], v: Signals, left: usize, out: &mut [u8], from: Written
     let mut w = from;
     let mut last = Pick::NONE;
     loop {
-        let part = next_part(terms, z, last);
+        let part = parts::next_part(terms, z, last);
         last = part.pick;
         if !last.some {
             return Pass::Through(w);

@@ -14,10 +14,12 @@ use Rattle.wiring.specs.Panel.{wireBytes}
 use Rattle.wiring.specs.declared.reply.Reply.{Reply}
 use Rattle.wiring.specs.declared.reply.Reply.the-variants.{Done, Setting, Length, Term, Twice, Nothing, Full, Spent, BadSet, NotQuadratic}
 use Rattle.wiring.specs.Reply.{numbers, outcome}
+use Rattle.wiring.specs.Poly.{plain}
+use Rattle.wiring.specs.Quadratic.{Quadratic}
 use Rattle.wiring.specs.Sets.{setOf}
 use Rattle.wiring.specs.Wires.{Wire}
 use Rattle.wiring.specs.Answers.{wired}
-use Rattle.wiring.specs.Claims.{signalsIn, listIn, WireSays, wireLeaves, QuadraticIn, Unquadratic, TellsVerdict, VerdictAlone}
+use Rattle.wiring.specs.Claims.{WellFormed, signalsIn, derivativeIn, listIn, WireSays, wireLeaves, QuadraticIn, Unquadratic, TellsVerdict, VerdictAlone}
 use Rattle.wiring.proofs.answers.Exact.{met-or-not}
 use Rattle.wiring.proofs.answers.Wired.{wire-exact, wire-determined}
 
@@ -74,8 +76,19 @@ module _ (n : ℕ) (terms set : List ℕ) (size : ℕ) where
 
     -- ---- the verdict, whatever the buffer
     pub wire-verdict : TellsVerdict n terms set r
-    wire-verdict = record { quadratic = (yes (coded r says), quadratic-code); not-quadratic = (no (coded r says), unquadratic-code) }
+    wire-verdict = record { quadratic = (yes (coded r says), quadratic-code); not-quadratic = (no (coded r says), unquadratic-code); refused = (unformed, unsaid (coded r says)) }
       where
+        unformed : (numbers r .code ≡ 0 → ⊥) × (numbers r .code ≡ 6 → ⊥) × (numbers r .code ≡ 9 → ⊥) → WellFormed n terms set → ⊥
+        unformed f w =
+            let unmet : Quadratic plain (signalsIn n set) (derivativeIn terms) → ⊥ = λ q. ⊎-elim (f .0) (f .1) (quadratic-code (record { formed = w; quadratic = q })) in
+            f .2 (unquadratic-code (record { formed = w; not = unmet }))
+
+        unsaid : Coded r → (WellFormed n terms set → ⊥) → (numbers r .code ≡ 0 → ⊥) × (numbers r .code ≡ 6 → ⊥) × (numbers r .code ≡ 9 → ⊥)
+        unsaid (fits c q h) k = absurd (k (q .formed))
+        unsaid (over c q h) k = absurd (k (q .formed))
+        unsaid (not-so c u) k = absurd (k (u .formed))
+        unsaid (refusal f g h) k = (f, g, h)
+
         yes : Coded r → Quadratically r → QuadraticIn n terms set
         yes (fits c q h) k = q
         yes (over c q h) k = q

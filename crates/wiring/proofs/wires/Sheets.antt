@@ -29,7 +29,7 @@ use Rattle.wiring.specs.declared.wires.Written.{Written}
 use Rattle.wiring.specs.Wires.{Wire, firstOf, secondOf, row, rowsFrom, wiring, wireRecord, wireList, Sheet, Standing, Wrote, lacking, RowPassed, Passed}
 use Rattle.wiring.proofs.Poly.{support-asc}
 use Rattle.wiring.proofs.quadratic.Laws.{unmet-in, unmet-out}
-use Rattle.wiring.proofs.wires.Parts.{beyond-none, heads-none, behind-next}
+use Rattle.wiring.proofs.parts.Laws.{beyond-none, heads-none, behind-next}
 
 -- ---- one record more
 pub record-length : (w : Wire) → length (wireRecord w) ≡ wireBytes

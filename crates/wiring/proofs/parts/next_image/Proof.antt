@@ -12,11 +12,11 @@ use Rattle.monomial.proofs.order.Laws.{mono-order}
 use Rattle.monomial.proofs.order.Ascending.{keep-asc}
 use Rattle.wiring.specs.Choice.{beyond}
 use Rattle.wiring.proofs.quadratic.Records.{at-record, Meeting, meeting-start, meeting-same, meeting-more, meeting-heads}
-use Rattle.wiring.proofs.wires.Parts.{images-asc, given-sub, images-sub}
+use Rattle.wiring.proofs.parts.Laws.{images-asc, given-sub, images-sub}
 use borrow.Author.Needs.{needs}
 use Rattle.wiring.specs.Panel.{termBytes}
-use Rattle.wiring.proofs.wires.next_image.Statement.{statement}
-use Rattle.wiring.proofs.wires.next_image.Tie as tie
+use Rattle.wiring.proofs.parts.next_image.Statement.{statement}
+use Rattle.wiring.proofs.parts.next_image.Tie as tie
 
 abbrev Inv-loop : tie.InvT-loop
 Inv-loop terms z last count best₀ t₀ best t = (count ≡ length terms / termBytes) × Meeting (gives (beyond last) (z .e)) (records terms) (z .e) mono-order best₀ t best

@@ -7,8 +7,8 @@ use Rattle.monomial.proofs.product.Laws.{atMost-weaken}
 use Rattle.wiring.specs.Terms.{recordAt}
 use Rattle.wiring.proofs.quadratic.Records.{given-low, given-fails, given-here}
 use borrow.Author.Needs.{needs}
-use Rattle.wiring.proofs.wires.following.Statement.{statement}
-use Rattle.wiring.proofs.wires.following.Tie as tie
+use Rattle.wiring.proofs.parts.following.Statement.{statement}
+use Rattle.wiring.proofs.parts.following.Tie as tie
 
 power-requires : tie.Need-power-requires
 power-requires c κs =

@@ -1,8 +1,8 @@
 -- `is_beyond` meets its contract: behind none, everything stands. Assumes nothing.
 use borrow.Author.Needs.{needs}
 use borrow.Author.Needs.{needs}
-use Rattle.wiring.proofs.wires.is_beyond.Statement.{statement}
-use Rattle.wiring.proofs.wires.is_beyond.Tie as tie
+use Rattle.wiring.proofs.parts.is_beyond.Statement.{statement}
+use Rattle.wiring.proofs.parts.is_beyond.Tie as tie
 
 before-requires : tie.Need-before-requires
 before-requires c κs = search needs

@@ -11,9 +11,9 @@ use Rattle.wiring.specs.Coefficient.{isZero}
 use Rattle.wiring.specs.Derivative.{images}
 use Rattle.wiring.specs.Choice.{beyond}
 use Rattle.wiring.specs.Terms.{records}
-use Rattle.wiring.proofs.wires.Parts.{Parting, parting-start, parting-none, parting-here, parting-on, parting-less}
-use Rattle.wiring.proofs.wires.next_part.Statement.{statement}
-use Rattle.wiring.proofs.wires.next_part.Tie as tie
+use Rattle.wiring.proofs.parts.Laws.{Parting, parting-start, parting-none, parting-here, parting-on, parting-less}
+use Rattle.wiring.proofs.parts.next_part.Statement.{statement}
+use Rattle.wiring.proofs.parts.next_part.Tie as tie
 
 abbrev Inv-loop : tie.InvT-loop
 Inv-loop terms z behind₀ behind = Parting (records terms) (z .e) behind₀ behind

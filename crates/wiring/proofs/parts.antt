@@ -1,0 +1,2 @@
+-- The monomials of a derivative, one after the other.
+pub mod Laws
