@@ -1,7 +1,7 @@
 -- The wiring list: for each left variable ascending, each monomial of its derivative ascending, with the total coefficient and the pair
 -- (a, b) of smallest a, then smallest b, whose product it is, for any kind of monomials. Signals go by their numbers. Assumes nothing.
 use mathlib.Core.Path.{_≡_}
-use mathlib.Core.Bool.{Bool, true, false}
+use mathlib.Core.Bool.{Bool, true, false, not, _&&_}
 use mathlib.Core.List.{List, [], _∷_, _++_, map}
 use Prim.Native.Nat.{ℕ, suc, _*_, _-_, _≤_, _<_}
 use lib.Dec.{T}
@@ -13,7 +13,9 @@ use Rattle.monomial.specs.Claims.{_∈_}
 use Rattle.wiring.specs.Coefficient.{unsigned, fourBytes}
 use Rattle.wiring.specs.Poly.{Kind, Poly, plain, coeff, support}
 use Rattle.wiring.specs.Quadratic.{factor, inV2, unmet}
+use Rattle.wiring.specs.Choice.{beyond}
 use Rattle.wiring.specs.Panel.{wireBytes, mostSignals}
+use Rattle.wiring.specs.declared.choice.Pick.{Pick}
 use Rattle.wiring.specs.declared.wires.Pair.{Pair}
 use Rattle.wiring.specs.declared.wires.Pass.{Pass}
 use Rattle.wiring.specs.declared.wires.Pass.the-variants.{Through, Unmet}
@@ -83,6 +85,10 @@ pub record FirstPair (v : List Mono) (m : Mono) (p : Pair) : Type 0 where
   pub second : p .some ≡ true → p .b ≡ secondOf plain v m
   pub a-small : p .a < mostSignals
   pub b-small : p .b < mostSignals
+
+-- what stands behind the pick and has no pair
+abbrev pub unmetBeyond : List Mono → Pick → Mono → Bool
+unmetBeyond v last m = beyond last m && not (inV2 plain v m)
 
 module _ {M : Type 0} (k : Kind M) (v : List M) where
   -- a derivative p that has a monomial which is not in V2

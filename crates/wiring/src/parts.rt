@@ -35,7 +35,7 @@ fn is_beyond(p: Pick, m: Monomial) -> bool
 }
 
 // The monomial of record t in the derivative of z, where it stands behind the last one. Its total is not asked here: it may be 0.
-fn following(terms: &[u8], t: usize, z: Monomial, last: Pick) -> Pick
+pub(crate) fn following(terms: &[u8], t: usize, z: Monomial, last: Pick) -> Pick
     requires { ⌜ CleanTerms (now terms) × ((termBytes * t + termBytes ≤ length (now terms)) × AtMost setExponent (z .e)) ⌝ }
     ensures { λ r. ⌜ Offered (gives (beyond last) (z .e) (recordAt (now (terms .entry)) t)) (image (recordAt (now (terms .entry)) t) (z .e)) r ⌝ }
 {

@@ -1,6 +1,8 @@
 // The wiring list, judged and written in one pass: a record that has room is written, and a monomial that no two signals multiply to ends it.
 use super::choice::Pick;
 use super::coefficient;
+use super::derivative;
+use super::panel::TERM_BYTES;
 use super::panel::WIRE_BYTES;
 use super::parts;
 use super::signals::Signals;
@@ -10,12 +12,14 @@ ghost use mathlib.Core.List.{List, [], _∷_, _++_};
 ghost use Prim.Native.Nat.{_+_, _*_, _≤_, _<_};
 ghost use lib.ListN.{length, getD};
 ghost use lib.Seq.{paste};
-ghost use Rattle.wiring.specs.Panel.{setExponent, mostSignals, wireBytes};
-ghost use Rattle.wiring.specs.Poly.{plain};
-ghost use Rattle.wiring.specs.Derivative.{derivative};
+ghost use Rattle.wiring.specs.Panel.{termBytes, setExponent, mostSignals, wireBytes};
+ghost use Rattle.wiring.specs.Poly.{plain, support};
+ghost use Rattle.monomial.specs.Lists.{some, keep};
+ghost use Rattle.monomial.specs.Product.{AtMost};
+ghost use Rattle.wiring.specs.Derivative.{derivative, offers};
 ghost use Rattle.wiring.specs.Signals.{Fitting, signalsOf};
-ghost use Rattle.wiring.specs.Terms.{records, system, CleanTerms};
-ghost use Rattle.wiring.specs.Wires.{Wire, wireRecord, Sheet, Wrote, FirstPair, RowPassed, Passed};
+ghost use Rattle.wiring.specs.Terms.{recordAt, records, system, CleanTerms};
+ghost use Rattle.wiring.specs.Wires.{Wire, wireRecord, Sheet, Wrote, FirstPair, unmetBeyond, RowPassed, Passed};
 
 // The numbers of two signals, where some is true.
 pub struct Pair {
@@ -90,16 +94,12 @@ fn put_record(out: &mut [u8], at: usize, left: usize, p: Pair, c: i32)
     }
 }
 
-// One record more of the list: it is written where there is room.
-fn enter(out: &mut [u8], w: Written, left: usize, p: Pair, c: i32) -> Written
+// One record more behind the at records of the list: it is written where there is room.
+fn enter(out: &mut [u8], at: usize, left: usize, p: Pair, c: i32) -> Written
     requires { ⌜ (left < 256) × ((p .a < 256) × (p .b < 256)) ⌝ }
-    ensures { λ r. ⌜ ((done : List Wire) → Wrote done w (now (out .entry)) →
+    ensures { λ r. ⌜ ((done : List Wire) → Sheet done at (now (out .entry)) →
         Wrote (done ++ ((record { left = left; a = p .a; b = p .b; coefficient = c }) ∷ [])) r (now (out .exit))) ⌝ }
 {
-    let at = w.at;
-    if !w.ok {
-        return w;
-    }
     if out.len() / WIRE_BYTES <= at {
         return Written { ok: false, at };
     }
@@ -110,7 +110,42 @@ fn enter(out: &mut [u8], w: Written, left: usize, p: Pair, c: i32) -> Written
     }
 }
 
-// Passes over the derivative of one left variable: its records go behind those of the list so far.
+// Whether record t gives the derivative of z a monomial behind the last one that has a coefficient and no pair. The total, which is dear, is asked
+// last.
+fn lacks_pair_at(terms: &[u8], t: usize, v: Signals, z: Monomial, last: Pick) -> bool
+    requires { ⌜ CleanTerms (now terms) × ((termBytes * t + termBytes ≤ length (now terms)) × ((v .len ≤ mostSignals) × (Fitting setExponent (signalsOf v) × AtMost setExponent (z .e)))) ⌝ }
+    ensures { λ r. ⌜ r ≡ offers (unmetBeyond (signalsOf v) last) (system (records (now (terms .entry)))) (z .e) (recordAt (now (terms .entry)) t) ⌝ }
+{
+    let p = parts::following(terms, t, z, last);
+    if !p.some {
+        return false;
+    }
+    let m = p.m;
+    let pair = pair_of(v, m);
+    if pair.some {
+        return false;
+    }
+    !coefficient::is_zero(derivative::total(terms, z, m))
+}
+
+// Whether the derivative of z has a monomial behind the last one that no two signals multiply to. Where nothing is written any more, their order
+// does not matter.
+fn lacks_pair(terms: &[u8], v: Signals, z: Monomial, last: Pick) -> bool
+    requires { ⌜ CleanTerms (now terms) × ((v .len ≤ mostSignals) × (Fitting setExponent (signalsOf v) × AtMost setExponent (z .e))) ⌝ }
+    ensures { λ r. ⌜ r ≡ some (keep (unmetBeyond (signalsOf v) last) (support plain (derivative plain (system (records (now (terms .entry)))) (z .e)))) ⌝ }
+{
+    let count = terms.len() / TERM_BYTES;
+    let mut t: usize = 0;
+    while t < count {
+        if lacks_pair_at(terms, t, v, z, last) {
+            return true;
+        }
+        t += 1;
+    }
+    false
+}
+
+// Passes over the derivative of one left variable: its records go behind those of the list so far. Without room the rest of it is only judged.
 fn wire_row(terms: &[u8], v: Signals, left: usize, out: &mut [u8], from: Written) -> Pass
     requires { ⌜ CleanTerms (now terms) × ((v .len ≤ mostSignals) × ((left < v .len) × Fitting setExponent (signalsOf v))) ⌝ }
     ensures { λ r. ⌜ ((done : List Wire) → Wrote done from (now (out .entry)) →
@@ -120,6 +155,12 @@ fn wire_row(terms: &[u8], v: Signals, left: usize, out: &mut [u8], from: Written
     let mut w = from;
     let mut last = Pick::NONE;
     loop {
+        if !w.ok {
+            if lacks_pair(terms, v, z, last) {
+                return Pass::Unmet(left);
+            }
+            return Pass::Through(w);
+        }
         let part = parts::next_part(terms, z, last);
         last = part.pick;
         if !last.some {
@@ -129,7 +170,7 @@ fn wire_row(terms: &[u8], v: Signals, left: usize, out: &mut [u8], from: Written
         if !p.some {
             return Pass::Unmet(left);
         }
-        w = enter(out, w, left, p, part.total);
+        w = enter(out, w.at, left, p, part.total);
     }
 }
 

@@ -25,7 +25,8 @@ use Rattle.wiring.specs.Poly.{Poly, plain, coeff, support}
 use Rattle.wiring.specs.Derivative.{derivative, power, image, gives, offers}
 use Rattle.wiring.specs.Terms.{Record, recordAt, records, system}
 use Rattle.wiring.specs.declared.choice.Pick.{Pick}
-use Rattle.wiring.specs.Choice.{cheaper, Picked, Heads, BestOf, Best, Offered}
+use Rattle.wiring.specs.Choice.{cheaper, beyond, Picked, Heads, BestOf, Best, Offered}
+use Rattle.wiring.specs.Wires.{unmetBeyond}
 use Rattle.wiring.proofs.Poly.{support-in, support-out, zero-is}
 use Rattle.wiring.proofs.derivative.Records.{Derived, derived}
 use Rattle.wiring.proofs.choice.Laws.{best-members, cheap-order, picked, heads}
@@ -73,6 +74,35 @@ module _ (f : Mono → Bool) (fs : List (Poly Mono)) (z : Mono) (r : Record) whe
     pub offered-here : (q : Pick) → f m ≡ true → isZero (coeff plain (derivative plain fs z) m) ≡ false → q .some ≡ true → q .m .e ≡ m → Offered (offers f fs z r) (image r z) q
     unfolding offers
     offered-here q p t e qm = record { told = e ∙ sym (rw (gives-as f z r x m ex h em true p, ← em, t)); is = λ s. qm ∙ em }
+
+-- a record that gives a monomial behind the last one: it offers exactly where that has a coefficient and no pair
+module _ (v : List Mono) (last : Pick) (fs : List (Poly Mono)) (z : Mono) (r : Record) where
+  pub beyond-none : gives (beyond last) z r ≡ false → offers (unmetBeyond v last) fs z r ≡ false
+  unfolding offers gives
+  beyond-none e = nT→is (offers (unmetBeyond v last) fs z r) (λ t.
+      let raised = leb 1 (power r z) in
+      let ahead = beyond last (image r z) in
+      let out = not (inV2 plain v (image r z)) in
+      let g = and-l (raised && (ahead && out)) (not (isZero (coeff plain (derivative plain fs z) (image r z)))) t in
+      is→nT (raised && ahead) e (and-i raised ahead (and-l raised (ahead && out) g) (and-l ahead out (and-r raised (ahead && out) g))))
+
+  module _ (m : Mono) (em : m ≡ image r z) where
+    pub beyond-met : inV2 plain v m ≡ true → offers (unmetBeyond v last) fs z r ≡ false
+    unfolding offers gives
+    beyond-met e = nT→is (offers (unmetBeyond v last) fs z r) (λ t.
+        let raised = leb 1 (power r z) in
+        let ahead = beyond last (image r z) in
+        let out = not (inV2 plain v (image r z)) in
+        let g = and-l (raised && (ahead && out)) (not (isZero (coeff plain (derivative plain fs z) (image r z)))) t in
+        T-not (inV2 plain v (image r z)) (and-r ahead out (and-r raised (ahead && out) g)) (is→T (inV2 plain v (image r z)) (ap (inV2 plain v) (sym em) ∙ e)))
+
+    pub beyond-unmet : gives (beyond last) z r ≡ true → inV2 plain v m ≡ false → not (isZero (coeff plain (derivative plain fs z) m)) ≡ offers (unmetBeyond v last) fs z r
+    unfolding offers gives
+    beyond-unmet e n =
+        let raised = leb 1 (power r z) in
+        let ahead = beyond last (image r z) in
+        let both = is→T (raised && ahead) e in
+        rw (T→is raised (and-l raised ahead both), T→is ahead (and-r raised ahead both), ap (inV2 plain v) (sym em) ∙ n, ← em)
 
 -- two tests that agree
 pub keep-alike : {A : Type 0} (f g : A → Bool) (l : List A) → ((x : A) → f x ≡ g x) → keep f l ≡ keep g l

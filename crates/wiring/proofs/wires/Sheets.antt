@@ -2,20 +2,20 @@
 -- Assumes nothing.
 use mathlib.Core.Path.{_≡_, refl, sym, ap, ap₂, _∙_, subst}
 use mathlib.Core.Logic.{⊎-elim}
-use mathlib.Core.Bool.{Bool, true, false}
+use mathlib.Core.Bool.{Bool, true, false, not}
 use mathlib.Core.List.{List, [], _∷_, _++_, map, append-nil, append-assoc, map-append, List·Memᴰ·not-nil, List·Memᴰ·cases-cons, List·Memᴰ·append-cases}
 use Prim.Native.Nat.{ℕ, zero, suc, _+_, _*_, _-_, _/_, _<_, _≤_}
 use native.Mathlib.Omega.{arith}
 use native.Mathlib.Numerals.{add-one}
-use lib.Dec.{T}
+use lib.Dec.{T, T-not, not-T}
 use lib.IntN.{ℤ}
-use lib.ListN.{length, getD, take, drop, replicate, length-append, drop-of-length-le}
+use lib.ListN.{length, getD, take, drop, replicate, length-append, length-map, drop-of-length-le}
 use lib.Seq.{paste, drop-cons, take-at, drop-at, length-paste, drop-drop}
 use Rattle.monomial.specs.Lists.{some, keep, gather}
 use Rattle.monomial.specs.Monomial.{Mono}
 use Rattle.monomial.specs.Claims.{_∈_}
-use Rattle.monomial.proofs.Tests.{T→is, nT→is, is→T, is→nT}
-use Rattle.monomial.proofs.Members.{here, some-in, some-out, keep-out, gather-append}
+use Rattle.monomial.proofs.Tests.{and-r, and-i, T→is, nT→is, is→T, is→nT}
+use Rattle.monomial.proofs.Members.{here, some-in, some-out, keep-in, keep-out, gather-append}
 use Rattle.monomial.proofs.Loops.{Placing, placing-start, placing-on, placing-found, placing-ends}
 use Rattle.monomial.proofs.order.Laws.{mono-order}
 use Rattle.monomial.proofs.Strips.{strip-length}
@@ -26,7 +26,7 @@ use Rattle.wiring.specs.Choice.{Heads, beyond}
 use Rattle.wiring.specs.declared.choice.Pick.{Pick}
 use Rattle.wiring.specs.declared.wires.Pass.the-variants.{Through, Unmet}
 use Rattle.wiring.specs.declared.wires.Written.{Written}
-use Rattle.wiring.specs.Wires.{Wire, firstOf, secondOf, row, rowsFrom, wiring, wireRecord, wireList, Sheet, Standing, Wrote, lacking, RowPassed, Passed}
+use Rattle.wiring.specs.Wires.{Wire, firstOf, secondOf, row, rowsFrom, wiring, wireRecord, wireList, Sheet, Standing, Wrote, unmetBeyond, lacking, RowPassed, Passed}
 use Rattle.wiring.proofs.Poly.{support-asc}
 use Rattle.wiring.proofs.quadratic.Laws.{unmet-in, unmet-out}
 use Rattle.wiring.proofs.parts.Laws.{beyond-none, heads-none, behind-next}
@@ -98,10 +98,7 @@ module _ (list : List Wire) (w : Written) (out : List ℕ) where
   pub wrote-in : (b : Bool) → w .ok ≡ b → Standing b list (w .at) out → Wrote list w out
   wrote-in b e s = subst (λ (t : Bool). Standing t list (w .at) out) (sym e) s
 
--- a list that is too long is so with one record more, and one that just fills the buffer is too long then
-pub standing-long : (list : List Wire) (x : Wire) (out : List ℕ) → length out < wireBytes * length list → length out < wireBytes * length (list ++ (x ∷ []))
-standing-long list x out h = let e = length-append list (x ∷ []) in omega arith
-
+-- one record more than the buffer holds
 pub sheet-long : (list : List Wire) (at : ℕ) (x : Wire) (out : List ℕ) → Sheet list at out → length out / wireBytes ≤ at → length out < wireBytes * length (list ++ (x ∷ []))
 sheet-long list at x out s h = let e = length-append list (x ∷ []) in let c = s .counted in omega arith
 
@@ -132,6 +129,36 @@ module _ (v : List Mono) (left : ℕ) (p : Poly Mono) where
     long = refl;
     wrote = λ done s. subst (λ (l : List Wire). Wrote l w out) (sym (append-nil done)) s;
   }
+
+  -- nothing more is written: what is behind the last one is judged
+  module _ {w₀ : Written} {out₀ : List ℕ} {last : Pick} {w : Written} {out : List ℕ} (r : Rowing w₀ out₀ last w out) (ok : w .ok ≡ false) where
+    pub rowing-lacks : some (keep (unmetBeyond v last) S) ≡ true → some (unmet plain v p) ≡ true
+    rowing-lacks t =
+        let x = some-out (keep (unmetBeyond v last) S) (is→T (some (keep (unmetBeyond v last) S)) t) in
+        let k = keep-out (unmetBeyond v last) S (x .1) in
+        let no = T-not (inV2 plain v (x .0)) (and-r (beyond last (x .0)) (not (inV2 plain v (x .0))) (k .1)) in
+        T→is (some (unmet plain v p)) (some-in (unmet-in plain mono-order v p (x .0) (k .0) no))
+
+    pub rowing-judged : some (keep (unmetBeyond v last) S) ≡ false → (done : List Wire) → Wrote done w₀ out₀ → RowPassed plain v left p done (Through w) out
+    unfolding row
+    rowing-judged t done s = (nT→is (some (unmet plain v p)) all-met, wrote-in (done ++ map wireOf S) w out false ok long)
+      where
+        all-met : T (some (unmet plain v p)) → ⊥
+        all-met q =
+            let x = some-out (unmet plain v p) q in
+            let u = unmet-out plain mono-order v p (x .0) (x .1) in
+            let behind : x .0 ∈ keep (beyond last) S → ⊥ = λ k.
+            let b = keep-out (beyond last) S k in
+            is→nT (some (keep (unmetBeyond v last) S)) t (some-in (keep-in (unmetBeyond v last) S (b .0) (and-i (beyond last (x .0)) (not (inV2 plain v (x .0))) (b .1) (not-T (inV2 plain v (x .0)) (u .1))))) in
+            ⊎-elim (λ k. u .1 (r .met (x .0) k)) behind (List·Memᴰ·append-cases (r .passed-by) (subst (λ (l : List Mono). x .0 ∈ l) (sym (r .whole)) (u .0)))
+
+        long : length out < wireBytes * length (done ++ map wireOf S)
+        long =
+            let far = wrote-out (done ++ map wireOf (r .passed-by)) w out false ok (r .wrote done s) in
+            let a = length-append done (map wireOf (r .passed-by)) in
+            let b = length-append done (map wireOf S) in
+            let c = length-append (r .passed-by) (keep (beyond last) S) in
+            omega (arith, ap length (r .whole), length-map (r .passed-by) wireOf, length-map S wireOf)
 
   module _ {w₀ : Written} {out₀ : List ℕ} {last : Pick} {w : Written} {out : List ℕ} (r : Rowing w₀ out₀ last w out) (next : Pick) (h : Heads (keep (beyond last) S) next) where
     -- none is left: the row is whole, and each of its monomials is in V2

@@ -1,5 +1,7 @@
--- `wire_row` meets its contract: the monomials up to the last one have their records, and each of them is in V2 (`Rowing`). Assumes nothing.
+-- `wire_row` meets its contract: the monomials up to the last one have their records, and each of them is in V2 (`Rowing`); without room those
+-- behind it are judged. Assumes nothing.
 use mathlib.Core.Path.{_≡_, refl, sym, _∙_}
+use mathlib.Core.Bool.{true}
 use mathlib.Core.List.{List, []}
 use Prim.Native.Nat.{ℕ}
 use native.Mathlib.Omega.{arith}
@@ -17,7 +19,7 @@ use Rattle.wiring.specs.Signals.{signalsOf}
 use Rattle.wiring.specs.Terms.{records, system}
 use Rattle.wiring.proofs.derivative.Bounds.{total-held}
 use Rattle.wiring.proofs.signals.Laws.{array-length, front-length, front-at, entry-fits, fitting-weaken}
-use Rattle.wiring.proofs.wires.Sheets.{Rowing, rowing-start, rowing-ends, rowing-unmet, rowing-more, rowing-less, wire-is}
+use Rattle.wiring.proofs.wires.Sheets.{Rowing, rowing-start, rowing-lacks, rowing-judged, rowing-ends, rowing-unmet, rowing-more, rowing-less, wire-is, wrote-out}
 use Rattle.wiring.proofs.wires.wire_row.Statement.{statement}
 use Rattle.wiring.proofs.wires.wire_row.Tie as tie
 
@@ -44,12 +46,13 @@ loop-holds c =
     let room : length (v .m) ≡ mostSignals = search (needs, array-length) in
     (sym (front-at (v .len) (v .m) (s .args .left) [] (omega arith) (omega arith)), rowing-start _ _ _ _ _ _ refl)
 
-next-part-requires : tie.Need-next-part-requires Inv-loop μ-loop
-next-part-requires c κs =
-    let s = c .before .before .before .before in
+lacks-pair-requires : tie.Need-lacks-pair-requires Inv-loop μ-loop
+lacks-pair-requires c κs =
+    let s = c .before .before .before .before .before .before in
     let v = s .args .t2 in
     let room : length (v .m) ≡ mostSignals = search (needs, array-length) in
-    (s .pre .0, entry-fits setExponent (v .len) (v .m) (s .args .left) (omega arith) (omega arith) (s .pre .1 .1 .1))
+    let fits = entry-fits setExponent (v .len) (v .m) (s .args .left) (omega arith) (omega arith) (s .pre .1 .1 .1) in
+    (s .pre .0, (s .pre .1 .0, (s .pre .1 .1 .1, fits)))
 
 same-length : tie.Need-same-length Inv-loop μ-loop
 same-length c = c .before .before .before .before .loop .inv .1 .long
@@ -57,29 +60,55 @@ same-length c = c .before .before .before .before .loop .inv .1 .long
 returns : tie.Need-returns Inv-loop μ-loop
 returns c =
     let k = c .before .before .before .before .loop in
-    let part = c .before .before .before .next-part in
-    λ done h. rw (sym (k .inv .0)) (rowing-ends _ _ _ (k .inv .1) (part .result .pick) (part .ensures .0) (not-true _ (c .if1 .taken)) done h)
-
-pair-of-requires : tie.Need-pair-of-requires Inv-loop μ-loop
-pair-of-requires c κs =
-    let s = c .before .before .before .before .before .before .before .before in
-    (s .pre .1 .0, fitting-weaken setExponent 127 (signalsOf (s .args .t2)) (omega arith) (s .pre .1 .1 .1))
+    let lacks = rowing-lacks _ _ _ (k .inv .1) (not-true _ (c .before .before .if1 .taken)) (sym (c .before .lacks-pair .ensures) ∙ c .if2 .taken) in
+    λ done h. (rw (sym (k .inv .0)) lacks, refl)
 
 same-length-2 : tie.Need-same-length-2 Inv-loop μ-loop
-same-length-2 c = c .before .before .before .before .before .before .before .loop .inv .1 .long
+same-length-2 c = c .before .before .before .before .loop .inv .1 .long
 
 returns-2 : tie.Need-returns-2 Inv-loop μ-loop
 returns-2 c =
-    let k = c .before .before .before .before .before .before .before .loop in
+    let k = c .before .before .before .before .loop in
+    let judged = rowing-judged _ _ _ (k .inv .1) (not-true _ (c .before .before .if1 .taken)) (sym (c .before .lacks-pair .ensures) ∙ c .if2 .left) in
+    λ done h. rw (sym (k .inv .0)) (judged done h)
+
+next-part-requires : tie.Need-next-part-requires Inv-loop μ-loop
+next-part-requires c κs =
+    let s = c .before .before .before .before .before .before in
+    let v = s .args .t2 in
+    let room : length (v .m) ≡ mostSignals = search (needs, array-length) in
+    let fits = entry-fits setExponent (v .len) (v .m) (s .args .left) (omega arith) (omega arith) (s .pre .1 .1 .1) in
+    (s .pre .0, fits)
+
+same-length-3 : tie.Need-same-length-3 Inv-loop μ-loop
+same-length-3 c = c .before .before .before .before .before .before .loop .inv .1 .long
+
+returns-3 : tie.Need-returns-3 Inv-loop μ-loop
+returns-3 c =
+    let k = c .before .before .before .before .before .before .loop in
+    let part = c .before .before .before .next-part in
+    λ done h. rw (sym (k .inv .0)) (rowing-ends _ _ _ (k .inv .1) (part .result .pick) (part .ensures .0) (not-true _ (c .if3 .taken)) done h)
+
+pair-of-requires : tie.Need-pair-of-requires Inv-loop μ-loop
+pair-of-requires c κs =
+    let s = c .before .before .before .before .before .before .before .before .before .before in
+    (s .pre .1 .0, fitting-weaken setExponent 127 (signalsOf (s .args .t2)) (omega arith) (s .pre .1 .1 .1))
+
+same-length-4 : tie.Need-same-length-4 Inv-loop μ-loop
+same-length-4 c = c .before .before .before .before .before .before .before .before .before .loop .inv .1 .long
+
+returns-4 : tie.Need-returns-4 Inv-loop μ-loop
+returns-4 c =
+    let k = c .before .before .before .before .before .before .before .before .before .loop in
     let part = c .before .before .before .before .before .before .next-part in
-    let here = not-false _ (c .before .before .before .if1 .left) in
+    let here = not-false _ (c .before .before .before .if3 .left) in
     let pair = c .before .before .pair-of .ensures in
-    let none = rowing-unmet _ _ _ (k .inv .1) (part .result .pick) (part .ensures .0) here (sym (pair .told) ∙ not-true _ (c .if2 .taken)) in
+    let none = rowing-unmet _ _ _ (k .inv .1) (part .result .pick) (part .ensures .0) here (sym (pair .told) ∙ not-true _ (c .if4 .taken)) in
     λ done h. (rw (sym (k .inv .0)) none, refl)
 
 enter-requires : tie.Need-enter-requires Inv-loop μ-loop
 enter-requires c κs =
-    let s = c .before .before .before .before .before .before .before .before .before .before .before .before .before in
+    let s = c .before .before .before .before .before .before .before .before .before .before .before .before .before .before .before in
     let pair = c .before .before .before .before .pair-of .ensures in
     let few = s .pre .1 .0 in
     let left = s .pre .1 .1 .0 in
@@ -87,25 +116,27 @@ enter-requires c κs =
 
 loop-less : tie.Need-loop-less Inv-loop μ-loop
 loop-less c =
-    let k = c .before .before .before .before .before .before .before .before .before .before .before .before .loop in
+    let k = c .before .before .before .before .before .before .before .before .before .before .before .before .before .before .loop in
     let part = c .before .before .before .before .before .before .before .before .before .before .before .next-part in
-    rowing-less _ _ _ (k .inv .1) (part .result .pick) (part .ensures .0) (not-false _ (c .before .before .before .before .before .before .before .before .if1 .left))
+    rowing-less _ _ _ (k .inv .1) (part .result .pick) (part .ensures .0) (not-false _ (c .before .before .before .before .before .before .before .before .if3 .left))
 
 loop-again : tie.Need-loop-again Inv-loop μ-loop
 loop-again c =
-    let s = c .before .before .before .before .before .before .before .before .before .before .before .before .before .before .before .before in
-    let k = c .before .before .before .before .before .before .before .before .before .before .before .before .loop in
-    let part = c .before .before .before .before .before .before .before .before .before .before .before .next-part in
-    let here = not-false _ (c .before .before .before .before .before .before .before .before .if1 .left) in
-    let pair = c .before .before .before .before .before .before .before .pair-of .ensures in
-    let found = not-false _ (c .before .before .before .before .before .if2 .left) in
+    let s = c .before .before .before .before .before .before .before .before .before .before .before .before .before .before .before .before .before .before in
     let v = s .args .t2 in
     let room : length (v .m) ≡ mostSignals = search (needs, array-length) in
+    let k = c .before .before .before .before .before .before .before .before .before .before .before .before .before .before .loop in
+    let part = c .before .before .before .before .before .before .before .before .before .before .before .next-part in
+    let here = not-false _ (c .before .before .before .before .before .before .before .before .if3 .left) in
+    let pair = c .before .before .before .before .before .before .before .pair-of .ensures in
+    let found = not-false _ (c .before .before .before .before .before .if4 .left) in
     let fits = s .pre .1 .1 .1 _ (at-in (signalsOf v) (s .args .left) [] (omega (arith, front-length (v .len) (v .m) (omega arith)))) in
     let total = total-held (s .args .terms .now) (s .pre .0) _ (part .result .pick .m .e) (rw (k .inv .0) (fits .0)) (rw (k .inv .0) (fits .1)) _ (part .ensures .1 here) in
     let wire = wire-is (signalsOf v) (s .args .left) _ (part .result .pick .m .e) _ _ _ (pair .first found) (pair .second found) total in
+    let ok = not-false _ (c .before .before .before .before .before .before .before .before .before .before .before .before .if1 .left) in
+    let entered = c .before .before .enter in
     let more = rowing-more _ _ _ (k .inv .1) (part .result .pick) (part .ensures .0) here in
-    (k .inv .0, more (c .before .before .enter .result) (c .before .before .enter .last .0) _ (sym (pair .told) ∙ found) wire (c .before .before .enter .kept .0) (c .before .before .enter .ensures))
+    (k .inv .0, more (entered .result) (entered .last .0) _ (sym (pair .told) ∙ found) wire (entered .kept .0) (λ done h. entered .ensures done (wrote-out done (k .w) (k .out) true ok h)))
 
 pub wire-row-spec : {M : Type 1} → statement M
 wire-row-spec =
@@ -116,12 +147,17 @@ wire-row-spec =
     mul-z
     element-copy-out-z
     loop-holds
-    next-part-requires
+    lacks-pair-requires
     same-length
     returns
-    pair-of-requires
     same-length-2
     returns-2
+    next-part-requires
+    same-length-3
+    returns-3
+    pair-of-requires
+    same-length-4
+    returns-4
     enter-requires
     loop-less
     loop-again)
