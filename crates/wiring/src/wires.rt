@@ -48,20 +48,23 @@ pub enum Pass {
     Unmet(usize),
 }
 
-// The pair of smallest a, then smallest b, whose product is m, where there is one.
+// The pair of smallest a, then smallest b, whose product is m, where there is one. Most signals do not divide m.
 fn pair_of(v: Signals, m: Monomial) -> Pair
-    requires { ⌜ (v .len ≤ mostSignals) × Fitting 127 (signalsOf v) ⌝ }
+    requires { ⌜ (v .len ≤ mostSignals) × Fitting setExponent (signalsOf v) ⌝ }
     ensures { λ r. ⌜ FirstPair (signalsOf v) (m .e) r ⌝ }
 {
     let len = v.len;
     let mut r = Pair::NONE;
     'found: for a in 0..len {
         let x = v.m[a];
-        for b in a..len {
-            let y = v.m[b];
-            if x.times(y).same(m) {
-                r = Pair { some: true, a, b };
-                break 'found;
+        if x.divides(m) {
+            let rest = m.over(x);
+            for b in a..len {
+                let y = v.m[b];
+                if y.same(rest) {
+                    r = Pair { some: true, a, b };
+                    break 'found;
+                }
             }
         }
     }

@@ -1,7 +1,7 @@
 -- Two loops over the signals, one inside the other, that look for the pair of smallest a, then smallest b, whose product is m. The inner one
--- begins at a: with a smaller b the pair would have been found before. Assumes nothing.
-use mathlib.Core.Path.{_≡_, ap, _∙_, subst}
-use mathlib.Core.Bool.{Bool, true}
+-- looks for the quotient of m, where a divides it, and begins at a: with a smaller b the pair would have been found before. Assumes nothing.
+use mathlib.Core.Path.{_≡_, sym, ap, _∙_, subst}
+use mathlib.Core.Bool.{Bool, true, false}
 use mathlib.Core.List.{List, []}
 use Prim.Native.Nat.{ℕ, zero, suc, _+_, _<_, _≤_}
 use native.Mathlib.Omega.{arith}
@@ -12,11 +12,15 @@ use Rattle.monomial.specs.Lists.{place}
 use Rattle.monomial.specs.Monomial.{Mono}
 use Rattle.monomial.specs.Order.{same}
 use Rattle.monomial.specs.Product.{mul}
-use Rattle.monomial.proofs.Tests.{is→T, nT→is, T→is}
-use Rattle.monomial.proofs.Members.{any-in}
+use Rattle.monomial.specs.Quotient.{quo, divides}
+use Rattle.monomial.specs.Claims.{_∈_}
+use Rattle.monomial.proofs.Tests.{is→T, is→nT, nT→is, T→is, Tested, passed, failed, test}
+use Rattle.monomial.proofs.Members.{any-in, any-out, Passing}
 use Rattle.monomial.proofs.Counting.{at-in, place-lt, place-any, place-least}
 use Rattle.monomial.proofs.Loops.{Placing, placing-start, placing-found, placing-on, placing-ends}
+use Rattle.monomial.proofs.order.Laws.{mono-order}
 use Rattle.monomial.proofs.product.Laws.{mul-comm}
+use Rattle.monomial.proofs.quotient.Laws.{quo-mul, factor-divides, mul-quo}
 use Rattle.wiring.specs.Poly.{plain}
 use Rattle.wiring.specs.Quadratic.{factor, inV2}
 use Rattle.wiring.specs.Wires.{firstOf, secondOf}
@@ -41,7 +45,30 @@ module _ (v : List Mono) (m : Mono) where
   unfolding factor
   beside-factor x y j h t = any-in (beside x) (at-in v j [] h) t
 
+  -- where x divides m, the other factor is the quotient
+  pub beside-quotient : (x y : Mono) → length x ≡ length y → T (divides x m) → same y (quo m x) ≡ beside x y
+  beside-quotient x y l d = go (test (beside x y))
+    where
+      go : Tested (beside x y) → same y (quo m x) ≡ beside x y
+      go (passed e) =
+          let product : mul x y ≡ m = mono-order .same-eq (mul x y) m (is→T (beside x y) e) in
+          let other : y ≡ quo m x = sym (quo-mul x y l) ∙ ap (λ (p : Mono). quo p x) product in
+          T→is (same y (quo m x)) (subst (λ (q : Mono). T (same y q)) other (mono-order .same-refl y)) ∙ sym e
+      go (failed e) =
+          nT→is (same y (quo m x))
+          (λ t. is→nT (beside x y) e (subst (λ (p : Mono). T (same p m)) (sym (ap (mul x) (mono-order .same-eq y (quo m x) t) ∙ mul-quo x m d)) (mono-order .same-refl m)))
+          ∙ sym e
+
   module _ (a : ℕ) (h : a < length v) (o : PairRow a) where
+    -- a signal that does not divide m is in no pair
+    pub row-skips : ((y : Mono) → y ∈ v → length (getD v a []) ≡ length y) → divides (getD v a []) m ≡ false → PairRow (a + 1)
+    unfolding factor
+    row-skips long e =
+        placing-on (factor plain v m) [] o h (nT→is (factor plain v m (getD v a [])) (λ t.
+        let p : Passing (beside (getD v a [])) v = any-out (beside (getD v a [])) v t in
+        let product : mul (getD v a []) (p .entry) ≡ m = mono-order .same-eq (mul (getD v a []) (p .entry)) m (p .passes) in
+        is→nT (divides (getD v a []) m) e (subst (λ (q : Mono). T (divides (getD v a []) q)) product (factor-divides (getD v a []) (p .entry) (long (p .entry) (p .member))))))
+
     -- a pair of a and an earlier b would be one of b and a
     earlier : (j : ℕ) → j < a → T (beside (getD v a []) (getD v j [])) → ⊥
     earlier j k t =

@@ -1,16 +1,13 @@
 -- `lacks_pair_at` meets its contract: the tests of the code are those of `offers`. Assumes nothing.
 use mathlib.Core.Path.{sym, ap, _∙_}
 use mathlib.Core.Bool.{not}
-use native.Mathlib.Omega.{arith}
 use borrow.Author.Needs.{needs, sfits-of}
 use borrow.Author.Tests.{not-true, not-false}
 use mir.Syntax.{w32}
 use mir.ValLaws.{toZ-ofZ}
 use Rattle.wiring.specs.Coefficient.{isZero}
-use Rattle.wiring.specs.Panel.{setExponent}
 use Rattle.wiring.specs.Signals.{signalsOf}
 use Rattle.wiring.specs.Terms.{recordAt, records, system}
-use Rattle.wiring.proofs.signals.Laws.{fitting-weaken}
 use Rattle.wiring.proofs.quadratic.Records.{beyond-none, beyond-met, beyond-unmet}
 use Rattle.wiring.proofs.wires.lacks_pair_at.Statement.{statement}
 use Rattle.wiring.proofs.wires.lacks_pair_at.Tie as tie
@@ -29,7 +26,7 @@ returns c =
 pair-of-requires : tie.Need-pair-of-requires
 pair-of-requires c κs =
     let s = c .before .before .before .before .before in
-    (s .pre .1 .1 .0, fitting-weaken setExponent 127 (signalsOf (s .args .v)) (omega arith) (s .pre .1 .1 .1 .0))
+    (s .pre .1 .1 .0, s .pre .1 .1 .1 .0)
 
 returns-2 : tie.Need-returns-2
 returns-2 c =

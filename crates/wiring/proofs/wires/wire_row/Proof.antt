@@ -18,7 +18,7 @@ use Rattle.wiring.specs.Choice.{beyond}
 use Rattle.wiring.specs.Signals.{signalsOf}
 use Rattle.wiring.specs.Terms.{records, system}
 use Rattle.wiring.proofs.derivative.Bounds.{total-held}
-use Rattle.wiring.proofs.signals.Laws.{array-length, front-length, front-at, entry-fits, fitting-weaken}
+use Rattle.wiring.proofs.signals.Laws.{array-length, front-length, front-at, entry-fits}
 use Rattle.wiring.proofs.wires.Sheets.{Rowing, rowing-start, rowing-lacks, rowing-judged, rowing-ends, rowing-unmet, rowing-more, rowing-less, wire-is, wrote-out}
 use Rattle.wiring.proofs.wires.wire_row.Statement.{statement}
 use Rattle.wiring.proofs.wires.wire_row.Tie as tie
@@ -92,7 +92,7 @@ returns-3 c =
 pair-of-requires : tie.Need-pair-of-requires Inv-loop μ-loop
 pair-of-requires c κs =
     let s = c .before .before .before .before .before .before .before .before .before .before in
-    (s .pre .1 .0, fitting-weaken setExponent 127 (signalsOf (s .args .t2)) (omega arith) (s .pre .1 .1 .1))
+    (s .pre .1 .0, s .pre .1 .1 .1)
 
 same-length-4 : tie.Need-same-length-4 Inv-loop μ-loop
 same-length-4 c = c .before .before .before .before .before .before .before .before .before .loop .inv .1 .long
