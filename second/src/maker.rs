@@ -769,16 +769,20 @@ mod tests {
 
     const CODES_WITH_A_SET: [usize; 8] = [0, 1, 2, 3, 4, 6, 8, 9];
 
+    /// Where a given set is judged, each check before a later one that would fail too.
+    const ORDER_OF_CHECKS: [&str; 5] = [
+        "checks: 1 before 2",
+        "checks: 2 before 3",
+        "checks: 3 before 8",
+        "checks: 4 before 8",
+        "checks: 9 before 6",
+    ];
+
     /// Counts that would show if a kind of wiring got lost.
     #[test]
     fn what_is_stored_of_wiring_covers_its_kinds() {
         let report = wire_cover();
-        for name in [
-            "checks: 1 before 2",
-            "checks: 2 before 3",
-            "checks: 3 before 8",
-            "checks: 4 before 8",
-            "checks: 9 before 6",
+        let kinds = [
             "wire: 9 after an earlier left variable's records with room",
             "wire: 9 after records of the same left variable with room",
             "wire: 9 after what is no product vanishes",
@@ -801,7 +805,8 @@ mod tests {
             "wire: list exactly as long as the buffer",
             "wire: what is no product vanishes",
             "wire: what is no product vanishes and would have no room",
-        ] {
+        ];
+        for name in ORDER_OF_CHECKS.into_iter().chain(kinds) {
             assert_count(report, name, 3);
         }
         for code in CODES_WITH_A_SET {
@@ -840,12 +845,7 @@ mod tests {
     #[test]
     fn what_is_stored_of_thinning_covers_its_kinds() {
         let report = thin_cover();
-        for name in [
-            "checks: 1 before 2",
-            "checks: 2 before 3",
-            "checks: 3 before 8",
-            "checks: 4 before 8",
-            "checks: 9 before 6",
+        let kinds = [
             "code 8: 1 before a monomial",
             "code 8: equal neighbours",
             "code 8: exponent above 54",
@@ -871,7 +871,8 @@ mod tests {
             "thin: several subsets are left",
             "thin: signals can go together and none alone",
             "thin: some signals can go",
-        ] {
+        ];
+        for name in ORDER_OF_CHECKS.into_iter().chain(kinds) {
             assert_count(report, name, 2);
         }
         for code in CODES_WITH_A_SET {
