@@ -1,4 +1,4 @@
--- Wiring, and so checking, computed by the definitions from the bytes of the records, beside replies and buffers that were worked outside the
+-- Wiring, computed by the definitions from the bytes of the records, beside replies and buffers that were worked outside the
 -- project: document 01's rows, each refusal, and both sides of each limit. One table, one claim. Assumes nothing.
 use mathlib.Core.Path.{_≡_, refl}
 use mathlib.Core.List.{List, [], _∷_, _++_, map}
