@@ -77,24 +77,23 @@ module _ (f : Mono → Bool) (fs : List (Poly Mono)) (z : Mono) (r : Record) whe
 
 -- a record that gives a monomial behind the last one: it offers exactly where that has a coefficient and no pair
 module _ (v : List Mono) (last : Pick) (fs : List (Poly Mono)) (z : Mono) (r : Record) where
-  pub beyond-none : gives (beyond last) z r ≡ false → offers (unmetBeyond v last) fs z r ≡ false
+  offered-beyond : T (offers (unmetBeyond v last) fs z r) → T (gives (beyond last) z r) × (T (inV2 plain v (image r z)) → ⊥)
   unfolding offers gives
-  beyond-none e = nT→is (offers (unmetBeyond v last) fs z r) (λ t.
+  offered-beyond t =
       let raised = leb 1 (power r z) in
       let ahead = beyond last (image r z) in
       let out = not (inV2 plain v (image r z)) in
-      let g = and-l (raised && (ahead && out)) (not (isZero (coeff plain (derivative plain fs z) (image r z)))) t in
-      is→nT (raised && ahead) e (and-i raised ahead (and-l raised (ahead && out) g) (and-l ahead out (and-r raised (ahead && out) g))))
+      let given = and-l (raised && (ahead && out)) (not (isZero (coeff plain (derivative plain fs z) (image r z)))) t in
+      let both = and-r raised (ahead && out) given in
+      (and-i raised ahead (and-l raised (ahead && out) given) (and-l ahead out both), T-not (inV2 plain v (image r z)) (and-r ahead out both))
+
+  pub beyond-none : gives (beyond last) z r ≡ false → offers (unmetBeyond v last) fs z r ≡ false
+  beyond-none e = nT→is (offers (unmetBeyond v last) fs z r) (λ t. is→nT (gives (beyond last) z r) e (offered-beyond t .0))
 
   module _ (m : Mono) (em : m ≡ image r z) where
     pub beyond-met : inV2 plain v m ≡ true → offers (unmetBeyond v last) fs z r ≡ false
-    unfolding offers gives
-    beyond-met e = nT→is (offers (unmetBeyond v last) fs z r) (λ t.
-        let raised = leb 1 (power r z) in
-        let ahead = beyond last (image r z) in
-        let out = not (inV2 plain v (image r z)) in
-        let g = and-l (raised && (ahead && out)) (not (isZero (coeff plain (derivative plain fs z) (image r z)))) t in
-        T-not (inV2 plain v (image r z)) (and-r ahead out (and-r raised (ahead && out) g)) (is→T (inV2 plain v (image r z)) (ap (inV2 plain v) (sym em) ∙ e)))
+    beyond-met e =
+        nT→is (offers (unmetBeyond v last) fs z r) (λ t. offered-beyond t .1 (is→T (inV2 plain v (image r z)) (ap (inV2 plain v) (sym em) ∙ e)))
 
     pub beyond-unmet : gives (beyond last) z r ≡ true → inV2 plain v m ≡ false → not (isZero (coeff plain (derivative plain fs z) m)) ≡ offers (unmetBeyond v last) fs z r
     unfolding offers gives
