@@ -12,7 +12,7 @@ use Rattle.wiring.specs.Panel.{cards, setBytes, setExponent, wireBytes}
 use Rattle.wiring.specs.Reply.{numbers, Outcome, outcome, refused}
 use Rattle.wiring.specs.Poly.{Poly, plain}
 use Rattle.wiring.specs.Derivative.{derivative}
-use Rattle.wiring.specs.Quadratic.{unmet, nonsquares}
+use Rattle.wiring.specs.Quadratic.{lacking, nonsquares}
 use Rattle.wiring.specs.Signals.{signals, Fitting}
 use Rattle.wiring.specs.Terms.{records, lengthRight, fault, system, CleanTerms}
 use Rattle.wiring.specs.Sets.{setOf, setRight, monomialsOf}
@@ -44,7 +44,7 @@ module _ (n : ℕ) (fs : List (Poly Mono)) (s : List Mono) where
 
   -- the signal number of the first left variable that has a nonsquare
   unfoldable pub firstUnmet : ℕ
-  firstUnmet = place (λ z. some (unmet plain (signals width n s) (derivative plain fs z))) (signals width n s)
+  firstUnmet = place (λ z. lacking plain (signals width n s) (derivative plain fs z)) (signals width n s)
 
   abbrev pub wires : List Wire
   wires = wiring plain (signals width n s) (derivative plain fs)

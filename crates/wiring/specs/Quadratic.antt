@@ -5,7 +5,7 @@ use mathlib.Core.List.{List, [], _∷_, _++_, map}
 use Prim.Native.Nat.{ℕ, suc}
 use lib.IntN.{ℤ}
 use lib.ListN.{take}
-use Rattle.monomial.specs.Lists.{any, keep, gather, arrangeBy}
+use Rattle.monomial.specs.Lists.{any, some, keep, gather, arrangeBy}
 use Rattle.monomial.specs.Claims.{_∈_}
 use Rattle.wiring.specs.Poly.{Kind, Poly, Same, support}
 
@@ -36,6 +36,10 @@ module _ {M : Type 0} (k : Kind M) (v : List M) where
   -- the monomials of p, with nonzero coefficient, that are not in V2
   unfoldable pub unmet : Poly M → List M
   unmet p = keep (λ m. not (inV2 m)) (support k p)
+
+  -- p has such a monomial
+  abbrev pub lacking : Poly M → Bool
+  lacking p = some (unmet p)
 
   -- the nonsquares: those in derivatives of members of v, ascending, each once
   unfoldable pub nonsquares : (M → Poly M) → List M

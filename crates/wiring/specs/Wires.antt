@@ -7,12 +7,12 @@ use Prim.Native.Nat.{ℕ, suc, _*_, _-_, _≤_, _<_}
 use lib.Dec.{T}
 use lib.IntN.{ℤ}
 use lib.ListN.{length, getD, replicate}
-use Rattle.monomial.specs.Lists.{some, place, gather}
+use Rattle.monomial.specs.Lists.{place, gather}
 use Rattle.monomial.specs.Monomial.{Mono}
 use Rattle.monomial.specs.Claims.{_∈_}
 use Rattle.wiring.specs.Coefficient.{unsigned, fourBytes}
 use Rattle.wiring.specs.Poly.{Kind, Poly, plain, coeff, support}
-use Rattle.wiring.specs.Quadratic.{factor, inV2, unmet}
+use Rattle.wiring.specs.Quadratic.{factor, inV2, lacking}
 use Rattle.wiring.specs.Choice.{beyond}
 use Rattle.wiring.specs.Panel.{wireBytes, mostSignals}
 use Rattle.wiring.specs.declared.choice.Pick.{Pick}
@@ -91,16 +91,12 @@ abbrev pub unmetBeyond : List Mono → Pick → Mono → Bool
 unmetBeyond v last m = beyond last m && not (inV2 plain v m)
 
 module _ {M : Type 0} (k : Kind M) (v : List M) where
-  -- a derivative p that has a monomial which is not in V2
-  abbrev pub lacking : Poly M → Bool
-  lacking p = some (unmet k v p)
-
   -- past left variable number `left`, whose derivative is p: the list goes on with its row, or p is not met
   abbrev pub RowPassed : ℕ → Poly M → List Wire → Pass → List ℕ → Type 0
-  RowPassed left p done (Through w) out = (lacking p ≡ false) × Wrote (done ++ row k v left p) w out
-  RowPassed left p done (Unmet at) out = (lacking p ≡ true) × (at ≡ left)
+  RowPassed left p done (Through w) out = (lacking k v p ≡ false) × Wrote (done ++ row k v left p) w out
+  RowPassed left p done (Unmet at) out = (lacking k v p ≡ true) × (at ≡ left)
 
   -- past all of them: the whole list, or the first whose derivative is not met
   abbrev pub Passed : (M → Poly M) → Pass → List ℕ → Type 0
-  Passed d (Through w) out = (place (λ z. lacking (d z)) v ≡ length v) × Wrote (wiring k v d) w out
-  Passed d (Unmet at) out = (at ≡ place (λ z. lacking (d z)) v) × (at < length v)
+  Passed d (Through w) out = (place (λ z. lacking k v (d z)) v ≡ length v) × Wrote (wiring k v d) w out
+  Passed d (Unmet at) out = (at ≡ place (λ z. lacking k v (d z)) v) × (at < length v)

@@ -12,14 +12,14 @@ ghost use mathlib.Core.Bool.{not};
 ghost use mathlib.Core.List.{List, _++_};
 ghost use Prim.Native.Nat.{_+_, _*_, _≤_, _<_};
 ghost use lib.ListN.{length};
-ghost use Rattle.monomial.specs.Lists.{any, some, place};
+ghost use Rattle.monomial.specs.Lists.{any, place};
 ghost use Rattle.monomial.specs.Monomial.{Mono};
 ghost use Rattle.monomial.specs.Order.{same};
 ghost use Rattle.monomial.specs.Product.{AtMost};
 ghost use Rattle.wiring.specs.Panel.{termBytes, setExponent, mostSignals};
 ghost use Rattle.wiring.specs.Poly.{plain};
 ghost use Rattle.wiring.specs.Derivative.{derivative, image, offers};
-ghost use Rattle.wiring.specs.Quadratic.{products, unmet, nonsquares};
+ghost use Rattle.wiring.specs.Quadratic.{products, unmet, lacking, nonsquares};
 ghost use Rattle.wiring.specs.Signals.{Fitting, signalsOf, tabled};
 ghost use Rattle.wiring.specs.Terms.{recordAt, records, system, CleanTerms};
 ghost use Rattle.wiring.specs.Choice.{cheaper, Picked, Best, Offered};
@@ -45,7 +45,7 @@ fn nonsquare_of(terms: &[u8], t: usize, z: Monomial, sq: &[u8]) -> Pick
 // Whether the derivative of z has a monomial that is not in V2.
 fn has_nonsquare(terms: &[u8], z: Monomial, sq: &[u8]) -> bool
     requires { ⌜ CleanTerms (now terms) × AtMost setExponent (z .e) ⌝ }
-    ensures { λ r. ⌜ ((v : List Mono) → tabled (now (sq .entry)) ≡ products plain v → r ≡ some (unmet plain v (derivative plain (system (records (now (terms .entry)))) (z .e)))) ⌝ }
+    ensures { λ r. ⌜ ((v : List Mono) → tabled (now (sq .entry)) ≡ products plain v → r ≡ lacking plain v (derivative plain (system (records (now (terms .entry)))) (z .e))) ⌝ }
 {
     let count = terms.len() / TERM_BYTES;
     let mut t: usize = 0;
@@ -62,7 +62,7 @@ fn has_nonsquare(terms: &[u8], z: Monomial, sq: &[u8]) -> bool
 // The number of the first signal whose derivative has a nonsquare; as many as there are signals where none has.
 pub fn first_unmet(terms: &[u8], v: Signals, sq: &[u8]) -> usize
     requires { ⌜ CleanTerms (now terms) × ((v .len ≤ mostSignals) × ((0 < v .len) × (Fitting setExponent (signalsOf v) × (tabled (now sq) ≡ products plain (signalsOf v))))) ⌝ }
-    ensures { λ r. ⌜ r ≡ place (λ z. some (unmet plain (signalsOf v) (derivative plain (system (records (now (terms .entry)))) z))) (signalsOf v) ⌝ }
+    ensures { λ r. ⌜ r ≡ place (λ z. lacking plain (signalsOf v) (derivative plain (system (records (now (terms .entry)))) z)) (signalsOf v) ⌝ }
 {
     let len = v.len;
     let mut j: usize = 0;

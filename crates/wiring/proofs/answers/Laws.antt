@@ -23,7 +23,7 @@ use Rattle.wiring.specs.declared.terms.Fault.the-variants.{Clean}
 use Rattle.wiring.specs.Reply.{Numbers, numbers, Outcome, outcome, refused}
 use Rattle.wiring.specs.Poly.{Poly, plain}
 use Rattle.wiring.specs.Derivative.{derivative}
-use Rattle.wiring.specs.Quadratic.{inV2, unmet}
+use Rattle.wiring.specs.Quadratic.{inV2, lacking}
 use Rattle.wiring.specs.declared.sets.Set.{Set}
 use Rattle.wiring.specs.Signals.{signals, Fitting}
 use Rattle.wiring.specs.Terms.{records, lengthRight, fault, system}
@@ -39,14 +39,14 @@ use Rattle.wiring.proofs.terms.Laws.{clean-widens}
 module _ (n : ℕ) (fs : List (Poly Mono)) (s : List Mono) where
   -- whether a signal's derivative has a nonsquare
   abbrev bad : Mono → Bool
-  bad z = some (unmet plain (signals width n s) (derivative plain fs z))
+  bad z = lacking plain (signals width n s) (derivative plain fs z)
 
   some-missing : some (missing n fs s) ≡ any bad (signals width n s)
   some-missing = some-nonsquares plain mono-order (signals width n s) (derivative plain fs)
 
-  pub first-as : (v : List Mono) (at : ℕ) → v ≡ signals width n s → at ≡ place (λ z. some (unmet plain v (derivative plain fs z))) v → at ≡ firstUnmet n fs s
+  pub first-as : (v : List Mono) (at : ℕ) → v ≡ signals width n s → at ≡ place (λ z. lacking plain v (derivative plain fs z)) v → at ≡ firstUnmet n fs s
   unfolding firstUnmet
-  first-as v at e h = h ∙ ap (λ (l : List Mono). place (λ z. some (unmet plain l (derivative plain fs z))) l) e
+  first-as v at e h = h ∙ ap (λ (l : List Mono). place (λ z. lacking plain l (derivative plain fs z)) l) e
 
   -- the loop's answer is a signal's number, or that of none
   pub first-some : (at : ℕ) → at ≡ firstUnmet n fs s → at < length (signals width n s) → some (missing n fs s) ≡ true

@@ -87,17 +87,17 @@ module _ (v : List Mono) (last : Pick) (fs : List (Poly Mono)) (z : Mono) (r : R
       let both = and-r raised (ahead && out) given in
       (and-i raised ahead (and-l raised (ahead && out) given) (and-l ahead out both), T-not (inV2 plain v (image r z)) (and-r ahead out both))
 
-  pub beyond-none : gives (beyond last) z r ≡ false → offers (unmetBeyond v last) fs z r ≡ false
-  beyond-none e = nT→is (offers (unmetBeyond v last) fs z r) (λ t. is→nT (gives (beyond last) z r) e (offered-beyond t .0))
+  pub lacks-none : gives (beyond last) z r ≡ false → offers (unmetBeyond v last) fs z r ≡ false
+  lacks-none e = nT→is (offers (unmetBeyond v last) fs z r) (λ t. is→nT (gives (beyond last) z r) e (offered-beyond t .0))
 
   module _ (m : Mono) (em : m ≡ image r z) where
-    pub beyond-met : inV2 plain v m ≡ true → offers (unmetBeyond v last) fs z r ≡ false
-    beyond-met e =
+    pub lacks-met : inV2 plain v m ≡ true → offers (unmetBeyond v last) fs z r ≡ false
+    lacks-met e =
         nT→is (offers (unmetBeyond v last) fs z r) (λ t. offered-beyond t .1 (is→T (inV2 plain v (image r z)) (ap (inV2 plain v) (sym em) ∙ e)))
 
-    pub beyond-unmet : gives (beyond last) z r ≡ true → inV2 plain v m ≡ false → not (isZero (coeff plain (derivative plain fs z) m)) ≡ offers (unmetBeyond v last) fs z r
+    pub lacks-unmet : gives (beyond last) z r ≡ true → inV2 plain v m ≡ false → not (isZero (coeff plain (derivative plain fs z) m)) ≡ offers (unmetBeyond v last) fs z r
     unfolding offers gives
-    beyond-unmet e n =
+    lacks-unmet e n =
         let raised = leb 1 (power r z) in
         let ahead = beyond last (image r z) in
         let both = is→T (raised && ahead) e in

@@ -21,12 +21,12 @@ use Rattle.monomial.proofs.order.Laws.{mono-order}
 use Rattle.monomial.proofs.Strips.{strip-length}
 use Rattle.wiring.specs.Panel.{wireBytes}
 use Rattle.wiring.specs.Poly.{Poly, plain, coeff, support}
-use Rattle.wiring.specs.Quadratic.{inV2, unmet}
+use Rattle.wiring.specs.Quadratic.{inV2, unmet, lacking}
 use Rattle.wiring.specs.Choice.{Heads, beyond}
 use Rattle.wiring.specs.declared.choice.Pick.{Pick}
 use Rattle.wiring.specs.declared.wires.Pass.the-variants.{Through, Unmet}
 use Rattle.wiring.specs.declared.wires.Written.{Written}
-use Rattle.wiring.specs.Wires.{Wire, firstOf, secondOf, row, rowsFrom, wiring, wireRecord, wireList, Sheet, Standing, Wrote, unmetBeyond, lacking, RowPassed, Passed}
+use Rattle.wiring.specs.Wires.{Wire, firstOf, secondOf, row, rowsFrom, wiring, wireRecord, wireList, Sheet, Standing, Wrote, unmetBeyond, RowPassed, Passed}
 use Rattle.wiring.proofs.Poly.{support-asc}
 use Rattle.wiring.proofs.quadratic.Laws.{unmet-in, unmet-out}
 use Rattle.wiring.proofs.parts.Laws.{beyond-none, heads-none, behind-next}

@@ -8,7 +8,7 @@ use mir.ValLaws.{toZ-ofZ}
 use Rattle.wiring.specs.Coefficient.{isZero}
 use Rattle.wiring.specs.Signals.{signalsOf}
 use Rattle.wiring.specs.Terms.{recordAt, records, system}
-use Rattle.wiring.proofs.quadratic.Records.{beyond-none, beyond-met, beyond-unmet}
+use Rattle.wiring.proofs.quadratic.Records.{lacks-none, lacks-met, lacks-unmet}
 use Rattle.wiring.proofs.wires.lacks_pair_at.Statement.{statement}
 use Rattle.wiring.proofs.wires.lacks_pair_at.Tie as tie
 
@@ -21,7 +21,7 @@ returns : tie.Need-returns
 returns c =
     let a = c .before .before .before .before .args in
     let p = c .before .before .following in
-    sym (beyond-none (signalsOf (a .v)) (a .last) (system (records (a .terms .now))) (a .z .e) (recordAt (a .terms .now) (a .t)) (sym (p .ensures .told) ∙ not-true _ (c .if1 .taken)))
+    sym (lacks-none (signalsOf (a .v)) (a .last) (system (records (a .terms .now))) (a .z .e) (recordAt (a .terms .now) (a .t)) (sym (p .ensures .told) ∙ not-true _ (c .if1 .taken)))
 
 pair-of-requires : tie.Need-pair-of-requires
 pair-of-requires c κs =
@@ -34,7 +34,7 @@ returns-2 c =
     let p = c .before .before .before .before .before .following in
     let here = not-false _ (c .before .before .before .if1 .left) in
     let met = sym (c .before .pair-of .ensures .told) ∙ c .if2 .taken in
-    sym (beyond-met (signalsOf (a .v)) (a .last) (system (records (a .terms .now))) (a .z .e) (recordAt (a .terms .now) (a .t)) (p .result .m .e) (p .ensures .is here) met)
+    sym (lacks-met (signalsOf (a .v)) (a .last) (system (records (a .terms .now))) (a .z .e) (recordAt (a .terms .now) (a .t)) (p .result .m .e) (p .ensures .is here) met)
 
 total-requires : tie.Need-total-requires
 total-requires c κs =
@@ -53,7 +53,7 @@ returns-3 c =
     let sum = c .before .total in
     let same-sum = toZ-ofZ w32 (sum .result) (sfits-of (sum .ok)) in
     ap not (c .is-zero .ensures ∙ ap isZero (same-sum ∙ sum .ensures))
-    ∙ beyond-unmet (signalsOf (a .v)) (a .last) (system (records (a .terms .now))) (a .z .e) (recordAt (a .terms .now) (a .t)) (p .result .m .e) (p .ensures .is here) (sym (p .ensures .told) ∙ here) unmet
+    ∙ lacks-unmet (signalsOf (a .v)) (a .last) (system (records (a .terms .now))) (a .z .e) (recordAt (a .terms .now) (a .t)) (p .result .m .e) (p .ensures .is here) (sym (p .ensures .told) ∙ here) unmet
 
 pub lacks-pair-at-spec : {M : Type 1} → statement M
 lacks-pair-at-spec =
