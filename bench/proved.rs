@@ -3,6 +3,7 @@
 unsafe extern "C" {
     fn siragumon_plan(
         n: u64,
+        marks: u64,
         cap: u64,
         limit: u64,
         terms: *const u8,
@@ -13,6 +14,7 @@ unsafe extern "C" {
     );
     fn siragumon_wire(
         n: u64,
+        marks: u64,
         terms: *const u8,
         terms_len: usize,
         set: *const u8,
@@ -23,6 +25,7 @@ unsafe extern "C" {
     );
     fn siragumon_thin(
         n: u64,
+        marks: u64,
         terms: *const u8,
         terms_len: usize,
         set: *const u8,
@@ -35,23 +38,29 @@ unsafe extern "C" {
 
 // In each call the slices and the five numbers are apart and live through it, and nothing more is asked of the caller.
 
-pub fn plan(n: u64, cap: u64, limit: u64, terms: &[u8], out: &mut [u8]) -> [u64; 5] {
+pub fn plan(n: u64, marks: u64, cap: u64, limit: u64, terms: &[u8], out: &mut [u8]) -> [u64; 5] {
     let mut five = [0; 5];
-    unsafe { siragumon_plan(n, cap, limit, terms.as_ptr(), terms.len(), out.as_mut_ptr(), out.len(), &mut five) };
+    unsafe { siragumon_plan(n, marks, cap, limit, terms.as_ptr(), terms.len(), out.as_mut_ptr(), out.len(), &mut five) };
+    five
+}
+
+// Wiring and thinning are lent the same.
+type OnSet = unsafe extern "C" fn(u64, u64, *const u8, usize, *const u8, usize, *mut u8, usize, *mut [u64; 5]);
+
+#[inline(always)]
+fn on_set(call: OnSet, n: u64, marks: u64, terms: &[u8], set: &[u8], out: &mut [u8]) -> [u64; 5] {
+    let mut five = [0; 5];
+    unsafe { call(n, marks, terms.as_ptr(), terms.len(), set.as_ptr(), set.len(), out.as_mut_ptr(), out.len(), &mut five) };
     five
 }
 
 // The timing takes planning alone.
 #[allow(dead_code)]
-pub fn wire(n: u64, terms: &[u8], set: &[u8], out: &mut [u8]) -> [u64; 5] {
-    let mut five = [0; 5];
-    unsafe { siragumon_wire(n, terms.as_ptr(), terms.len(), set.as_ptr(), set.len(), out.as_mut_ptr(), out.len(), &mut five) };
-    five
+pub fn wire(n: u64, marks: u64, terms: &[u8], set: &[u8], out: &mut [u8]) -> [u64; 5] {
+    on_set(siragumon_wire, n, marks, terms, set, out)
 }
 
 #[allow(dead_code)]
-pub fn thin(n: u64, terms: &[u8], set: &[u8], out: &mut [u8]) -> [u64; 5] {
-    let mut five = [0; 5];
-    unsafe { siragumon_thin(n, terms.as_ptr(), terms.len(), set.as_ptr(), set.len(), out.as_mut_ptr(), out.len(), &mut five) };
-    five
+pub fn thin(n: u64, marks: u64, terms: &[u8], set: &[u8], out: &mut [u8]) -> [u64; 5] {
+    on_set(siragumon_thin, n, marks, terms, set, out)
 }

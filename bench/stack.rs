@@ -50,15 +50,15 @@ fn main() {
         let terms = s.terms.as_flattened();
         let mut sets = vec![0; ROOM];
         let mut wires = vec![0; WIRES];
-        let plan = measured(&mut || proved::plan(s.n, CAP, s.limit, black_box(terms), &mut sets));
+        let plan = measured(&mut || proved::plan(s.n, s.marks, CAP, s.limit, black_box(terms), &mut sets));
         // The first set, or the empty one where planning is not done: the buffer is all zeros then.
         let set = &sets[..SET_BYTES];
-        let wire = measured(&mut || proved::wire(s.n, black_box(terms), set, &mut wires));
+        let wire = measured(&mut || proved::wire(s.n, s.marks, black_box(terms), set, &mut wires));
         // The verdict alone may go another way than a list.
-        let (_, verdict) = measured(&mut || proved::wire(s.n, black_box(terms), set, &mut []));
+        let (_, verdict) = measured(&mut || proved::wire(s.n, s.marks, black_box(terms), set, &mut []));
         let deepest = wire.1.max(verdict);
         let mut subsets = [0; SUBSETS];
-        let thin = measured(&mut || proved::thin(s.n, black_box(terms), set, &mut subsets));
+        let thin = measured(&mut || proved::thin(s.n, s.marks, black_box(terms), set, &mut subsets));
         print!("{:<28} {:>4} {:>7} {:>4} {:>7}", s.name, plan.0[1], plan.1, wire.0[0], deepest);
         println!(" {:>4} {:>7}", thin.0[0], thin.1);
         for (m, used) in most.iter_mut().zip([plan.1, deepest, thin.1]) {

@@ -35,14 +35,14 @@ fn now() -> f64 {
     t.seconds as f64 + 1e-9 * t.nanoseconds as f64
 }
 
-type Plan = fn(u64, u64, u64, &[u8], &mut [u8]) -> [u64; 5];
+type Plan = fn(u64, u64, u64, u64, &[u8], &mut [u8]) -> [u64; 5];
 
 // The reply, and the seconds of one walk.
 fn once(plan: Plan, s: &System, repeats: u64, out: &mut [u8]) -> ([u64; 5], f64) {
     let mut five = [0; 5];
     let began = now();
     for _ in 0..repeats {
-        five = black_box(plan(black_box(s.n), CAP, s.limit, black_box(s.terms.as_flattened()), out));
+        five = black_box(plan(black_box(s.n), black_box(s.marks), CAP, s.limit, black_box(s.terms.as_flattened()), out));
     }
     (five, (now() - began) / repeats as f64)
 }

@@ -38,6 +38,7 @@ enum Stop {
 
 struct Walk<'a> {
     n: usize,
+    outside: Mono,
     level: usize,
     limit: u64,
     steps: u64,
@@ -63,6 +64,16 @@ fn over(a: Mono, b: Mono) -> Mono {
         r[i] -= b[i];
     }
     r
+}
+
+// Whether m contains one of the variables that are all ones in `outside`.
+#[inline(always)]
+fn meets(m: Mono, outside: Mono) -> bool {
+    let mut met = 0;
+    for i in 0..VARIABLES {
+        met |= m[i] & outside[i];
+    }
+    met != 0
 }
 
 fn score(m: Mono) -> u64 {
@@ -248,7 +259,9 @@ impl Walk<'_> {
             self.step()?;
             let new_a = !v.members().contains(&a);
             let new_b = a != b && !v.members().contains(&b);
-            if set.len + new_a as usize + new_b as usize <= self.level {
+            // No new monomial contains a signal from outside; only a pair that has room is asked.
+            let fits = set.len + new_a as usize + new_b as usize <= self.level;
+            if fits && !(new_a && meets(a, self.outside)) && !(new_b && meets(b, self.outside)) {
                 let mut child = *set;
                 if new_a {
                     child.add(a);
@@ -264,10 +277,11 @@ impl Walk<'_> {
 }
 
 // Code, order, count, steps and place; the finds are left in the buffer as the proved planning leaves them.
-pub fn plan(n: u64, cap: u64, limit: u64, terms: &[u8], out: &mut [u8]) -> [u64; 5] {
+pub fn plan(n: u64, marks: u64, cap: u64, limit: u64, terms: &[u8], out: &mut [u8]) -> [u64; 5] {
     out.fill(0);
     let mut w = Walk {
         n: n as usize,
+        outside: std::array::from_fn(|i| if marks >> i & 1 == 1 { u8::MAX } else { 0 }),
         level: 0,
         limit,
         steps: 0,

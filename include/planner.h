@@ -47,16 +47,17 @@ enum siragumon_code {
        thin: all smallest quadratic subsets of the set; order: size of a subset, count of subsets, steps: all subsets
        of the set, 2 to the power of its size. */
     SIRAGUMON_DONE = 0,
-    /* n, cap or limit out of range. */
+    /* n, cap or limit out of range, or a mark beyond xn. */
     SIRAGUMON_SETTING = 1,
     /* terms_len is no multiple of SIRAGUMON_TERM_BYTES or over SIRAGUMON_TERMS_BYTES; set_len is not
        SIRAGUMON_SET_BYTES. */
     SIRAGUMON_LENGTH = 2,
-    /* A field of a term record breaks its rule; place: the record, from 1. */
+    /* A field of a term record breaks its rule, as does the equation of a marked variable; place: the record, from
+       1. */
     SIRAGUMON_TERM = 3,
     /* A term record repeats an earlier one's equation and exponents; place: the later record. */
     SIRAGUMON_TWICE = 4,
-    /* plan: no set with at most cap new signals; order: cap + 1, steps. */
+    /* plan: no set with at most cap new signals, none of them with a marked variable; order: cap + 1, steps. */
     SIRAGUMON_NONE = 5,
     /* plan: more sets than `out` holds; order: the level, steps with the finding step.
        wire: the set is quadratic, and its list is longer than `out` holds; order: size of the set.
@@ -64,10 +65,10 @@ enum siragumon_code {
     SIRAGUMON_FULL = 6,
     /* plan: the next step would pass the limit; order: the level of the step not taken, steps: the limit. */
     SIRAGUMON_SPENT = 7,
-    /* The set record breaks its rule. */
+    /* The set record breaks its rule, as does a monomial with a marked variable. */
     SIRAGUMON_SET = 8,
     /* The set is not quadratic; order: its size, place: number of the first signal whose derivative no products of two
-       signals make up. */
+       signals make up. It is never a marked variable. */
     SIRAGUMON_NOT_QUADRATIC = 9
 };
 
@@ -80,13 +81,23 @@ enum siragumon_code {
 #define SIRAGUMON_VARIABLES 6
 #define SIRAGUMON_CARDS 6
 
+/*
+ * Marks say which variables are signals fed from outside. They are one number with a bit for each: x2 and x3 are
+ * SIRAGUMON_MARK(2) | SIRAGUMON_MARK(3). A mark's variable is 1 to n.
+ *
+ * A variable without term records is a knob, which never changes, unless it is marked. How a marked one changes is not
+ * known: terms may contain it, but it has no term records of its own, and no new signal contains it.
+ */
+#define SIRAGUMON_NO_MARKS ((uint64_t)0)
+#define SIRAGUMON_MARK(variable) ((uint64_t)1 << ((variable) - 1))
+
 /* The most that `limit` may be. */
 #define SIRAGUMON_STEPS_MOST 1000000000
 
 /*
- * A term record: equation (1 to n), zero, exponents (0 to SIRAGUMON_EXPONENT_MOST, zero beyond xn), coefficient (four
- * bytes, two's complement, low byte first; not zero, at most SIRAGUMON_COEFFICIENT_MOST either way). Up to
- * SIRAGUMON_TERMS_MOST of them, in any order.
+ * A term record: equation (1 to n, of a variable that is not marked), zero, exponents (0 to SIRAGUMON_EXPONENT_MOST,
+ * zero beyond xn), coefficient (four bytes, two's complement, low byte first; not zero, at most
+ * SIRAGUMON_COEFFICIENT_MOST either way). Up to SIRAGUMON_TERMS_MOST of them, in any order.
  */
 #define SIRAGUMON_EXPONENT_MOST 9
 #define SIRAGUMON_COEFFICIENT_MOST 1000000
@@ -95,8 +106,9 @@ enum siragumon_code {
 #define SIRAGUMON_TERMS_BYTES (SIRAGUMON_TERMS_MOST * SIRAGUMON_TERM_BYTES)
 
 /*
- * A set record: a monomial for each card (exponents 0 to SIRAGUMON_SET_EXPONENT_MOST, zero beyond xn), strictly
- * ascending, none of them 1 or a single variable, then zeros for unused places. All zeros are the empty set.
+ * A set record: a monomial for each card (exponents 0 to SIRAGUMON_SET_EXPONENT_MOST, zero beyond xn and for marked
+ * variables), strictly ascending, none of them 1 or a single variable, then zeros for unused places. All zeros are the
+ * empty set.
  */
 #define SIRAGUMON_SET_EXPONENT_MOST (SIRAGUMON_CARDS * SIRAGUMON_EXPONENT_MOST)
 #define SIRAGUMON_SET_BYTES (SIRAGUMON_CARDS * SIRAGUMON_VARIABLES)
@@ -108,9 +120,10 @@ enum siragumon_code {
 /*
  * A wiring record: left signal, first factor a, second factor b (a <= b), zero, coefficient (four bytes as above). The
  * derivative of the left signal is the sum of its records' coefficient times a times b. Signal 0 is 1, signals 1 to n
- * are the variables, and those from n + 1 on are the monomials of the set in their order. No list is longer than
- * SIRAGUMON_WIRES_MOST records: a term stands in the derivative of its variable, and at most once in that of each new
- * signal.
+ * are the variables, and those from n + 1 on are the monomials of the set in their order. A marked variable keeps its
+ * number and may be a factor; it is the left signal of no record, and that says nothing of its derivative. No list is
+ * longer than SIRAGUMON_WIRES_MOST records: a term stands in the derivative of its variable, and at most once in that of
+ * each new signal.
  */
 #define SIRAGUMON_WIRE_BYTES 8
 #define SIRAGUMON_WIRES_MOST ((1 + SIRAGUMON_CARDS) * SIRAGUMON_TERMS_MOST)
@@ -118,11 +131,11 @@ enum siragumon_code {
 
 /*
  * Plans: finds all smallest sets of new signals that make the system quadratic, up to `cap` of them (0 to
- * SIRAGUMON_CARDS), within `limit` steps (1 to SIRAGUMON_STEPS_MOST). `out` holds out_len / SIRAGUMON_SET_BYTES sets,
- * rounded down; they are written ascending.
+ * SIRAGUMON_CARDS), within `limit` steps (1 to SIRAGUMON_STEPS_MOST). They are the smallest of the sets that contain no
+ * marked variable. `out` holds out_len / SIRAGUMON_SET_BYTES sets, rounded down; they are written ascending.
  */
-void siragumon_plan(uint64_t n, uint64_t cap, uint64_t limit, const uint8_t *terms, size_t terms_len, uint8_t *out,
-                    size_t out_len, uint64_t five[SIRAGUMON_NUMBERS]);
+void siragumon_plan(uint64_t n, uint64_t marks, uint64_t cap, uint64_t limit, const uint8_t *terms, size_t terms_len,
+                    uint8_t *out, size_t out_len, uint64_t five[SIRAGUMON_NUMBERS]);
 
 /*
  * Wires: says whether a set of new signals makes the system quadratic, and writes the wiring list of one that does: for
@@ -133,8 +146,8 @@ void siragumon_plan(uint64_t n, uint64_t cap, uint64_t limit, const uint8_t *ter
  * that it is not. Who wants this verdict alone lends an `out` of length 0: then SIRAGUMON_FULL says that the set is
  * quadratic and its list is not empty, SIRAGUMON_DONE that it is quadratic and its list is empty.
  */
-void siragumon_wire(uint64_t n, const uint8_t *terms, size_t terms_len, const uint8_t *set, size_t set_len,
-                    uint8_t *out, size_t out_len, uint64_t five[SIRAGUMON_NUMBERS]);
+void siragumon_wire(uint64_t n, uint64_t marks, const uint8_t *terms, size_t terms_len, const uint8_t *set,
+                    size_t set_len, uint8_t *out, size_t out_len, uint64_t five[SIRAGUMON_NUMBERS]);
 
 /*
  * Thins: finds all smallest quadratic subsets of a quadratic set, which the set itself and the empty set may be. They
@@ -142,8 +155,8 @@ void siragumon_wire(uint64_t n, const uint8_t *terms, size_t terms_len, const ui
  * out_len / SIRAGUMON_SET_BYTES subsets, rounded down; they are written ascending, and each of them can be wired.
  * SIRAGUMON_SUBSETS_BYTES are always enough.
  */
-void siragumon_thin(uint64_t n, const uint8_t *terms, size_t terms_len, const uint8_t *set, size_t set_len,
-                    uint8_t *out, size_t out_len, uint64_t five[SIRAGUMON_NUMBERS]);
+void siragumon_thin(uint64_t n, uint64_t marks, const uint8_t *terms, size_t terms_len, const uint8_t *set,
+                    size_t set_len, uint8_t *out, size_t out_len, uint64_t five[SIRAGUMON_NUMBERS]);
 
 #ifdef __cplusplus
 }

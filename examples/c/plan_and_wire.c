@@ -55,7 +55,7 @@ static void print_wire(const uint8_t *wire, const uint8_t *set) {
 int main(void) {
     uint64_t five[SIRAGUMON_NUMBERS];
 
-    siragumon_plan(N, CAP, LIMIT, terms, sizeof terms, sets, sizeof sets, five);
+    siragumon_plan(N, SIRAGUMON_NO_MARKS, CAP, LIMIT, terms, sizeof terms, sets, sizeof sets, five);
     if (five[SIRAGUMON_CODE] != SIRAGUMON_DONE) {
         printf("planning says %d\n", (int)five[SIRAGUMON_CODE]);
         return 1;
@@ -64,7 +64,7 @@ int main(void) {
     printf("%d smallest sets of %d new signals, after %d steps\n", (int)five[SIRAGUMON_COUNT], size, (int)five[SIRAGUMON_STEPS]);
     for (int i = 0; i < (int)five[SIRAGUMON_COUNT]; i++) print_set(sets + SIRAGUMON_SET_BYTES * i, size);
 
-    siragumon_wire(N, terms, sizeof terms, sets, SIRAGUMON_SET_BYTES, wires, sizeof wires, five);
+    siragumon_wire(N, SIRAGUMON_NO_MARKS, terms, sizeof terms, sets, SIRAGUMON_SET_BYTES, wires, sizeof wires, five);
     if (five[SIRAGUMON_CODE] != SIRAGUMON_DONE) {
         printf("wiring says %d\n", (int)five[SIRAGUMON_CODE]);
         return 1;

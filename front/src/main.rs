@@ -29,7 +29,7 @@ use typed::given::Aim;
 use typed::options::Options;
 use typed::settings::Settings;
 use typed::system::{Record, System};
-use typed::text::{Fault, Source};
+use typed::text::{Fault, Holds, Source};
 use typed::{options, parser};
 
 const LISTED: u8 = 0;
@@ -61,14 +61,10 @@ fn run() -> u8 {
             Err(why) => return not_understood(&sources, &Fault::nowhere(why), &options),
         }
     }
-    let typed = match options.given.take() {
-        None => parser::parse(&sources),
-        Some((aim, text)) => {
-            sources.push(Source { file: None, text });
-            parser::parse_with_set(&sources, aim)
-        }
-    };
-    match typed.and_then(|typed| System::of(&typed)) {
+    let said = options.said.drain(..).map(|(kind, names)| Source::argument(Holds::Names(kind), names));
+    let given = options.given.take().map(|(aim, set)| Source::argument(Holds::Set(aim), set));
+    sources.extend(said.chain(given));
+    match parser::parse(&sources).and_then(|typed| System::of(&typed)) {
         Ok(system) => answer(&sources, &system, &options),
         Err(fault) => not_understood(&sources, &fault, &options),
     }
@@ -125,9 +121,9 @@ fn ask(system: &System, settings: &Settings) -> Result<Answer, String> {
     let runner =
         std::env::var(RUNNER).map_err(|_| format!("{RUNNER} does not say how to run the planner; use ./plan"))?;
     let terms = records.iter().flat_map(Record::bytes).collect();
-    let planner = Planner { runner, n: system.names.len(), terms };
+    let planner = Planner { runner, n: system.names.len(), marks: system.marks(), terms };
     let Some(given) = &system.given else {
-        return plan(&planner, settings);
+        return plan(&planner, settings, &system.outside());
     };
     match (given.set(), given.aim) {
         (None, _) => Ok(Answer::refused(SET, 0)),
@@ -136,7 +132,7 @@ fn ask(system: &System, settings: &Settings) -> Result<Answer, String> {
     }
 }
 
-fn plan(planner: &Planner, settings: &Settings) -> Result<Answer, String> {
+fn plan(planner: &Planner, settings: &Settings, outside: &[&str]) -> Result<Answer, String> {
     let began = Instant::now();
     let watch = std::cell::RefCell::new(Watch::new(std::io::stderr(), std::io::stderr().is_terminal()));
     let mut known = String::new();
@@ -144,8 +140,9 @@ fn plan(planner: &Planner, settings: &Settings) -> Result<Answer, String> {
         settings,
         |settings| planner.ask(settings, || watch.borrow_mut().tick(began.elapsed())),
         |cards, steps| {
-            known = format!("; what it had shown: {}", words::excluded(cards));
-            watch.borrow_mut().shown(cards, steps, began.elapsed());
+            let excluded = words::excluded(cards, outside);
+            watch.borrow_mut().shown(cards, &excluded, steps, began.elapsed());
+            known = format!("; what it had shown: {excluded}");
         },
     );
     watch.borrow_mut().end();

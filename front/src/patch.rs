@@ -2,6 +2,7 @@
 
 use crate::algebra;
 use crate::asking::answer::{Answer, Wire};
+use crate::typed::names::Kind;
 use crate::typed::system::System;
 
 #[derive(Debug, PartialEq)]
@@ -10,11 +11,23 @@ pub struct Patch {
     pub signals: Vec<String>,
     /// What each new signal is, as text over the variables.
     pub new: Vec<String>,
+    /// The signals that are fed from outside, by number.
+    pub outside: Vec<usize>,
     /// One row for each signal of the patch. A variable that stands neither in an equation nor in the set has none.
     pub rows: Vec<Row>,
 }
 
-/// What is summed into a signal's integrator. Without wires the signal never changes.
+/// What a signal of the patch comes from.
+#[derive(Debug, Clone, Copy, PartialEq)]
+pub enum Feed {
+    Integrator,
+    /// It never changes, and needs no integrator.
+    Knob,
+    /// It is fed from outside.
+    Socket,
+}
+
+/// What is summed into a signal's integrator. Without wires the signal never changes, or is fed from outside.
 #[derive(Debug, PartialEq)]
 pub struct Row {
     pub signal: usize,
@@ -30,11 +43,12 @@ impl Patch {
         signals.extend(system.names.iter().cloned());
         signals.extend((1..=set.len()).map(|i| system.new_name(i)));
         let new = system.set(set);
+        let outside = (1..=n).filter(|&s| system.kind(s - 1) == Kind::Signal).collect();
         let rows = (1..signals.len())
             .filter(|&s| n < s || system.used[s - 1] || set.iter().any(|new| new[s - 1] != 0))
             .map(|s| Row { signal: s, wires: answer.wires.iter().filter(|w| w.left == s).copied().collect() })
             .collect();
-        Some(Patch { signals, new, rows })
+        Some(Patch { signals, new, outside, rows })
     }
 
     /// What a new signal is; nothing for a variable.
@@ -43,9 +57,17 @@ impl Patch {
         self.new.get(signal.checked_sub(first)?).map(String::as_str)
     }
 
-    /// A variable that never changes needs no integrator.
-    pub fn is_knob(&self, row: &Row) -> bool {
-        row.wires.is_empty() && self.new_of(row.signal).is_none()
+    pub fn feed(&self, row: &Row) -> Feed {
+        match row.wires[..] {
+            [] if self.outside.contains(&row.signal) => Feed::Socket,
+            [] if self.new_of(row.signal).is_none() => Feed::Knob,
+            _ => Feed::Integrator,
+        }
+    }
+
+    /// The rows of signals that come from the same.
+    pub fn fed_by(&self, feed: Feed) -> impl Iterator<Item = &Row> {
+        self.rows.iter().filter(move |row| self.feed(row) == feed)
     }
 
     pub fn product(&self, wire: &Wire) -> String {
@@ -61,12 +83,12 @@ impl Patch {
         pairs
     }
 
-    /// `w1 = x^3`, .. and then `x' = x*w1 + w1`, ..
+    /// `w1 = x^3`, .. and then `x' = x*w1 + w1`, .. A signal from outside has no equation.
     pub fn equations(&self) -> Vec<String> {
         let first = self.signals.len() - self.new.len();
         let mut out: Vec<String> =
             self.new.iter().enumerate().map(|(i, m)| format!("{} = {m}", self.signals[first + i])).collect();
-        for row in &self.rows {
+        for row in self.rows.iter().filter(|row| self.feed(row) != Feed::Socket) {
             let terms: Vec<(i64, String)> = row.wires.iter().map(|w| (w.coefficient.into(), self.product(w))).collect();
             let sum = algebra::sum(terms.iter().map(|(c, p)| (*c, p.as_str())));
             out.push(format!("{}' = {sum}", self.signals[row.signal]));
@@ -80,7 +102,7 @@ pub mod tests {
     use super::*;
     use crate::asking::answer::{planned, tests::EXAMPLE, wired};
     use crate::typed::given::Aim;
-    use crate::typed::system::tests::{given, system};
+    use crate::typed::system::tests::{given, system, with_signals};
 
     pub fn patch(text: &str, written: &str) -> Patch {
         let system = system(text);
@@ -108,6 +130,16 @@ pub mod tests {
         assert_eq!(patch.equations(), ["w1 = x1*x2", "x1' = x1*w1", "x2' = -x2*w1", "w1' = 0"]);
         let unfed = super::tests::patch("x1' = x1^2 x2", "0 1 1 8 0\n1.1.0.0.0.0\n1 1 3 1\n3 3 3 1\n");
         assert_eq!(unfed.equations(), ["w1 = x1*x2", "x1' = x1*w1", "x2' = 0", "w1' = w1^2"]);
+    }
+
+    #[test]
+    fn a_signal_from_outside_has_no_equation() {
+        let system = with_signals("x1' = x1^3 + u x1", "u");
+        let written = "0 1 1 6 0\n2.0.0.0.0.0\n1 1 2 1\n1 1 3 1\n3 2 3 2\n3 3 3 2\n";
+        let patch = Patch::of(&system, &planned(2, written).unwrap(), 1).unwrap();
+        assert_eq!(patch.equations(), ["w1 = x1^2", "x1' = x1*u + x1*w1", "w1' = 2*u*w1 + 2*w1^2"]);
+        let feeds: Vec<Feed> = patch.rows.iter().map(|row| patch.feed(row)).collect();
+        assert_eq!(feeds, [Feed::Integrator, Feed::Socket, Feed::Integrator]);
     }
 
     #[test]

@@ -4,15 +4,16 @@ use crate::algebra::Exponents;
 use crate::asking::answer::{planned, thinned, wired, Answer};
 use crate::patch::Patch;
 use crate::typed::given::{self, Aim};
+use crate::typed::names::Kind;
 use crate::typed::settings::Settings;
 use crate::typed::system::{tests, Record, System};
 
 const RECORDED: &str = include_str!("../tests/recorded");
 
 /// What the program wrote. The call must be one that a case of front/tests/cases makes.
-fn written(words: &str, input: &[u8]) -> String {
+fn written(system: &System, words: &str, input: &[u8]) -> String {
     let hex: String = input.iter().map(|byte| format!("{byte:02x}")).collect();
-    let call = format!("ask {words} [{hex}]");
+    let call = format!("ask {} {}{words} [{hex}]", system.names.len(), system.marks());
     let mut lines = RECORDED.lines();
     assert!(lines.by_ref().any(|line| line == call), "not recorded: {call}");
     lines.take_while(|line| !line.starts_with("ask ")).map(|line| format!("{line}\n")).collect()
@@ -25,31 +26,28 @@ fn terms(system: &System) -> Vec<u8> {
 /// The plan for a system.
 pub fn plan(system: &System, settings: &Settings) -> Answer {
     let Settings { cards, steps, sets, which } = settings;
-    let n = system.names.len();
-    let words = format!("{n} {} {} {} {which}", cards.digits(), steps.digits(), sets.digits());
-    planned(n, &written(&words, &terms(system))).unwrap()
+    let words = format!(" {} {} {} {which}", cards.digits(), steps.digits(), sets.digits());
+    planned(system.names.len(), &written(system, &words, &terms(system))).unwrap()
 }
 
 /// The set that is given with a system, and what the program wrote of it.
 fn of_set(system: &System, words: &str) -> (Vec<Exponents>, String) {
     let set = system.given.as_ref().unwrap().set().unwrap();
     let input = [&given::record(&set)[..], &terms(system)].concat();
-    let text = written(words, &input);
+    let text = written(system, words, &input);
     (set, text)
 }
 
 /// The thinning of the set that is given with a system.
 pub fn thinning(system: &System, which: u64) -> Answer {
-    let n = system.names.len();
-    let (set, text) = of_set(system, &format!("{n} {which}"));
-    thinned(n, &set, &text).unwrap()
+    let (set, text) = of_set(system, &format!(" {which}"));
+    thinned(system.names.len(), &set, &text).unwrap()
 }
 
 /// The wiring of it.
 pub fn wiring(system: &System) -> Answer {
-    let n = system.names.len();
-    let (set, text) = of_set(system, &n.to_string());
-    wired(n, &set, &text).unwrap()
+    let (set, text) = of_set(system, "");
+    wired(system.names.len(), &set, &text).unwrap()
 }
 
 const CROWDED: &str = include_str!("../tests/crowded.txt");
@@ -81,18 +79,21 @@ pub fn patches() -> Vec<(System, Patch)> {
 
 fn planned_patches() -> Vec<(System, Patch)> {
     [
-        ("x' = 0", 0),
-        ("x' = x^4 + x^3", 2),
-        ("x1' = x1^2 x2, x2' = -x1 x2^2", 1),
-        ("x1' = x1^2 x2", 1),
-        ("x1' = x2^4, x2' = x1^2", 3),
-        ("x' = y z - y + x^2 y + x, y' = 3 x z + x - x^3 + y, z' = -2 z - 2 x y z", 3),
-        ("x1' = 3 x2^2 x4 x5^5 x6^5 + 2 x6^3 + x1 x3^3 x6^5 - x2^2 x6^4, x5' = -1", 6),
-        (CROWDED, 4),
+        ("x' = 0", "", "", 0),
+        ("x' = x^4 + x^3", "", "", 2),
+        ("x1' = x1^2 x2, x2' = -x1 x2^2", "", "", 1),
+        ("x1' = x1^2 x2", "", "", 1),
+        ("x1' = x2^4, x2' = x1^2", "", "", 3),
+        ("x' = y z - y + x^2 y + x, y' = 3 x z + x - x^3 + y, z' = -2 z - 2 x y z", "", "", 3),
+        ("x1' = 3 x2^2 x4 x5^5 x6^5 + 2 x6^3 + x1 x3^3 x6^5 - x2^2 x6^4, x5' = -1", "", "", 6),
+        (CROWDED, "", "", 4),
+        ("x1' = x1^3 + u x1", "u", "", 1),
+        ("theta' = omega, omega' = -k*theta^3 - d*omega + push", "push", "k, d", 2),
     ]
     .into_iter()
-    .map(|(text, cards)| {
-        let system = tests::system(text);
+    .map(|(text, signals, knobs, cards)| {
+        let said = [(Kind::Signal, signals), (Kind::Knob, knobs)].into_iter().filter(|(_, names)| !names.is_empty());
+        let system = tests::system_of(&[&tests::typed(text)[..], &tests::said(&said.collect::<Vec<_>>())].concat());
         let answer = plan(&system, &Settings { cards: cards.into(), ..Settings::default() });
         let patch = Patch::of(&system, &answer, 1).unwrap();
         (system, patch)

@@ -1,6 +1,6 @@
 //! Batches: cases side by side as bytes, and one line of answer for each.
 //!
-//! All numbers are low byte first. A case is a head of 32 bytes, then its
+//! All numbers are low byte first. A case is a head of 40 bytes, then its
 //! terms, then its set:
 //!
 //! | bytes | meaning |
@@ -9,13 +9,16 @@
 //! | 1 | length of the set |
 //! | 2-3 | length of the terms, at most 600 |
 //! | 4-7 | length of the answer buffer, at most 65,536 |
-//! | 8-15, 16-23, 24-31 | n, K, limit (the last two are planning's alone) |
+//! | 8-15, 16-23 | n, marks |
+//! | 24-31, 32-39 | K, limit (planning's alone) |
 
+use crate::marks::Marks;
 use crate::operations::{plan, thin, wire};
 use crate::reply::Reply;
 use std::fmt::Write;
 
-const HEAD_BYTES: usize = 32;
+/// Of a head, what stands before its numbers of 8 bytes.
+const LENGTHS_BYTES: usize = 8;
 const MOST_CASE_TERMS: usize = 600;
 pub const MOST_CASE_BUFFER: usize = 65_536;
 
@@ -51,6 +54,7 @@ impl Operation {
 pub struct Case {
     pub operation: Operation,
     pub n: u64,
+    pub marks: u64,
     pub cap: u64,
     pub limit: u64,
     pub buffer: usize,
@@ -63,6 +67,7 @@ impl Case {
         Case {
             operation: Operation::Plan,
             n,
+            marks: 0,
             cap,
             limit,
             buffer,
@@ -75,6 +80,7 @@ impl Case {
         Case {
             operation: Operation::Wire,
             n,
+            marks: 0,
             cap: 0,
             limit: 0,
             buffer,
@@ -90,13 +96,21 @@ impl Case {
         }
     }
 
+    /// The same case with these marks.
+    pub fn marked(self, marks: Marks) -> Case {
+        Case {
+            marks: marks.0,
+            ..self
+        }
+    }
+
     /// Appends the case to a batch.
     pub fn write(&self, batch: &mut Vec<u8>) {
         batch.push(self.operation as u8);
         batch.push(self.set.len() as u8);
         batch.extend((self.terms.len() as u16).to_le_bytes());
         batch.extend((self.buffer as u32).to_le_bytes());
-        for number in [self.n, self.cap, self.limit] {
+        for number in [self.n, self.marks, self.cap, self.limit] {
             batch.extend(number.to_le_bytes());
         }
         batch.extend(&self.terms);
@@ -105,11 +119,20 @@ impl Case {
 
     /// The reply, and the buffer after the call.
     pub fn answer(&self) -> (Reply, Vec<u8>) {
+        let Case {
+            n,
+            marks,
+            cap,
+            limit,
+            terms,
+            set,
+            ..
+        } = self;
         let mut buffer = vec![UNTOUCHED; self.buffer];
         let reply = match self.operation {
-            Operation::Plan => plan(self.n, self.cap, self.limit, &self.terms, &mut buffer),
-            Operation::Wire => wire(self.n, &self.terms, &self.set, &mut buffer),
-            Operation::Thin => thin(self.n, &self.terms, &self.set, &mut buffer),
+            Operation::Plan => plan(*n, *marks, *cap, *limit, terms, &mut buffer),
+            Operation::Wire => wire(*n, *marks, terms, set, &mut buffer),
+            Operation::Thin => thin(*n, *marks, terms, set, &mut buffer),
         };
         (reply, buffer)
     }
@@ -186,7 +209,7 @@ impl<'a> Cases<'a> {
     }
 
     fn read(&mut self) -> Result<Case, Broken> {
-        let head = self.take(HEAD_BYTES - 24)?;
+        let head = self.take(LENGTHS_BYTES)?;
         let operation = Operation::ALL
             .into_iter()
             .find(|operation| *operation as u8 == head[0])
@@ -200,6 +223,7 @@ impl<'a> Cases<'a> {
         Ok(Case {
             operation,
             n: self.number()?,
+            marks: self.number()?,
             cap: self.number()?,
             limit: self.number()?,
             buffer,
@@ -247,6 +271,8 @@ mod tests {
             Case::wire(6, vec![1; 12], vec![0; 36], 1_792),
             Case::wire(0, vec![], vec![], 0),
             Case::thin(2, vec![3; 24], vec![2; 36], 71),
+            Case::plan(1, 2, 3, 4, vec![]).marked(Marks(u64::MAX)),
+            Case::wire(4, vec![9], vec![8], 0).marked(Marks(1 << 63)),
         ]
     }
 
@@ -271,6 +297,7 @@ mod tests {
         Case {
             operation: Operation::Wire,
             n,
+            marks: 0x0d0c,
             cap: 2,
             limit: 0x0a09,
             buffer: 0x0001_0000,
@@ -280,10 +307,11 @@ mod tests {
         .write(&mut batch);
         assert_eq!(batch[..8], [2, 36, 1, 2, 0, 0, 1, 0]);
         assert_eq!(batch[8..16], [1, 2, 3, 4, 5, 6, 7, 8]);
-        assert_eq!(batch[16..24], [2, 0, 0, 0, 0, 0, 0, 0]);
-        assert_eq!(batch[24..32], [9, 10, 0, 0, 0, 0, 0, 0]);
-        assert_eq!(batch.len(), 32 + 0x0201 + 36);
-        assert_eq!(batch[32 + 0x0201], 8);
+        assert_eq!(batch[16..24], [12, 13, 0, 0, 0, 0, 0, 0]);
+        assert_eq!(batch[24..32], [2, 0, 0, 0, 0, 0, 0, 0]);
+        assert_eq!(batch[32..40], [9, 10, 0, 0, 0, 0, 0, 0]);
+        assert_eq!(batch.len(), 40 + 0x0201 + 36);
+        assert_eq!(batch[40 + 0x0201], 8);
     }
 
     #[test]
@@ -331,7 +359,7 @@ mod tests {
         long_terms.extend([0; 601]);
         let mut long_buffer = good.clone();
         long_buffer[4..8].copy_from_slice(&65_537_u32.to_le_bytes());
-        let short_head = good[..31].to_vec();
+        let short_head = good[..39].to_vec();
         let short_set = good[..good.len() - 1].to_vec();
         for broken in [unknown, none, long_terms, long_buffer] {
             let batch = [good.clone(), broken, good.clone()].concat();

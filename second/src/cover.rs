@@ -2,8 +2,11 @@
 //! and how near the cases come to their own limits.
 
 use crate::batch::{Case, Operation};
+use crate::marks::Marks;
 use crate::monomial::Monomial;
-use crate::operations::{cap_is_in_range, limit_is_in_range, n_is_in_range};
+use crate::operations::{
+    cap_is_in_range, limit_is_in_range, n_is_in_range, variables_are_in_range,
+};
 use crate::panel::{
     MOST_COEFFICIENT, MOST_EXPONENT, MOST_LIMIT, MOST_SET_EXPONENT, MOST_WIRES_BYTES, SET_BYTES,
     TERM_BYTES, WIRE_BYTES,
@@ -87,6 +90,9 @@ impl Cover {
     fn setting(&mut self, case: &Case) {
         if !n_is_in_range(case.n) {
             self.number(format!("{}: n refused", case.operation.name()), case.n);
+        } else if !variables_are_in_range(case.n, case.marks) {
+            let name = format!("{}, n {}: marks refused", case.operation.name(), case.n);
+            self.number(name, case.marks);
         }
         if case.operation == Operation::Plan {
             if !cap_is_in_range(case.cap) {
@@ -122,7 +128,7 @@ impl Cover {
         let same = |r: &&Fields| r.equation == record.equation && r.exponents == record.exponents;
         let earlier = records[..at].iter().find(same);
         if code == 3 {
-            let kind = broken(&record, case.n as usize);
+            let kind = broken(&record, case);
             self.number(format!("code 3, {kind}: places"), place);
             if earlier.is_some() {
                 self.count("code 3: the record is also a repeat");
@@ -136,7 +142,7 @@ impl Cover {
             self.number(format!("code 4, {kind} coefficient: places"), place);
         }
         let later = &case.terms[(at + 1) * TERM_BYTES..];
-        if let Err(second) = read_terms(case.n as usize, later) {
+        if let Err(second) = read_terms(case.n as usize, Marks(case.marks), later) {
             self.count(format!(
                 "code {code}: a later record has code {}",
                 second.code
@@ -145,7 +151,7 @@ impl Cover {
     }
 
     fn set_rule(&mut self, case: &Case) {
-        let faults = set_faults(case.n as usize, &case.set);
+        let faults = set_faults(case.n as usize, Marks(case.marks), &case.set);
         let [fault] = faults[..] else {
             self.count("code 8: several rules broken");
             return;
@@ -355,8 +361,9 @@ pub fn report_of(cases: &[Case]) -> String {
 }
 
 /// The kind of a broken field, finer than the rule it breaks.
-fn broken(record: &Fields, n: usize) -> String {
-    let faults = record.faults(n);
+fn broken(record: &Fields, case: &Case) -> String {
+    let n = case.n as usize;
+    let faults = record.faults(n, Marks(case.marks));
     let [fault] = faults[..] else {
         return "several fields".to_string();
     };
@@ -379,27 +386,27 @@ fn broken(record: &Fields, n: usize) -> String {
 
 /// The system and the set (empty for planning) where both are good.
 fn good_input(case: &Case) -> Option<(System, Set)> {
-    if !n_is_in_range(case.n) || !terms_have_a_length(&case.terms) {
+    if !variables_are_in_range(case.n, case.marks) || !terms_have_a_length(&case.terms) {
         return None;
     }
-    let n = case.n as usize;
-    let system = read_terms(n, &case.terms).ok()?;
+    let (n, marks) = (case.n as usize, Marks(case.marks));
+    let system = read_terms(n, marks, &case.terms).ok()?;
     if case.operation == Operation::Plan {
         return Some((system, Set::new()));
     }
     if case.set.len() != SET_BYTES {
         return None;
     }
-    Some((system, read_set(n, &case.set).ok()?))
+    Some((system, read_set(n, marks, &case.set).ok()?))
 }
 
 /// The codes of all refusals that the case would give, each rule by itself.
 fn all_faults(case: &Case) -> BTreeSet<u64> {
     let mut codes = BTreeSet::new();
     let planning = case.operation == Operation::Plan;
-    let good_n = n_is_in_range(case.n);
+    let good_variables = variables_are_in_range(case.n, case.marks);
     let good_walk = cap_is_in_range(case.cap) && limit_is_in_range(case.limit);
-    if !good_n || planning && !good_walk {
+    if !good_variables || planning && !good_walk {
         codes.insert(1);
     }
     let good_terms = terms_have_a_length(&case.terms);
@@ -407,15 +414,15 @@ fn all_faults(case: &Case) -> BTreeSet<u64> {
     if !good_terms || !planning && !good_set {
         codes.insert(2);
     }
-    if !good_n {
+    if !good_variables {
         return codes;
     }
-    let n = case.n as usize;
+    let (n, marks) = (case.n as usize, Marks(case.marks));
     let whole = case.terms.len() / TERM_BYTES * TERM_BYTES;
-    if let Err(refusal) = read_terms(n, &case.terms[..whole]) {
+    if let Err(refusal) = read_terms(n, marks, &case.terms[..whole]) {
         codes.insert(refusal.code);
     }
-    if !planning && good_set && read_set(n, &case.set).is_err() {
+    if !planning && good_set && read_set(n, marks, &case.set).is_err() {
         codes.insert(8);
     }
     if let Some((system, set)) = good_input(case).filter(|_| !planning) {

@@ -194,6 +194,7 @@ fn lower(member: Monomial) -> Monomial {
 #[cfg(test)]
 mod tests {
     use super::*;
+    use crate::marks::Marks;
     use crate::panel::MOST_TERMS;
     use crate::records::{read_terms, set_faults, write_places, write_terms, Fields};
     use crate::systems;
@@ -204,12 +205,13 @@ mod tests {
         for place in 1..=MOST_TERMS {
             for field in FIELDS {
                 for n in 2..=VARIABLES {
-                    let mut terms = write_terms(&systems::run(&mut random, n, MOST_TERMS).terms);
+                    let mut terms =
+                        write_terms(&systems::run(&mut random, n, Marks::NONE, MOST_TERMS).terms);
                     break_term(&mut random, &mut terms, n, place, field);
-                    let refusal = read_terms(n, &terms).unwrap_err();
+                    let refusal = read_terms(n, Marks::NONE, &terms).unwrap_err();
                     assert_eq!(refusal.numbers(), [3, 0, 0, 0, place as u64]);
                     let broken = Fields::of(&terms[(place - 1) * TERM_BYTES..]);
-                    assert_eq!(broken.faults(n).len(), 1);
+                    assert_eq!(broken.faults(n, Marks::NONE).len(), 1);
                 }
             }
         }
@@ -222,11 +224,11 @@ mod tests {
             for n in 1..=VARIABLES {
                 for size in 1..=CARDS {
                     for place in 0..CARDS {
-                        let set = systems::set(&mut random, n, size);
+                        let set = systems::set(&mut random, n, Marks::NONE, size);
                         let mut members: Vec<_> = set.into_iter().collect();
                         break_set(&mut random, &mut members, n, place, way);
                         assert!(members.len() <= CARDS);
-                        let faults = set_faults(n, &write_places(&members));
+                        let faults = set_faults(n, Marks::NONE, &write_places(&members));
                         assert!(!faults.is_empty(), "{way:?} {n} {size} {place}");
                     }
                 }

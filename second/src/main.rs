@@ -5,6 +5,13 @@ mod batch;
 mod cover;
 mod damage;
 mod maker;
+mod mark_maker;
+mod mark_rows;
+#[cfg(test)]
+mod mark_ways;
+#[cfg(test)]
+mod mark_worked;
+mod marks;
 mod monomial;
 mod no_room;
 mod notation;

@@ -6,6 +6,10 @@
 
 use crate::batch::{Case, Operation, MOST_CASE_BUFFER};
 use crate::damage::{break_set, break_term, Field, FIELDS, WAYS};
+use crate::mark_maker::MARKED;
+#[cfg(test)]
+use crate::mark_rows;
+use crate::marks::Marks;
 use crate::monomial::Monomial;
 use crate::no_room::NoRoom;
 use crate::panel::{
@@ -16,27 +20,52 @@ use crate::random::Random;
 use crate::records::{read_set, write_places, write_set, write_terms};
 use crate::rows::rows;
 use crate::system::{Set, System};
-use crate::systems;
+use crate::systems::{self, Outside};
 use crate::thin_maker::THINNING;
+use crate::thin_rows::as_thinning;
 use crate::wire_maker::WIRING;
 
 /// The random cases that are stored with the fixed rows.
 const STORED_SEED: u64 = 1;
 const STORED_COUNT: usize = 4_400;
+const STORED_MARKED: usize = 320;
 
 /// The batch that is stored: the fixed rows, then random cases.
 pub fn stored() -> Vec<Case> {
     let mut cases = rows();
-    cases.extend(batch(STORED_SEED, STORED_COUNT));
+    cases.extend(first_unmarked(STORED_SEED, STORED_COUNT));
+    cases.extend(first_marked(STORED_SEED, STORED_MARKED));
     cases
 }
 
-/// Of each eight cases the seventh is one of thinning, and the last is one of
-/// verdict and wiring together.
-const ROUND: usize = 8;
+/// Of the stored cases those with marks.
+#[cfg(test)]
+pub fn stored_marked() -> Vec<Case> {
+    let mut cases = mark_rows::rows();
+    cases.extend(first_marked(STORED_SEED, STORED_MARKED));
+    cases
+}
+
+/// Of each three cases the last has marks.
+const MARKED_ROUND: usize = 3;
 
 /// The first so many cases that a seed gives.
 pub fn batch(seed: u64, count: usize) -> Vec<Case> {
+    let marked = count / MARKED_ROUND;
+    let mut without = first_unmarked(seed, count - marked).into_iter();
+    let mut with = first_marked(seed, marked).into_iter();
+    let case = |number: usize| match number % MARKED_ROUND {
+        0 => with.next().expect("one of each three"),
+        _ => without.next().expect("two of each three"),
+    };
+    (1..=count).map(case).collect()
+}
+
+/// Of each eight cases without marks the seventh is one of thinning, and the last
+/// is one of verdict and wiring together.
+const ROUND: usize = 8;
+
+fn first_unmarked(seed: u64, count: usize) -> Vec<Case> {
     let (thinnings, wirings) = ((count + 1) / ROUND, count / ROUND);
     let mut thin = first_thinnings(seed, thinnings).into_iter();
     let mut wire = first_wirings(seed, wirings).into_iter();
@@ -60,6 +89,11 @@ fn first_wirings(seed: u64, count: usize) -> Vec<Case> {
     first_cases(seed.rotate_left(32), &WIRING, count)
 }
 
+/// The cases with marks, with random numbers of their own.
+fn first_marked(seed: u64, count: usize) -> Vec<Case> {
+    first_cases(!seed.rotate_left(32), &MARKED, count)
+}
+
 fn first_cases(seed: u64, mix: &'static Mix, count: usize) -> Vec<Case> {
     let mut maker = Maker {
         random: Random::from_seed(seed),
@@ -71,6 +105,9 @@ fn first_cases(seed: u64, mix: &'static Mix, count: usize) -> Vec<Case> {
         lengths: 0,
         settings: 0,
         sets: 0,
+        marks_beyond: 0,
+        marked_records: 0,
+        marked_sets: 0,
         no_room: NoRoom::default(),
         noted: 0,
     };
@@ -99,6 +136,7 @@ pub struct Mix {
     pub asks: &'static [Ask],
     /// Those that are given a set.
     pub given: &'static [Ask],
+    pub outside: Outside,
     /// How often each kind of group comes in a hundred.
     pub shares: &'static [(usize, Group)],
 }
@@ -108,6 +146,7 @@ pub struct Mix {
 const PLANNING: Mix = Mix {
     asks: &[Ask::Plan, Ask::Verdict, Ask::Wire],
     given: &[Ask::Verdict, Ask::Wire],
+    outside: Outside::Nothing,
     shares: &[
         (15, Maker::around_a_plan),
         (8, Maker::around_a_set),
@@ -181,13 +220,16 @@ pub struct Maker {
     lengths: usize,
     settings: usize,
     sets: usize,
+    pub marks_beyond: usize,
+    pub marked_records: usize,
+    pub marked_sets: usize,
     no_room: NoRoom,
     /// How many cases it has taken note of.
     noted: usize,
 }
 
 /// A turn: the counter's value, which moves on.
-fn turn(counter: &mut usize) -> usize {
+pub fn turn(counter: &mut usize) -> usize {
     *counter += 1;
     *counter - 1
 }
@@ -205,10 +247,41 @@ impl Maker {
         group(self);
     }
 
+    /// A system for a story.
+    pub fn any_system(&mut self) -> System {
+        let system = systems::any(&mut self.random);
+        self.mix.outside.feed(&mut self.random, system)
+    }
+
+    /// How many variables there are, and which are marked.
+    pub fn variables(&mut self, least: usize, most: usize) -> (usize, Marks) {
+        self.mix.outside.variables(&mut self.random, least, most)
+    }
+
+    /// A set of any size, and the system made around it.
+    pub fn set_with_system(&mut self) -> (System, Set) {
+        let (n, marks) = self.variables(1, VARIABLES);
+        let size = self.random.between(0, CARDS);
+        systems::around_a_set(&mut self.random, n, marks, size)
+    }
+
+    /// A set of any size that has nothing to do with its system.
+    pub fn system_and_set(&mut self) -> (System, Set) {
+        let system = self.any_system();
+        let size = self.random.between(0, CARDS);
+        let set = systems::set(&mut self.random, system.n, system.marks, size);
+        (system, set)
+    }
+
+    /// Some signals, with whatever their derivatives call for.
+    pub fn closed_set(&mut self) -> (System, Set) {
+        systems::closed(&mut self.random, self.mix.outside)
+    }
+
     /// A system, a first plan with a generous limit, then some of the cases
     /// that this plan's own numbers suggest.
-    fn around_a_plan(&mut self) {
-        let system = systems::any(&mut self.random);
+    pub fn around_a_plan(&mut self) {
+        let system = self.any_system();
         let cap = match self.random.below(10) {
             0..=5 => MOST_CAP,
             _ => self.any_cap(),
@@ -220,7 +293,8 @@ impl Maker {
             generous,
             MOST_CASE_BUFFER,
             write_terms(&system.terms),
-        );
+        )
+        .marked(system.marks);
         let (reply, sets) = first.answer();
         let count = reply.count as usize;
         if reply.code == 7 {
@@ -236,7 +310,8 @@ impl Maker {
                 self.rooms(&first, count);
             }
             let at = self.random.below(count) * SET_BYTES;
-            let found = read_set(system.n, &sets[at..at + SET_BYTES]).expect("a found set");
+            let record = &sets[at..at + SET_BYTES];
+            let found = read_set(system.n, system.marks, record).expect("a found set");
             if self.random.chance(50) {
                 self.with_set(&system, &found);
             } else {
@@ -356,10 +431,10 @@ impl Maker {
             }
             1 if !members.is_empty() => {
                 let at = self.random.below(members.len());
-                members[at] = systems::member(&mut self.random, system.n);
+                members[at] = systems::member(&mut self.random, system.n, system.marks);
             }
             _ if members.len() < CARDS => {
-                members.push(systems::member(&mut self.random, system.n));
+                members.push(systems::member(&mut self.random, system.n, system.marks));
             }
             _ => {}
         }
@@ -372,6 +447,7 @@ impl Maker {
         let wire = |buffer| {
             let set = write_set(set).to_vec();
             Case::wire(system.n as u64, write_terms(&system.terms), set, buffer)
+                .marked(system.marks)
         };
         let (reply, _) = wire(MOST_WIRES_BYTES).answer();
         let judged = self.random.chance(40);
@@ -396,15 +472,13 @@ impl Maker {
     }
 
     /// A set, the system made around it, and the same after a change.
-    fn around_a_set(&mut self) {
-        let n = self.random.between(1, VARIABLES);
-        let size = self.random.between(0, CARDS);
-        let (mut system, set) = systems::around_a_set(&mut self.random, n, size);
+    pub fn around_a_set(&mut self) {
+        let (mut system, set) = self.set_with_system();
         self.with_set(&system, &set);
         let other = self.another_set(&system, &set);
         self.with_set(&system, &other);
         if system.terms.len() < MOST_TERMS && self.random.chance(50) {
-            let extra = systems::run(&mut self.random, n, 1).terms[0];
+            let extra = systems::run(&mut self.random, system.n, system.marks, 1).terms[0];
             if !system.terms.iter().any(|t| t.repeats(&extra)) {
                 system.terms.push(extra);
                 self.with_set(&system, &set);
@@ -413,10 +487,8 @@ impl Maker {
     }
 
     /// A set that has nothing to do with the system.
-    fn random_set(&mut self) {
-        let system = systems::any(&mut self.random);
-        let size = self.random.between(0, CARDS);
-        let set = systems::set(&mut self.random, system.n, size);
+    pub fn random_set(&mut self) {
+        let (system, set) = self.system_and_set();
         self.with_set(&system, &set);
     }
 
@@ -426,32 +498,33 @@ impl Maker {
     }
 
     /// Any operation on these terms, with an ordinary rest.
-    fn any_operation(&mut self, n: u64, terms: Vec<u8>) -> Case {
+    pub fn any_operation(&mut self, n: u64, marks: Marks, terms: Vec<u8>) -> Case {
         let ask = self.random.pick(self.mix.asks);
-        self.operation(ask, n, terms)
+        self.operation(ask, n, marks, terms)
     }
 
-    fn operation(&mut self, ask: Ask, n: u64, terms: Vec<u8>) -> Case {
+    pub fn operation(&mut self, ask: Ask, n: u64, marks: Marks, terms: Vec<u8>) -> Case {
         let buffer = self.random.below(100);
         let size = self.random.below(3);
         let variables = n.clamp(1, MOST_N) as usize;
-        let set = write_set(&systems::set(&mut self.random, variables, size)).to_vec();
+        let set = systems::set(&mut self.random, variables, marks, size);
+        let set = write_set(&set).to_vec();
         match ask {
             Ask::Plan => {
                 let cap = self.any_cap();
-                Case::plan(n, cap, 100, buffer, terms)
+                Case::plan(n, cap, 100, buffer, terms).marked(marks)
             }
-            _ => self.given(ask, n, terms, set, buffer),
+            _ => self.given(ask, Case::wire(n, terms, set, buffer).marked(marks)),
         }
     }
 
     /// The ask whose turn it is.
-    fn ask_by(&self, turn: usize) -> Ask {
+    pub fn ask_by(&self, turn: usize) -> Ask {
         self.mix.asks[turn % self.mix.asks.len()]
     }
 
     /// The ask on a given set whose turn it is.
-    fn given_by(&self, turn: usize) -> Ask {
+    pub fn given_by(&self, turn: usize) -> Ask {
         self.mix.given[turn % self.mix.given.len()]
     }
 
@@ -462,24 +535,24 @@ impl Maker {
         self.no_room.judge(wiring)
     }
 
-    fn given(&mut self, ask: Ask, n: u64, terms: Vec<u8>, set: Vec<u8>, buffer: usize) -> Case {
+    /// What is asked of a wiring's set.
+    pub fn given(&mut self, ask: Ask, wiring: Case) -> Case {
         match ask {
-            Ask::Thin => Case::thin(n, terms, set, buffer),
-            Ask::Verdict => self.judge(Case::wire(n, terms, set, buffer)),
-            _ => Case::wire(n, terms, set, buffer),
+            Ask::Thin => as_thinning(&wiring),
+            Ask::Verdict => self.judge(wiring),
+            _ => wiring,
         }
     }
 
     /// A run that reaches the place, and now and then goes on after it.
-    fn run_to(&mut self, place: usize, most_variables: usize) -> (usize, Vec<u8>) {
+    pub fn run_to(&mut self, place: usize, most_variables: usize) -> System {
         let longer = match self.random.below(8) {
             0 => self.random.between(place, MOST_TERMS),
             1..=3 => (place + 1).min(MOST_TERMS),
             _ => place,
         };
-        let n = self.random.between(1, most_variables);
-        let system = systems::run(&mut self.random, n, longer);
-        (system.n, write_terms(&system.terms))
+        let (n, marks) = self.variables(1, most_variables);
+        systems::run(&mut self.random, n, marks, longer)
     }
 
     /// Code 3: every field at every place, and every place in every operation.
@@ -491,15 +564,17 @@ impl Maker {
             Field::ExponentBeyond => VARIABLES - 1,
             _ => VARIABLES,
         };
-        let (n, mut terms) = self.run_to(place, most_variables);
-        break_term(&mut self.random, &mut terms, n, place, field);
-        let case = self.operation(self.ask_by(turn), n as u64, terms);
+        let run = self.run_to(place, most_variables);
+        let mut terms = write_terms(&run.terms);
+        break_term(&mut self.random, &mut terms, run.n, place, field);
+        let case = self.operation(self.ask_by(turn), run.n as u64, run.marks, terms);
         self.cases.push(case);
     }
 
-    /// A run whose record at the place repeats an earlier one.
-    fn run_with_repeat(&mut self, place: usize) -> (usize, Vec<u8>) {
-        let (n, mut terms) = self.run_to(place, VARIABLES);
+    /// A run, and its records where that at the place repeats an earlier one.
+    fn run_with_repeat(&mut self, place: usize) -> (System, Vec<u8>) {
+        let run = self.run_to(place, VARIABLES);
+        let mut terms = write_terms(&run.terms);
         let earlier = match self.random.below(3) {
             0 => 1,
             1 => place - 1,
@@ -507,7 +582,7 @@ impl Maker {
         };
         let from = (earlier - 1) * TERM_BYTES;
         terms.copy_within(from..from + TERM_BYTES, (place - 1) * TERM_BYTES);
-        (n, terms)
+        (run, terms)
     }
 
     /// Code 4: every place after the first in every operation, with the same
@@ -515,13 +590,13 @@ impl Maker {
     pub fn repeated_record(&mut self) {
         let turn = turn(&mut self.repeats);
         let place = turn % (MOST_TERMS - 1) + 2;
-        let (n, mut terms) = self.run_with_repeat(place);
+        let (run, mut terms) = self.run_with_repeat(place);
         if turn % 2 == 1 {
             let at = (place - 1) * TERM_BYTES + COEFFICIENT_AT..place * TERM_BYTES;
             let coefficient = self.random.between(5, MOST_COEFFICIENT as usize - 10) as i32;
             terms[at].copy_from_slice(&coefficient.to_le_bytes());
         }
-        let case = self.operation(self.ask_by(turn), n as u64, terms);
+        let case = self.operation(self.ask_by(turn), run.n as u64, run.marks, terms);
         self.cases.push(case);
     }
 
@@ -529,7 +604,8 @@ impl Maker {
     /// a second repeat: the first record with a fault decides.
     pub fn wrong_and_repeated(&mut self) {
         let place = self.random.between(2, MOST_TERMS);
-        let (n, mut terms) = self.run_with_repeat(place);
+        let (run, mut terms) = self.run_with_repeat(place);
+        let n = run.n;
         let field = self.random.pick(&FIELDS);
         let last = terms.len() / TERM_BYTES;
         match self.random.below(4) {
@@ -547,31 +623,32 @@ impl Maker {
                 terms.copy_within(0..TERM_BYTES, (again - 1) * TERM_BYTES);
             }
         }
-        let case = self.any_operation(n as u64, terms);
+        let case = self.any_operation(n as u64, run.marks, terms);
         self.cases.push(case);
     }
 
     /// Code 2: bytes that are no run of records, too many, or no set record.
     pub fn bad_length(&mut self) {
         let turn = turn(&mut self.lengths);
-        let n = self.random.between(2, VARIABLES);
+        let (n, marks) = self.variables(2, VARIABLES);
         if turn.is_multiple_of(2) {
             let length = BAD_TERM_LENGTHS[turn / 2 % BAD_TERM_LENGTHS.len()];
             let whole = length.min(MOST_TERMS_BYTES) / TERM_BYTES;
-            let system = systems::run(&mut self.random, n, whole);
+            let system = systems::run(&mut self.random, n, marks, whole);
             let mut terms = write_terms(&system.terms);
             while terms.len() < length {
                 terms.push(self.random.below(256) as u8);
             }
-            let case = self.any_operation(n as u64, terms);
+            let case = self.any_operation(n as u64, marks, terms);
             self.cases.push(case);
         } else {
             let length = BAD_SET_LENGTHS[turn / 2 % BAD_SET_LENGTHS.len()];
-            let system = systems::any(&mut self.random);
+            let system = self.any_system();
             let terms = write_terms(&system.terms);
             let which = usize::from(!self.random.chance(50));
             let ask = self.given_by(which);
-            let case = self.given(ask, system.n as u64, terms, vec![0; length], 50);
+            let wiring = Case::wire(system.n as u64, terms, vec![0; length], 50);
+            let case = self.given(ask, wiring.marked(system.marks));
             self.cases.push(case);
         }
     }
@@ -579,22 +656,22 @@ impl Maker {
     /// Code 1: n, K or the limit out of range.
     pub fn bad_setting(&mut self) {
         let turn = turn(&mut self.settings);
-        let n = self.random.between(1, VARIABLES);
+        let (n, marks) = self.variables(1, VARIABLES);
         let count = self.random.below(3);
-        let terms = write_terms(&systems::run(&mut self.random, n, count).terms);
+        let terms = write_terms(&systems::run(&mut self.random, n, marks, count).terms);
         let values = match self.mix.asks.contains(&Ask::Plan) {
             true => BAD_N.len() + BAD_CAP.len() + BAD_LIMIT.len(),
             false => BAD_N.len(),
         };
         let mut at = turn % values;
         if at < BAD_N.len() {
-            let case = self.any_operation(BAD_N[at], terms);
+            let case = self.any_operation(BAD_N[at], marks, terms);
             self.cases.push(case);
             return;
         }
         at -= BAD_N.len();
         let buffer = self.random.below(100);
-        let mut case = Case::plan(n as u64, MOST_CAP, 100, buffer, terms);
+        let mut case = Case::plan(n as u64, MOST_CAP, 100, buffer, terms).marked(marks);
         if at < BAD_CAP.len() {
             case.cap = BAD_CAP[at];
         } else {
@@ -608,24 +685,25 @@ impl Maker {
         let turn = turn(&mut self.sets);
         let way = WAYS[turn % WAYS.len()];
         let place = turn / WAYS.len() % CARDS;
-        let n = self.random.between(1, VARIABLES);
+        let (n, marks) = self.variables(1, VARIABLES);
         let size = self.random.between(place + 1, CARDS);
-        let (system, set) = systems::around_a_set(&mut self.random, n, size);
+        let (system, set) = systems::around_a_set(&mut self.random, n, marks, size);
         let mut members: Vec<Monomial> = set.into_iter().collect();
         break_set(&mut self.random, &mut members, n, place, way);
         let terms = write_terms(&system.terms[..system.terms.len().min(3)]);
         let set = write_places(&members).to_vec();
         let buffer = self.random.below(100);
         let rounds = turn / (WAYS.len() * CARDS);
-        let case = self.given(self.given_by(rounds), n as u64, terms, set, buffer);
+        let wiring = Case::wire(n as u64, terms, set, buffer).marked(marks);
+        let case = self.given(self.given_by(rounds), wiring);
         self.cases.push(case);
     }
 
     /// Several faults in one case: which of them decides is the checks' order.
     pub fn several_faults(&mut self) {
-        let n = self.random.between(2, VARIABLES);
+        let (n, marks) = self.variables(2, VARIABLES);
         let count = self.random.between(3, 6);
-        let mut terms = write_terms(&systems::run(&mut self.random, n, count).terms);
+        let mut terms = write_terms(&systems::run(&mut self.random, n, marks, count).terms);
         if self.random.chance(40) {
             let place = self.random.between(1, count);
             let field = self.random.pick(&FIELDS);
@@ -640,7 +718,7 @@ impl Maker {
         if self.random.chance(20) {
             terms.truncate(terms.len() - self.random.between(1, TERM_BYTES - 1));
         }
-        let mut case = self.any_operation(n as u64, terms);
+        let mut case = self.any_operation(n as u64, marks, terms);
         if self.random.chance(20) {
             case.n = self.random.pick(&BAD_N);
         }
@@ -653,7 +731,7 @@ impl Maker {
             }
         } else {
             let size = self.random.between(1, CARDS);
-            let set = systems::set(&mut self.random, n, size);
+            let set = systems::set(&mut self.random, n, marks, size);
             let mut members: Vec<Monomial> = set.into_iter().collect();
             if self.random.chance(60) {
                 let way = self.random.pick(&WAYS);
@@ -692,8 +770,18 @@ mod tests {
 
     #[test]
     fn each_run_of_cases_has_its_own_places_and_changes_no_other() {
+        let (mut unmarked, mut marked) = (Vec::new(), Vec::new());
+        for (index, case) in batch(5, 360).into_iter().enumerate() {
+            match index % MARKED_ROUND {
+                2 => marked.push(case),
+                _ => unmarked.push(case),
+            }
+        }
+        assert!(unmarked.iter().all(|case| case.marks == 0));
+        assert!(marked.iter().all(|case| case.marks != 0));
+        assert_eq!(marked, first_marked(5, 120));
         let mut runs = [Vec::new(), Vec::new(), Vec::new()];
-        for (index, case) in batch(5, 240).into_iter().enumerate() {
+        for (index, case) in unmarked.into_iter().enumerate() {
             runs[(index % ROUND).saturating_sub(5)].push(case);
         }
         let [others, thin, wire] = runs;
@@ -879,6 +967,52 @@ mod tests {
             assert_count(report, &format!("thin: code {code} {}", NAMES[code]), 30);
         }
         assert!(report.contains("\nthin: counts of subsets: 1-12 (12)\n"));
+    }
+
+    #[test]
+    fn what_is_stored_with_marks_covers_its_codes_and_places() {
+        let report = report_of(&stored_marked());
+        let mut lines = vec![
+            "code 3, equation of a signal: places: 1-32 (32)".to_string(),
+            "plan: K with code 0: 0-6 (7)".to_string(),
+            "plan: K with code 5: 0-6 (7)".to_string(),
+            "wire: places of code 9: 1-12 (12)".to_string(),
+        ];
+        for operation in Operation::ALL.map(Operation::name) {
+            lines.push(format!("{operation}: places of code 3: 1-32 (32)"));
+            lines.push(format!("{operation}: n of answers: 1-6 (6)"));
+        }
+        assert_lines(&report, lines);
+        let kinds = [
+            "code 8: monomial with a signal",
+            "plan: code 0 exactly at the limit",
+            "plan: code 5 exactly at the limit",
+            "plan: code 6 exactly at the limit",
+            "plan: full, one set short",
+            "plan: spent between two levels",
+            "plan: spent one step before code 0",
+            "plan: spent one step before code 5",
+            "plan: spent one step before code 6",
+            "thin: buffer one byte short",
+            "thin: some signals can go",
+            "wire: buffer one byte short",
+            "wire: list exactly as long as the buffer",
+        ];
+        for name in ORDER_OF_CHECKS.into_iter().chain(kinds) {
+            assert_count(&report, name, 2);
+        }
+        for code in CODES_WITH_A_SET {
+            for operation in ["wire", "thin"] {
+                assert_count(
+                    &report,
+                    &format!("{operation}: code {code} {}", NAMES[code]),
+                    2,
+                );
+            }
+        }
+        for (code, name) in NAMES.iter().enumerate().take(8) {
+            assert_count(&report, &format!("plan: code {code} {name}"), 2);
+        }
     }
 
     #[test]

@@ -66,10 +66,7 @@ fn signed_parts(right: &str) -> Vec<(i64, Vec<&str>)> {
 /// Reads a whole system.
 #[cfg(test)]
 pub fn system(n: usize, text: &str) -> System {
-    System {
-        n,
-        terms: terms(text),
-    }
+    System::unmarked(n, terms(text))
 }
 
 /// Writes a monomial.
@@ -94,9 +91,14 @@ pub fn write_members(members: &[Monomial]) -> String {
     format!("{{{}}}", members.join(", "))
 }
 
-/// Writes one line per equation of the system, zero ones too.
+/// Writes one line per variable of the system: its equation, zero ones too, or
+/// that it is fed from outside.
 pub fn write_system(system: &System) -> Vec<String> {
-    (1..=system.n).map(|i| write_equation(system, i)).collect()
+    let line = |i: usize| match system.marks.mark(i) {
+        true => format!("x{i} from outside"),
+        false => write_equation(system, i),
+    };
+    (1..=system.n).map(line).collect()
 }
 
 fn write_equation(system: &System, equation: usize) -> String {

@@ -1,6 +1,7 @@
 //! The three operations, with the checks in their sequence
-//! (document 01, What the box says; document 02, [1] and [2]).
+//! (document 01, What the box says; document 02, [1] to [3]).
 
+use crate::marks::Marks;
 use crate::monomial::Monomial;
 use crate::panel::{MOST_CAP, MOST_LIMIT, MOST_N, SET_BYTES, WIRE_BYTES};
 use crate::records::{
@@ -26,20 +27,30 @@ pub fn limit_is_in_range(limit: u64) -> bool {
     (1..=MOST_LIMIT).contains(&limit)
 }
 
+/// Code 1 as far as it is about the variables: how many there are, and that none
+/// beyond them is marked.
+pub fn variables_are_in_range(n: u64, marks: u64) -> bool {
+    n_is_in_range(n) && Marks(marks).are_among(n as usize)
+}
+
 /// Planning. Whatever the code, every byte of the answer is written.
-pub fn plan(n: u64, cap: u64, limit: u64, terms: &[u8], answer: &mut [u8]) -> Reply {
+pub fn plan(n: u64, marks: u64, cap: u64, limit: u64, terms: &[u8], answer: &mut [u8]) -> Reply {
     answer.fill(0);
-    if !(n_is_in_range(n) && cap_is_in_range(cap) && limit_is_in_range(limit)) {
+    if !(variables_are_in_range(n, marks) && cap_is_in_range(cap) && limit_is_in_range(limit)) {
         return Reply::bare(1);
     }
     if !terms_have_a_length(terms) {
         return Reply::bare(2);
     }
-    let system = match read_terms(n as usize, terms) {
-        Ok(system) => system,
-        Err(refusal) => return refusal,
-    };
-    let walked = walk(&system, cap as usize, limit, answer.len() / SET_BYTES);
+    match read_terms(n as usize, Marks(marks), terms) {
+        Ok(system) => planned(&system, cap, limit, answer),
+        Err(refusal) => refusal,
+    }
+}
+
+/// Planning of a system that is taken, into a buffer of zeros.
+pub fn planned(system: &System, cap: u64, limit: u64, answer: &mut [u8]) -> Reply {
+    let walked = walk(system, cap as usize, limit, answer.len() / SET_BYTES);
     let order = walked.level as u64;
     let steps = walked.steps;
     let (code, order, count) = match walked.end {
@@ -68,33 +79,37 @@ fn list_sets(sets: &BTreeSet<Vec<Monomial>>, answer: &mut [u8]) {
 }
 
 /// The system and the set, or the refusal.
-fn given(n: u64, terms: &[u8], set: &[u8]) -> Result<(System, Set), Reply> {
-    if !n_is_in_range(n) {
+fn given(n: u64, marks: u64, terms: &[u8], set: &[u8]) -> Result<(System, Set), Reply> {
+    if !variables_are_in_range(n, marks) {
         return Err(Reply::bare(1));
     }
     if !terms_have_a_length(terms) || set.len() != SET_BYTES {
         return Err(Reply::bare(2));
     }
-    let system = read_terms(n as usize, terms)?;
-    let set = read_set(n as usize, set)?;
+    let system = read_terms(n as usize, Marks(marks), terms)?;
+    let set = read_set(n as usize, Marks(marks), set)?;
     Ok((system, set))
 }
 
 /// Wiring, and the verdict with it. Whatever the code, every byte of the answer
 /// is written.
-pub fn wire(n: u64, terms: &[u8], set: &[u8], answer: &mut [u8]) -> Reply {
+pub fn wire(n: u64, marks: u64, terms: &[u8], set: &[u8], answer: &mut [u8]) -> Reply {
     answer.fill(0);
-    let (system, set) = match given(n, terms, set) {
-        Ok(given) => given,
-        Err(refusal) => return refusal,
-    };
+    match given(n, marks, terms, set) {
+        Ok((system, set)) => wired(&system, &set, answer),
+        Err(refusal) => refusal,
+    }
+}
+
+/// Verdict and wiring of a set that is taken, into a buffer of zeros.
+pub fn wired(system: &System, set: &Set, answer: &mut [u8]) -> Reply {
     let reply = Reply {
         order: set.len() as u64,
         ..Reply::default()
     };
     // The whole list comes first, so that the room is asked of quadratic sets
     // alone and nothing is written of others.
-    let list = match wiring(&system, &set) {
+    let list = match wiring(system, set) {
         Ok(list) => list,
         Err(left) => {
             return Reply {
@@ -117,16 +132,16 @@ pub fn wire(n: u64, terms: &[u8], set: &[u8], answer: &mut [u8]) -> Reply {
 }
 
 /// Thinning. Whatever the code, every byte of the answer is written.
-pub fn thin(n: u64, terms: &[u8], set: &[u8], answer: &mut [u8]) -> Reply {
+pub fn thin(n: u64, marks: u64, terms: &[u8], set: &[u8], answer: &mut [u8]) -> Reply {
     answer.fill(0);
     // Into an empty buffer wiring gives the verdict alone: full is quadratic too.
-    let verdict = |set: &[u8]| wire(n, terms, set, &mut []);
+    let verdict = |set: &[u8]| wire(n, marks, terms, set, &mut []);
     let quadratic = |reply: Reply| [0, 6].contains(&reply.code);
     let judged = verdict(set);
     if !quadratic(judged) {
         return judged;
     }
-    let set = read_set(n as usize, set).expect("a set that was judged");
+    let set = read_set(n as usize, Marks(marks), set).expect("a set that was judged");
     let thinned = thinned(&set, |subset| quadratic(verdict(&write_set(subset))))
         .expect("the given set is a subset of itself");
     let reply = Reply {
@@ -151,20 +166,38 @@ mod tests {
     use crate::panel::{CARDS, MOST_WIRES_BYTES, VARIABLES};
     use crate::random::Random;
     use crate::records::{read_wires, set_places, write_terms};
-    use crate::systems;
+    use crate::system::Term;
+    use crate::systems::{self, Outside};
     use std::collections::BTreeMap;
 
     const ROOM: usize = 1_800 * SET_BYTES;
+
+    /// A system with signals fed from outside, or without.
+    fn any_system(random: &mut Random) -> System {
+        let system = systems::any(random);
+        any_outside(random).feed(random, system)
+    }
+
+    fn any_outside(random: &mut Random) -> Outside {
+        random.pick(&[Outside::Nothing, Outside::Signals])
+    }
 
     /// Random systems that planning finishes, with the reply and the buffer.
     fn planned(seed: u64) -> Vec<(System, Reply, Vec<u8>)> {
         let mut random = Random::from_seed(seed);
         let mut planned = Vec::new();
         while planned.len() < 60 {
-            let system = systems::any(&mut random);
+            let system = any_system(&mut random);
             let mut sets = vec![UNTOUCHED; ROOM];
             let terms = write_terms(&system.terms);
-            let reply = plan(system.n as u64, MOST_CAP, 2_000, &terms, &mut sets);
+            let reply = plan(
+                system.n as u64,
+                system.marks.0,
+                MOST_CAP,
+                2_000,
+                &terms,
+                &mut sets,
+            );
             if reply.code == 0 {
                 planned.push((system, reply, sets));
             }
@@ -181,7 +214,7 @@ mod tests {
             assert!(places.windows(2).all(|two| two[0] < two[1]));
             for record in found {
                 let terms = write_terms(&system.terms);
-                let judged = wire(system.n as u64, &terms, record, &mut []);
+                let judged = wire(system.n as u64, system.marks.0, &terms, record, &mut []);
                 let code = if terms.is_empty() { 0 } else { 6 };
                 assert_eq!(judged.numbers(), [code, reply.order, 0, 0, 0]);
             }
@@ -189,13 +222,92 @@ mod tests {
         }
     }
 
+    /// A signal has no equation: what it does by itself is nowhere asked for.
+    #[test]
+    fn the_slope_of_a_signal_changes_nothing() {
+        let mut marked = 0;
+        for (system, reply, sets) in planned(19) {
+            let mut moved = system.clone();
+            for i in system.marks.variables() {
+                moved.terms.push(Term {
+                    equation: i,
+                    monomial: Monomial([9; VARIABLES]),
+                    coefficient: 1,
+                });
+                marked += 1;
+            }
+            let mut again = vec![0; ROOM];
+            let walked = super::planned(&moved, MOST_CAP, 2_000, &mut again);
+            assert_eq!(walked, reply);
+            assert!(again == sets);
+            let set = read_set(system.n, system.marks, &sets[..SET_BYTES]).unwrap();
+            let mut lists = [vec![0; MOST_WIRES_BYTES], vec![0; MOST_WIRES_BYTES]];
+            let wire = |system, list: &mut Vec<u8>| wired(system, &set, list);
+            assert_eq!(wire(&system, &mut lists[0]), wire(&moved, &mut lists[1]));
+            assert_eq!(lists[0], lists[1]);
+        }
+        assert!(marked > 20);
+    }
+
+    /// A variable and one or two signals: every set of two powers at most is
+    /// looked at. Level 2 of the walk has exponents up to 18.
+    #[test]
+    fn no_smaller_set_without_signals_and_none_as_small_is_left_out() {
+        let mut random = Random::from_seed(20);
+        let mut orders = BTreeMap::new();
+        for _ in 0..150 {
+            let n = random.between(2, 3);
+            let marks = Marks::of(2..=n);
+            let count = random.between(1, 2);
+            let mut system = systems::run(&mut random, n, marks, count);
+            // Signals in most terms would leave nothing but none.
+            for term in &mut system.terms {
+                let most = u16::from(random.chance(20));
+                for exponent in &mut term.monomial.0[1..] {
+                    *exponent = most.min(*exponent);
+                }
+            }
+            let powers: Set = (2..=18).map(systems::power).collect();
+            let mut sets = vec![Set::new()];
+            for &first in &powers {
+                let pairs = powers.iter().map(|&second| Set::from([first, second]));
+                sets.extend(pairs);
+            }
+            sets.retain(|set| system.is_quadratic(set));
+            let order = sets.iter().map(Set::len).min();
+            sets.retain(|set| Some(set.len()) == order);
+            let smallest: BTreeSet<Vec<u8>> =
+                sets.iter().map(|set| write_set(set).to_vec()).collect();
+            let mut answer = vec![0; ROOM];
+            let reply = super::planned(&system, 2, MOST_LIMIT, &mut answer);
+            let found: BTreeSet<Vec<u8>> = answer
+                .chunks(SET_BYTES)
+                .take(reply.count as usize)
+                .map(<[u8]>::to_vec)
+                .collect();
+            assert_eq!(found, smallest);
+            match order {
+                Some(order) => assert_eq!((reply.code, reply.order), (0, order as u64)),
+                None => assert_eq!((reply.code, reply.order), (5, 3)),
+            }
+            *orders.entry(order).or_insert(0) += 1;
+        }
+        assert_eq!(orders.len(), 4, "{orders:?}");
+    }
+
     #[test]
     fn the_wiring_adds_up_to_the_derivatives() {
         for (system, reply, sets) in planned(12) {
-            let set = read_set(system.n, &sets[..SET_BYTES]).unwrap();
+            let set = read_set(system.n, system.marks, &sets[..SET_BYTES]).unwrap();
             let mut list = vec![UNTOUCHED; MOST_WIRES_BYTES];
             let terms = write_terms(&system.terms);
-            let wired = wire(system.n as u64, &terms, &write_set(&set), &mut list);
+            let wired = wire(
+                system.n as u64,
+                system.marks.0,
+                &terms,
+                &write_set(&set),
+                &mut list,
+            );
             assert_eq!((wired.code, wired.order), (0, reply.order));
             let signals = system.signals(&set);
             let mut sums = vec![BTreeMap::new(); signals.len()];
@@ -214,11 +326,14 @@ mod tests {
     fn with_a_set(random: &mut Random) -> (System, Set) {
         match random.below(3) {
             0 => systems::decided_by_cancelling(random),
-            1 => systems::closed(random),
+            1 => {
+                let outside = any_outside(random);
+                systems::closed(random, outside)
+            }
             _ => {
-                let system = systems::any(random);
+                let system = any_system(random);
                 let size = random.between(0, CARDS);
-                let set = systems::set(random, system.n, size);
+                let set = systems::set(random, system.n, system.marks, size);
                 (system, set)
             }
         }
@@ -255,7 +370,13 @@ mod tests {
                 let numbers = [code, set.len() as u64, count, 0, first.unwrap_or(0) as u64];
                 let mut answer = vec![UNTOUCHED; buffer];
                 let terms = write_terms(&system.terms);
-                let reply = wire(system.n as u64, &terms, &write_set(&set), &mut answer);
+                let reply = wire(
+                    system.n as u64,
+                    system.marks.0,
+                    &terms,
+                    &write_set(&set),
+                    &mut answer,
+                );
                 assert_eq!(reply.numbers(), numbers);
                 let written = count as usize * WIRE_BYTES;
                 assert!(answer[written..].iter().all(|&byte| byte == 0));
@@ -273,7 +394,14 @@ mod tests {
             for n in system.n..=VARIABLES {
                 let mut again = vec![0; ROOM];
                 let terms = write_terms(&system.terms);
-                let wider = plan(n as u64, MOST_CAP, 2_000, &terms, &mut again);
+                let wider = plan(
+                    n as u64,
+                    system.marks.0,
+                    MOST_CAP,
+                    2_000,
+                    &terms,
+                    &mut again,
+                );
                 assert_eq!(wider, reply);
                 assert!(again == sets);
             }
@@ -286,15 +414,32 @@ mod tests {
             let (n, terms) = (system.n as u64, write_terms(&system.terms));
             let needed = reply.count as usize * SET_BYTES;
             let mut answer = vec![UNTOUCHED; needed];
-            assert_eq!(plan(n, MOST_CAP, reply.steps, &terms, &mut answer), reply);
+            assert_eq!(
+                plan(
+                    n,
+                    system.marks.0,
+                    MOST_CAP,
+                    reply.steps,
+                    &terms,
+                    &mut answer
+                ),
+                reply
+            );
             assert!(answer == sets[..needed]);
             if reply.steps > 1 {
-                let short = plan(n, MOST_CAP, reply.steps - 1, &terms, &mut answer);
+                let short = plan(
+                    n,
+                    system.marks.0,
+                    MOST_CAP,
+                    reply.steps - 1,
+                    &terms,
+                    &mut answer,
+                );
                 assert_eq!(short.numbers(), [7, reply.order, 0, reply.steps - 1, 0]);
                 assert!(answer.iter().all(|&byte| byte == 0));
             }
             let mut tight = vec![UNTOUCHED; needed - 1];
-            let full = plan(n, MOST_CAP, reply.steps, &terms, &mut tight);
+            let full = plan(n, system.marks.0, MOST_CAP, reply.steps, &terms, &mut tight);
             assert_eq!((full.code, full.order, full.count), (6, reply.order, 0));
             assert!(full.steps <= reply.steps);
             assert!(tight.iter().all(|&byte| byte == 0));
@@ -305,7 +450,7 @@ mod tests {
     fn together(system: &System, reply: &Reply, sets: &[u8]) -> (Set, BTreeSet<Set>) {
         let records = sets.chunks(SET_BYTES).take(reply.count as usize);
         let found: BTreeSet<Set> = records
-            .map(|record| read_set(system.n, record).unwrap())
+            .map(|record| read_set(system.n, system.marks, record).unwrap())
             .collect();
         let mut given = Set::new();
         for set in &found {
@@ -319,6 +464,11 @@ mod tests {
         (given, inside)
     }
 
+    fn thin_in(system: &System, given: &Set, answer: &mut [u8]) -> Reply {
+        let (terms, set) = (write_terms(&system.terms), write_set(given));
+        thin(system.n as u64, system.marks.0, &terms, &set, answer)
+    }
+
     /// Planning lists all smallest sets there are, so that the smallest subsets
     /// of some of them together are those that lie inside.
     #[test]
@@ -327,8 +477,7 @@ mod tests {
         for (system, reply, sets) in planned(16) {
             let (given, inside) = together(&system, &reply, &sets);
             let mut answer = vec![UNTOUCHED; 30 * SET_BYTES];
-            let terms = write_terms(&system.terms);
-            let thinned = thin(system.n as u64, &terms, &write_set(&given), &mut answer);
+            let thinned = thin_in(&system, &given, &mut answer);
             let (count, steps) = (inside.len() as u64, 1 << given.len());
             assert_eq!(thinned.numbers(), [0, reply.order, count, steps, 0]);
             let mut expected: Vec<u8> = inside.iter().flat_map(write_set).collect();
@@ -360,7 +509,8 @@ mod tests {
     fn no_smaller_subset_is_quadratic_and_none_as_small_is_left_out() {
         let mut random = Random::from_seed(17);
         for _ in 0..40 {
-            let (system, given) = systems::closed(&mut random);
+            let outside = any_outside(&mut random);
+            let (system, given) = systems::closed(&mut random, outside);
             let verdicts = verdicts(&system, &given);
             let quadratic = |subset: &&Set| verdicts[*subset];
             let sizes = verdicts.keys().filter(quadratic).map(Set::len);
@@ -371,8 +521,7 @@ mod tests {
                 .filter(quadratic);
             let expected: Vec<u8> = smallest.flat_map(write_set).collect();
             let mut answer = vec![UNTOUCHED; expected.len()];
-            let terms = write_terms(&system.terms);
-            let thinned = thin(system.n as u64, &terms, &write_set(&given), &mut answer);
+            let thinned = thin_in(&system, &given, &mut answer);
             let count = expected.len() / SET_BYTES;
             let numbers = [0, order, count, verdicts.len(), 0].map(|number| number as u64);
             assert_eq!(thinned.numbers(), numbers);
@@ -386,7 +535,14 @@ mod tests {
             for cap in 0..reply.order {
                 let mut answer = [UNTOUCHED; SET_BYTES];
                 let terms = write_terms(&system.terms);
-                let none = plan(system.n as u64, cap, 2_000, &terms, &mut answer);
+                let none = plan(
+                    system.n as u64,
+                    system.marks.0,
+                    cap,
+                    2_000,
+                    &terms,
+                    &mut answer,
+                );
                 assert_eq!((none.code, none.order), (5, cap + 1));
                 assert!(none.steps < reply.steps);
                 assert_eq!(answer, [0; SET_BYTES]);

@@ -1,6 +1,7 @@
 //! The three kinds of record as bytes, and the rules that refuse them
-//! (document 01, The system on the panel).
+//! (document 01, The system on the panel; document 02, [3]).
 
+use crate::marks::Marks;
 use crate::monomial::Monomial;
 use crate::panel::{
     CARDS, COEFFICIENT_AT, EXPONENTS_AT, MOST_COEFFICIENT, MOST_EXPONENT, MOST_SET_EXPONENT,
@@ -42,12 +43,13 @@ impl Fields {
     }
 
     /// Every field that breaks its rule: none for a good record.
-    pub fn faults(&self, n: usize) -> Vec<TermFault> {
+    pub fn faults(&self, n: usize, marks: Marks) -> Vec<TermFault> {
         let mut faults = Vec::new();
-        if self.equation == 0 {
-            faults.push(TermFault::EquationZero);
-        } else if usize::from(self.equation) > n {
-            faults.push(TermFault::EquationBeyondN);
+        match usize::from(self.equation) {
+            0 => faults.push(TermFault::EquationZero),
+            i if i > n => faults.push(TermFault::EquationBeyondN),
+            i if marks.mark(i) => faults.push(TermFault::EquationMarked),
+            _ => {}
         }
         if self.zero != 0 {
             faults.push(TermFault::ByteOne);
@@ -73,6 +75,7 @@ impl Fields {
 pub enum TermFault {
     EquationZero,
     EquationBeyondN,
+    EquationMarked,
     ByteOne,
     ExponentAbove,
     ExponentBeyondXn,
@@ -85,6 +88,7 @@ impl fmt::Display for TermFault {
         match self {
             TermFault::EquationZero => write!(f, "equation 0"),
             TermFault::EquationBeyondN => write!(f, "equation beyond n"),
+            TermFault::EquationMarked => write!(f, "equation of a signal"),
             TermFault::ByteOne => write!(f, "byte 1 not zero"),
             TermFault::ExponentAbove => write!(f, "exponent above {MOST_EXPONENT}"),
             TermFault::ExponentBeyondXn => write!(f, "exponent beyond xn"),
@@ -96,12 +100,12 @@ impl fmt::Display for TermFault {
 
 /// Reads the terms record by record: 3 before 4 within each, the first fault
 /// decides. The length has been checked before.
-pub fn read_terms(n: usize, bytes: &[u8]) -> Result<System, Reply> {
+pub fn read_terms(n: usize, marks: Marks, bytes: &[u8]) -> Result<System, Reply> {
     let mut terms: Vec<Term> = Vec::new();
     for (index, record) in bytes.chunks(TERM_BYTES).enumerate() {
         let place = index + 1;
         let fields = Fields::of(record);
-        if !fields.faults(n).is_empty() {
+        if !fields.faults(n, marks).is_empty() {
             return Err(Reply::at(3, place));
         }
         let term = Term {
@@ -114,7 +118,7 @@ pub fn read_terms(n: usize, bytes: &[u8]) -> Result<System, Reply> {
         }
         terms.push(term);
     }
-    Ok(System { n, terms })
+    Ok(System { n, marks, terms })
 }
 
 /// Writes one term record.
@@ -148,6 +152,7 @@ pub enum SetFault {
     NotAscending,
     ExponentAbove,
     ExponentBeyondXn,
+    Marked,
 }
 
 impl fmt::Display for SetFault {
@@ -159,12 +164,13 @@ impl fmt::Display for SetFault {
             SetFault::NotAscending => write!(f, "not ascending"),
             SetFault::ExponentAbove => write!(f, "exponent above {MOST_SET_EXPONENT}"),
             SetFault::ExponentBeyondXn => write!(f, "exponent beyond xn"),
+            SetFault::Marked => write!(f, "monomial with a signal"),
         }
     }
 }
 
 /// Every rule that a set record breaks: none for a good record.
-pub fn set_faults(n: usize, record: &[u8]) -> Vec<SetFault> {
+pub fn set_faults(n: usize, marks: Marks, record: &[u8]) -> Vec<SetFault> {
     let places = set_places(record);
     let used = places
         .iter()
@@ -195,12 +201,15 @@ pub fn set_faults(n: usize, record: &[u8]) -> Vec<SetFault> {
     if members.iter().any(|m| m.0[n..].iter().any(|&e| e != 0)) {
         faults.push(SetFault::ExponentBeyondXn);
     }
+    if members.iter().any(|m| marks.touch(*m)) {
+        faults.push(SetFault::Marked);
+    }
     faults
 }
 
 /// Reads a set record of the right length.
-pub fn read_set(n: usize, record: &[u8]) -> Result<Set, Reply> {
-    if !set_faults(n, record).is_empty() {
+pub fn read_set(n: usize, marks: Marks, record: &[u8]) -> Result<Set, Reply> {
+    if !set_faults(n, marks, record).is_empty() {
         return Err(Reply::bare(8));
     }
     let used = |m: &Monomial| *m != Monomial::ONE;

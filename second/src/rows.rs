@@ -1,8 +1,10 @@
 //! The fixed rows: document 01's worked sums, both sides of each limit, every
 //! place of code 9, and larger systems from documents 000 and 001. Those of
-//! verdict and room together, and those of thinning, come after them.
+//! verdict and room together, those of thinning, and those with marks come after
+//! them.
 
 use crate::batch::{Case, MOST_CASE_BUFFER};
+use crate::mark_rows;
 use crate::monomial::Monomial;
 use crate::no_room::NoRoom;
 use crate::notation::{monomial, terms};
@@ -57,6 +59,7 @@ pub fn rows() -> Vec<Case> {
     }
     rows.verdicts();
     rows.cases.extend(thin_rows::rows());
+    rows.cases.extend(mark_rows::rows());
     rows.cases
 }
 
@@ -115,7 +118,7 @@ pub fn bytes_of(text: &str) -> Vec<u8> {
 }
 
 /// So many different records in two variables, the quadratic ones first.
-fn different_records(count: usize) -> Vec<u8> {
+pub fn different_records(count: usize) -> Vec<u8> {
     let mut monomials: Vec<Monomial> = (0..=MOST_EXPONENT)
         .flat_map(|e1| (0..=MOST_EXPONENT).map(move |e2| Monomial([e1, e2, 0, 0, 0, 0])))
         .collect();
@@ -649,6 +652,7 @@ impl Rows {
 mod tests {
     use super::*;
     use crate::batch::{write_batch, Cases, Operation};
+    use crate::marks::Marks;
     use crate::panel::MOST_TERMS_BYTES;
     use crate::records::read_terms;
 
@@ -717,7 +721,7 @@ mod tests {
     fn a_system_fills_the_records() {
         let bytes = bytes_of(&cubes_of_six());
         assert_eq!(bytes.len(), MOST_TERMS_BYTES);
-        assert!(read_terms(VARIABLES, &bytes).is_ok());
+        assert!(read_terms(VARIABLES, Marks::NONE, &bytes).is_ok());
     }
 
     #[test]

@@ -2,6 +2,7 @@
 //! whose answers differ.
 
 use crate::batch::{hex, Case, Operation};
+use crate::marks::Marks;
 use crate::monomial::Monomial;
 use crate::notation::{write_members, write_system};
 use crate::operations::n_is_in_range;
@@ -29,27 +30,21 @@ pub fn block(number: usize, case: &Case) -> String {
 }
 
 fn heading(case: &Case) -> String {
-    let name = case.operation.name();
-    let n = case.n;
-    match case.operation {
-        Operation::Plan => format!(
-            "{name}, n = {n}, K = {}, limit {}, buffer {} bytes ({} sets)",
-            case.cap,
-            case.limit,
-            case.buffer,
-            case.buffer / SET_BYTES
-        ),
-        Operation::Wire => format!(
-            "{name}, n = {n}, buffer {} bytes ({} records)",
-            case.buffer,
-            case.buffer / WIRE_BYTES
-        ),
-        Operation::Thin => format!(
-            "{name}, n = {n}, buffer {} bytes ({} sets)",
-            case.buffer,
-            case.buffer / SET_BYTES
-        ),
-    }
+    let (name, n) = (case.operation.name(), case.n);
+    let marks = match case.marks {
+        0 => String::new(),
+        marks => format!(", marks {marks:#x}"),
+    };
+    let settings = match case.operation {
+        Operation::Plan => format!(", K = {}, limit {}", case.cap, case.limit),
+        Operation::Wire | Operation::Thin => String::new(),
+    };
+    let room = match case.operation {
+        Operation::Wire => format!("{} records", case.buffer / WIRE_BYTES),
+        Operation::Plan | Operation::Thin => format!("{} sets", case.buffer / SET_BYTES),
+    };
+    let buffer = case.buffer;
+    format!("{name}, n = {n}{marks}{settings}, buffer {buffer} bytes ({room})")
 }
 
 fn numbers(reply: &Reply) -> String {
@@ -66,7 +61,7 @@ fn system_lines(case: &Case) -> Vec<String> {
         false => VARIABLES,
     };
     if terms_have_a_length(&case.terms) {
-        if let Ok(system) = read_terms(n, &case.terms) {
+        if let Ok(system) = read_terms(n, Marks(case.marks), &case.terms) {
             let lines = write_system(&system);
             return lines.iter().map(|line| format!("  {line}")).collect();
         }
@@ -86,7 +81,7 @@ fn system_lines(case: &Case) -> Vec<String> {
             fields.exponents.map(|e| e.to_string()).join("."),
             fields.coefficient
         );
-        for fault in fields.faults(n) {
+        for fault in fields.faults(n, Marks(case.marks)) {
             line += &format!(" ({fault})");
         }
         lines.push(line);
@@ -107,7 +102,7 @@ fn set_text(record: &[u8]) -> String {
 }
 
 /// The sets that the buffer holds, each after a word of what it is.
-fn listed(word: &str, buffer: &[u8], count: usize) -> Vec<String> {
+pub fn listed(word: &str, buffer: &[u8], count: usize) -> Vec<String> {
     let records = buffer.chunks(SET_BYTES).take(count);
     let line = |record| format!("  {word} {}", set_text(record));
     records.map(line).collect()
@@ -149,6 +144,30 @@ case 7: plan, n = 2, K = 6, limit 100, buffer 40 bytes (1 sets)
 000000000000000000000000000000
 ";
         assert_eq!(block(7, &Case::plan(2, 6, 100, 40, input)), expected);
+    }
+
+    #[test]
+    fn marks_are_shown() {
+        let input = write_terms(&terms("x1' = x1^2 x2"));
+        let expected = "\
+case 4: plan, n = 2, marks 0x2, K = 1, limit 100, buffer 1 bytes (0 sets)
+  x1' = x1^2 x2
+  x2 from outside
+  code 5 none: order 2, count 0, steps 6, place 0
+  line 5 2 0 6 0 00
+";
+        let plan = Case::plan(2, 1, 100, 1, input.clone());
+        assert_eq!(block(4, &plan.marked(Marks(0b10))), expected);
+        let expected = "\
+case 5: thin, n = 2, marks 0x1, buffer 0 bytes (0 sets)
+  12 bytes of terms
+  record 1: equation 1, byte 1 is 0, exponents 2.1.0.0.0.0, coefficient 1 (equation of a signal)
+  set {}
+  code 3 term: order 0, count 0, steps 0, place 1
+  line 3 0 0 0 1 -
+";
+        let thinning = Case::thin(2, input, set_of(&[]), 0);
+        assert_eq!(block(5, &thinning.marked(Marks(0b1))), expected);
     }
 
     #[test]

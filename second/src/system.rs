@@ -1,6 +1,7 @@
 //! A system, its derivatives, and what a set of new monomials leaves over
-//! (document 01, Monomials, derivatives, squares).
+//! (document 01, Monomials, derivatives, squares; document 02, [3]).
 
+use crate::marks::Marks;
 use crate::monomial::Monomial;
 use std::collections::{BTreeMap, BTreeSet};
 
@@ -22,14 +23,24 @@ impl Term {
     }
 }
 
-/// A system of n variables.
+/// A system of n variables, some of them marked. Those have no terms.
 #[derive(Clone, PartialEq, Eq, Debug)]
 pub struct System {
     pub n: usize,
+    pub marks: Marks,
     pub terms: Vec<Term>,
 }
 
 impl System {
+    /// A system of document 01, in which nothing is marked.
+    pub fn unmarked(n: usize, terms: Vec<Term>) -> System {
+        System {
+            n,
+            marks: Marks::NONE,
+            terms,
+        }
+    }
+
     /// The derivative of `z`: like monomials added with sign, zero sums gone.
     pub fn derivative(&self, z: Monomial) -> BTreeMap<Monomial, i64> {
         let mut sum = self.totals(z);
@@ -59,19 +70,32 @@ impl System {
         signals
     }
 
-    /// The nonsquares of a set: what the derivatives of V hold and V2 lacks.
+    /// The left variables with their signal numbers: the members of V that have
+    /// an equation. A marked variable is in V and has none, so that nobody asks
+    /// for its derivative.
+    pub fn left_variables(&self, set: &Set) -> Vec<(usize, Monomial)> {
+        let has_equation = |(left, _): &(usize, Monomial)| match left {
+            0 => false,
+            i if *i <= self.n => !self.marks.mark(*i),
+            _ => true,
+        };
+        let signals = self.signals(set).into_iter().enumerate();
+        signals.filter(has_equation).collect()
+    }
+
+    /// The nonsquares of a set: what the derivatives of the left variables hold
+    /// and V2 lacks.
     pub fn nonsquares(&self, set: &Set) -> BTreeSet<Monomial> {
-        let signals = self.signals(set);
-        let squares = squares(&signals);
-        let mut left = BTreeSet::new();
-        for &signal in &signals {
-            for (monomial, _) in self.derivative(signal) {
+        let squares = squares(&self.signals(set));
+        let mut over = BTreeSet::new();
+        for (_, left) in self.left_variables(set) {
+            for (monomial, _) in self.derivative(left) {
                 if !squares.contains(&monomial) {
-                    left.insert(monomial);
+                    over.insert(monomial);
                 }
             }
         }
-        left
+        over
     }
 
     pub fn is_quadratic(&self, set: &Set) -> bool {

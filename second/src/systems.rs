@@ -1,6 +1,8 @@
 //! Random systems within document 01's limits, of kinds that planning treats
-//! differently, and random sets to go with them.
+//! differently, with signals fed from outside and without, and random sets to go
+//! with them.
 
+use crate::marks::Marks;
 use crate::monomial::Monomial;
 use crate::panel::{
     CARDS, MOST_COEFFICIENT, MOST_EXPONENT, MOST_SET_EXPONENT, MOST_TERMS, VARIABLES,
@@ -11,13 +13,19 @@ use crate::system::{Set, System, Term};
 /// A system that takes a term only where the rules allow it.
 struct Draft {
     n: usize,
+    marks: Marks,
     terms: Vec<Term>,
 }
 
 impl Draft {
     fn of(n: usize) -> Draft {
+        Draft::marked(n, Marks::NONE)
+    }
+
+    fn marked(n: usize, marks: Marks) -> Draft {
         Draft {
             n,
+            marks,
             terms: Vec::new(),
         }
     }
@@ -29,6 +37,7 @@ impl Draft {
             coefficient,
         };
         let allowed = self.terms.len() < MOST_TERMS
+            && !self.marks.mark(equation)
             && monomial.0.iter().all(|&e| e <= MOST_EXPONENT)
             && monomial.0[self.n..].iter().all(|&e| e == 0)
             && coefficient != 0
@@ -44,6 +53,7 @@ impl Draft {
         random.shuffle(&mut self.terms);
         System {
             n: self.n,
+            marks: self.marks,
             terms: self.terms,
         }
     }
@@ -242,8 +252,8 @@ fn mutual(random: &mut Random) -> System {
     draft.finish(random)
 }
 
-/// Moves the variables to other places among more variables, so that some are
-/// unused.
+/// Moves the variables, marks and all, to other places among more variables, so
+/// that some are unused.
 fn spread(random: &mut Random, system: &System) -> System {
     let n = random.between(system.n, VARIABLES);
     let mut places: Vec<usize> = (0..n).collect();
@@ -260,8 +270,10 @@ fn spread(random: &mut Random, system: &System) -> System {
         monomial: moved(term.monomial),
         coefficient: term.coefficient,
     });
+    let marked = system.marks.variables().into_iter();
     System {
         n,
+        marks: Marks::of(marked.map(|i| places[i - 1] + 1)),
         terms: terms.collect(),
     }
 }
@@ -292,12 +304,89 @@ pub fn any(random: &mut Random) -> System {
     system
 }
 
+/// What a system takes from outside.
+#[derive(Clone, Copy, PartialEq, Eq, Debug)]
+pub enum Outside {
+    Nothing,
+    Signals,
+}
+
+impl Outside {
+    /// Marks variables of a system, where signals are taken. One at least stays
+    /// as it is, so that there is a set for it.
+    pub fn feed(self, random: &mut Random, system: System) -> System {
+        if self == Outside::Nothing {
+            return system;
+        }
+        let fed = match system.n {
+            VARIABLES => marked(random, &system),
+            1 => with_a_socket(random, &system),
+            _ if random.chance(40) => marked(random, &system),
+            _ => with_a_socket(random, &system),
+        };
+        match random.chance(40) {
+            true => spread(random, &fed),
+            false => fed,
+        }
+    }
+
+    /// So many variables, and which of them are marked: where any is, one is not.
+    pub fn variables(self, random: &mut Random, least: usize, most: usize) -> (usize, Marks) {
+        if self == Outside::Nothing {
+            return (random.between(least, most), Marks::NONE);
+        }
+        let n = random.between(least.max(2), most);
+        (n, Marks(random.between(1, (1 << n) - 2) as u64))
+    }
+}
+
+/// Some variables become signals, mostly among those that nothing feeds, and
+/// their records go.
+fn marked(random: &mut Random, system: &System) -> System {
+    let fed = |i: &usize| system.terms.iter().any(|t| t.equation == *i);
+    let mut places: Vec<usize> = (1..=system.n).collect();
+    random.shuffle(&mut places);
+    if random.chance(70) {
+        places.sort_by_key(fed);
+    }
+    let most = random.pick(&[1, 1, 1, 2, 2, 3]).min(system.n - 1);
+    places.truncate(most);
+    let mut draft = Draft::marked(system.n, Marks::of(places));
+    for term in &system.terms {
+        draft.add(term.equation, term.monomial, term.coefficient);
+    }
+    draft.finish(random)
+}
+
+/// One more variable is a signal, and some terms take it up: as a factor, now and
+/// then squared, or alone.
+fn with_a_socket(random: &mut Random, system: &System) -> System {
+    let n = system.n + 1;
+    let signal = Monomial::variable(n);
+    let mut draft = Draft::marked(n, Marks::of([n]));
+    for term in &system.terms {
+        let monomial = match random.below(12) {
+            0..=3 => term.monomial.times(signal),
+            4 => term.monomial.times(signal).times(signal),
+            _ => term.monomial,
+        };
+        draft.add(term.equation, monomial, term.coefficient);
+    }
+    if random.chance(40) {
+        let equation = random.between(1, system.n);
+        let degree = random.pick(&[0, 0, 1, 1, 2]);
+        let taken = product(random, system.n, degree).times(signal);
+        draft.add(equation, taken, coefficient(random));
+    }
+    draft.finish(random)
+}
+
 /// So many different records that all rules allow. One variable has but few
 /// monomials, so n is raised where `count` calls for it.
-pub fn run(random: &mut Random, n: usize, count: usize) -> System {
+pub fn run(random: &mut Random, n: usize, marks: Marks, count: usize) -> System {
     let powers = usize::from(MOST_EXPONENT) + 1;
     let n = if count > powers { n.max(2) } else { n };
-    let mut draft = Draft::of(n);
+    let mut draft = Draft::marked(n, marks);
     while draft.terms.len() < count {
         let mut monomial = Monomial::ONE;
         for exponent in &mut monomial.0[..n] {
@@ -310,15 +399,16 @@ pub fn run(random: &mut Random, n: usize, count: usize) -> System {
     }
     System {
         n,
+        marks,
         terms: draft.terms,
     }
 }
 
-/// A monomial that a set may hold.
-pub fn member(random: &mut Random, n: usize) -> Monomial {
+/// A monomial that a set may hold. Not every variable is marked.
+pub fn member(random: &mut Random, n: usize, marks: Marks) -> Monomial {
     loop {
         let mut monomial = Monomial::ONE;
-        for i in 0..n {
+        for i in (0..n).filter(|i| !marks.mark(i + 1)) {
             monomial.0[i] = match random.below(20) {
                 0 => MOST_SET_EXPONENT,
                 1 => random.between(0, MOST_SET_EXPONENT.into()) as u16,
@@ -332,11 +422,12 @@ pub fn member(random: &mut Random, n: usize) -> Monomial {
     }
 }
 
-/// A set of the given size.
-pub fn set(random: &mut Random, n: usize, size: usize) -> Set {
+/// A set of the given size; the empty one where every variable is marked.
+pub fn set(random: &mut Random, n: usize, marks: Marks, size: usize) -> Set {
     let mut set = Set::new();
-    while set.len() < size {
-        set.insert(member(random, n));
+    let has_member = (1..=n).any(|i| !marks.mark(i));
+    while has_member && set.len() < size {
+        set.insert(member(random, n, marks));
     }
     set
 }
@@ -344,14 +435,10 @@ pub fn set(random: &mut Random, n: usize, size: usize) -> Set {
 /// A set first, and then a system that it makes quadratic. Each xi that the set
 /// uses grows by xi times signals, which multiplies every new monomial by those
 /// signals too; the other variables may be fed by any product of two signals.
-pub fn around_a_set(random: &mut Random, n: usize, size: usize) -> (System, Set) {
-    let set = set(random, n, size);
-    let signals = System {
-        n,
-        terms: Vec::new(),
-    }
-    .signals(&set);
-    let mut draft = Draft::of(n);
+pub fn around_a_set(random: &mut Random, n: usize, marks: Marks, size: usize) -> (System, Set) {
+    let set = set(random, n, marks, size);
+    let signals = System::unmarked(n, Vec::new()).signals(&set);
+    let mut draft = Draft::marked(n, marks);
     let most = random.pick(&[1, 2, 2, 3, 8]);
     for equation in 1..=n {
         let used = set.iter().any(|m| m.0[equation - 1] > 0);
@@ -412,17 +499,19 @@ fn ring(random: &mut Random) -> System {
 
 /// A system, and one or two signals with whatever the derivatives call for. In a
 /// ring signals may need each other, so that none can go alone.
-pub fn closed(random: &mut Random) -> (System, Set) {
+pub fn closed(random: &mut Random, outside: Outside) -> (System, Set) {
     loop {
         let system = match random.below(3) {
             0 => any(random),
             _ => ring(random),
         };
+        let system = outside.feed(random, system);
         let mut set = Set::new();
         for _ in 0..random.between(1, 2) {
             let degree = random.pick(&[2, 3, 3, 3, 4]);
             set.insert(product(random, system.n, degree));
         }
+        set.retain(|m| !system.marks.touch(*m));
         if let Some(closed) = close(random, &system, set) {
             return (system, closed);
         }
@@ -440,7 +529,8 @@ fn close(random: &mut Random, system: &System, mut set: Set) -> Option<Set> {
             false => nonsquare,
         };
         set.insert(added);
-        if set.len() > CARDS || added.0.iter().any(|&e| e > MOST_SET_EXPONENT) {
+        let too_tall = added.0.iter().any(|&e| e > MOST_SET_EXPONENT);
+        if set.len() > CARDS || too_tall || system.marks.touch(added) {
             return None;
         }
     }
@@ -458,9 +548,26 @@ mod tests {
         for _ in 0..2000 {
             let system = any(&mut random);
             assert!((1..=VARIABLES).contains(&system.n));
-            let read = read_terms(system.n, &write_terms(&system.terms));
+            let read = read_terms(system.n, system.marks, &write_terms(&system.terms));
             assert_eq!(read, Ok(system));
         }
+    }
+
+    #[test]
+    fn systems_with_signals_are_taken() {
+        let mut random = Random::from_seed(9);
+        let mut used = 0;
+        for _ in 0..2000 {
+            let system = any(&mut random);
+            let system = Outside::Signals.feed(&mut random, system);
+            let marked = system.marks.variables().len();
+            assert!(0 < marked && marked < system.n && system.marks.are_among(system.n));
+            let takes = |t: &Term| system.marks.touch(t.monomial);
+            used += usize::from(system.terms.iter().any(takes));
+            let read = read_terms(system.n, system.marks, &write_terms(&system.terms));
+            assert_eq!(read, Ok(system));
+        }
+        assert!(used > 1000);
     }
 
     #[test]
@@ -468,9 +575,9 @@ mod tests {
         let mut random = Random::from_seed(3);
         for count in 0..=MOST_TERMS {
             for n in 1..=VARIABLES {
-                let system = run(&mut random, n, count);
+                let system = run(&mut random, n, Marks::NONE, count);
                 assert_eq!(system.terms.len(), count);
-                let read = read_terms(system.n, &write_terms(&system.terms));
+                let read = read_terms(system.n, system.marks, &write_terms(&system.terms));
                 assert_eq!(read, Ok(system));
             }
         }
@@ -482,8 +589,9 @@ mod tests {
         for n in 1..=VARIABLES {
             for size in 0..=CARDS {
                 for _ in 0..20 {
-                    let (system, set) = around_a_set(&mut random, n, size);
-                    assert!(set_faults(n, &write_set(&set)).is_empty());
+                    let marks = Marks(random.below(1 << n) as u64);
+                    let (system, set) = around_a_set(&mut random, n, marks, size);
+                    assert!(set_faults(n, marks, &write_set(&set)).is_empty());
                     assert!(system.is_quadratic(&set));
                 }
             }
@@ -493,10 +601,11 @@ mod tests {
     #[test]
     fn a_closed_set_is_quadratic() {
         let mut random = Random::from_seed(8);
-        for _ in 0..300 {
-            let (system, set) = closed(&mut random);
-            let read = read_terms(system.n, &write_terms(&system.terms));
-            assert!(set_faults(system.n, &write_set(&set)).is_empty());
+        for turn in 0..300 {
+            let outside = [Outside::Nothing, Outside::Signals][turn % 2];
+            let (system, set) = closed(&mut random, outside);
+            let read = read_terms(system.n, system.marks, &write_terms(&system.terms));
+            assert!(set_faults(system.n, system.marks, &write_set(&set)).is_empty());
             assert!(system.is_quadratic(&set));
             assert_eq!(read, Ok(system));
         }

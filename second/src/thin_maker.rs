@@ -4,17 +4,18 @@
 use crate::batch::{Case, MOST_CASE_BUFFER};
 use crate::maker::{Ask, Maker, Mix};
 use crate::monomial::Monomial;
-use crate::panel::{CARDS, MOST_CAP, MOST_SET_EXPONENT, SET_BYTES, VARIABLES};
+use crate::panel::{CARDS, MOST_CAP, MOST_SET_EXPONENT, SET_BYTES};
 use crate::random::Random;
 use crate::records::{read_set, write_set, write_terms};
 use crate::system::{Set, System};
-use crate::systems;
+use crate::systems::{self, Outside};
 
 /// Thinning. With these shares some 500 cases go through every turn of places,
 /// and more than half of them are stories of a given set.
 pub const THINNING: Mix = Mix {
     asks: &[Ask::Thin],
     given: &[Ask::Thin],
+    outside: Outside::Nothing,
     shares: &[
         (18, Maker::thin_found_sets),
         (14, Maker::thin_closed_set),
@@ -38,7 +39,7 @@ impl Maker {
     /// Smallest sets of a system put together, as far as the cards go. Sets that
     /// are quadratic are so together too, and the smallest subsets are those of
     /// the found sets that lie inside.
-    fn thin_found_sets(&mut self) {
+    pub fn thin_found_sets(&mut self) {
         let (system, mut found) = self.planned();
         self.random.shuffle(&mut found);
         let mut given = Set::new();
@@ -59,14 +60,14 @@ impl Maker {
     /// A system that a short walk finishes, and all that it finds.
     pub fn planned(&mut self) -> (System, Vec<Set>) {
         loop {
-            let system = systems::any(&mut self.random);
+            let system = self.any_system();
             let terms = write_terms(&system.terms);
             let n = system.n as u64;
             let plan = Case::plan(n, MOST_CAP, SHORT_WALK, MOST_CASE_BUFFER, terms);
-            let (reply, sets) = plan.answer();
+            let (reply, sets) = plan.marked(system.marks).answer();
             if reply.code == 0 {
                 let found = sets.chunks(SET_BYTES).take(reply.count as usize);
-                let read = |record| read_set(system.n, record).expect("a found set");
+                let read = |record| read_set(system.n, system.marks, record).expect("a found set");
                 let found = found.map(read).collect();
                 return (system, found);
             }
@@ -88,8 +89,8 @@ impl Maker {
     }
 
     /// Some signals, and then whatever their derivatives call for.
-    fn thin_closed_set(&mut self) {
-        let (system, set) = systems::closed(&mut self.random);
+    pub fn thin_closed_set(&mut self) {
+        let (system, set) = self.closed_set();
         let given = match self.random.chance(50) {
             true => self.padded(&system, set),
             false => set,
@@ -102,18 +103,14 @@ impl Maker {
     }
 
     /// A set, and the system made around it.
-    fn thin_around_a_set(&mut self) {
-        let n = self.random.between(1, VARIABLES);
-        let size = self.random.between(0, CARDS);
-        let (system, set) = systems::around_a_set(&mut self.random, n, size);
+    pub fn thin_around_a_set(&mut self) {
+        let (system, set) = self.set_with_system();
         self.thin_with(&system, &set);
     }
 
     /// A set that has nothing to do with the system.
-    fn thin_random_set(&mut self) {
-        let system = systems::any(&mut self.random);
-        let size = self.random.between(0, CARDS);
-        let set = systems::set(&mut self.random, system.n, size);
+    pub fn thin_random_set(&mut self) {
+        let (system, set) = self.system_and_set();
         self.thin_with(&system, &set);
     }
 
@@ -127,6 +124,7 @@ impl Maker {
         let thin = |buffer| {
             let set = write_set(given).to_vec();
             Case::thin(system.n as u64, write_terms(&system.terms), set, buffer)
+                .marked(system.marks)
         };
         let (reply, _) = thin(MOST_CASE_BUFFER).answer();
         let exact = reply.count as usize * SET_BYTES;
@@ -152,12 +150,13 @@ impl Maker {
 /// Nothing where the product is no new monomial.
 fn extra(random: &mut Random, system: &System, set: &Set) -> Option<Monomial> {
     if random.chance(20) {
-        return Some(systems::member(random, system.n));
+        return Some(systems::member(random, system.n, system.marks));
     }
     let signals = system.signals(set);
     let product = random.pick(&signals).times(random.pick(&signals));
     let new = product != Monomial::ONE
         && !product.is_variable()
+        && !system.marks.touch(product)
         && product.0.iter().all(|&e| e <= MOST_SET_EXPONENT);
     new.then_some(product)
 }

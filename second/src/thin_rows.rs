@@ -219,7 +219,7 @@ fn no_answer_though_a_subset_is_quadratic() -> Vec<Case> {
 }
 
 /// The same bytes, thinned.
-fn as_thinning(case: &Case) -> Case {
+pub fn as_thinning(case: &Case) -> Case {
     Case {
         operation: Operation::Thin,
         ..case.clone()

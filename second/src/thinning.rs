@@ -50,6 +50,7 @@ pub fn thinned(set: &Set, is_quadratic: impl Fn(&Set) -> bool) -> Option<Thinned
 #[cfg(test)]
 mod tests {
     use super::*;
+    use crate::marks::Marks;
     use crate::notation::{monomial, system};
     use crate::panel::CARDS;
     use crate::random::Random;
@@ -63,7 +64,7 @@ mod tests {
     fn every_subset_is_made_once() {
         let mut random = Random::from_seed(21);
         for size in 0..=CARDS {
-            let whole = systems::set(&mut random, 4, size);
+            let whole = systems::set(&mut random, 4, Marks::NONE, size);
             let all = subsets(&whole);
             assert_eq!(all.len(), 1 << size);
             assert!(all.iter().all(|subset| subset.is_subset(&whole)));

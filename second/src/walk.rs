@@ -1,4 +1,4 @@
-//! The walk, level by level (document 01, The walk).
+//! The walk, level by level (document 01, The walk; document 02, [3]).
 
 use crate::monomial::Monomial;
 use crate::system::{Set, System};
@@ -89,13 +89,20 @@ impl Walk<'_> {
         }
     }
 
-    /// Tries the pairs of a nonsquare, each child walked to its end at once.
+    /// Tries the pairs of a nonsquare, each child walked to its end at once. A
+    /// pair is judged by what it would add, so that a marked variable itself,
+    /// which is in V, forbids nothing.
     fn try_pairs(&mut self, set: &Set, nonsquare: Monomial) -> Result<(), Stop> {
         let signals = self.system.signals(set);
         for (m1, m2) in nonsquare.pairs() {
             self.step()?;
+            let mut new = vec![m1, m2];
+            new.retain(|m| !signals.contains(m));
+            if new.iter().any(|m| self.system.marks.touch(*m)) {
+                continue;
+            }
             let mut child = set.clone();
-            child.extend([m1, m2].iter().filter(|m| !signals.contains(m)));
+            child.extend(new);
             if child.len() <= self.level {
                 self.open(&child)?;
             }

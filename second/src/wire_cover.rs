@@ -44,8 +44,8 @@ impl Derivatives {
         let signals = system.signals(set);
         let squares = squares(&signals);
         let mut entries = Vec::new();
-        for (left, &signal) in signals.iter().enumerate() {
-            for (monomial, total) in system.totals(signal) {
+        for (left, variable) in system.left_variables(set) {
+            for (monomial, total) in system.totals(variable) {
                 entries.push(Entry {
                     left,
                     total,

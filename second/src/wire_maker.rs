@@ -4,16 +4,17 @@
 
 use crate::batch::Case;
 use crate::maker::{Ask, Maker, Mix};
-use crate::panel::{CARDS, MOST_TERMS, MOST_WIRES_BYTES, VARIABLES, WIRE_BYTES};
+use crate::panel::{MOST_TERMS, MOST_WIRES_BYTES, WIRE_BYTES};
 use crate::records::{write_set, write_terms};
 use crate::system::{Set, System};
-use crate::systems;
+use crate::systems::{self, Outside};
 use crate::wire_cover::Derivatives;
 
 /// Wiring, a fair share of it for the verdict alone.
 pub const WIRING: Mix = Mix {
     asks: &[Ask::Verdict, Ask::Wire],
     given: &[Ask::Verdict, Ask::Wire],
+    outside: Outside::Nothing,
     shares: &[
         (14, Maker::wire_found_set),
         (18, Maker::wire_closed_set),
@@ -32,24 +33,22 @@ pub const WIRING: Mix = Mix {
 
 impl Maker {
     /// A smallest set of a system, or one near it.
-    fn wire_found_set(&mut self) {
+    pub fn wire_found_set(&mut self) {
         let (system, found) = self.planned();
         let set = found[self.random.below(found.len())].clone();
         self.wire_or_near(&system, &set);
     }
 
     /// Some signals, with whatever their derivatives call for.
-    fn wire_closed_set(&mut self) {
-        let (system, set) = systems::closed(&mut self.random);
+    pub fn wire_closed_set(&mut self) {
+        let (system, set) = self.closed_set();
         self.wire_or_near(&system, &set);
     }
 
     /// A set, and the system made around it, often with a term too many.
-    fn wire_around_a_set(&mut self) {
-        let n = self.random.between(1, VARIABLES);
-        let size = self.random.between(0, CARDS);
-        let (mut system, set) = systems::around_a_set(&mut self.random, n, size);
-        let extra = systems::run(&mut self.random, n, 1).terms[0];
+    pub fn wire_around_a_set(&mut self) {
+        let (mut system, set) = self.set_with_system();
+        let extra = systems::run(&mut self.random, system.n, system.marks, 1).terms[0];
         let is_new = !system.terms.iter().any(|t| t.repeats(&extra));
         if is_new && system.terms.len() < MOST_TERMS && self.random.chance(60) {
             system.terms.push(extra);
@@ -58,10 +57,8 @@ impl Maker {
     }
 
     /// A set that has nothing to do with the system.
-    fn wire_random_set(&mut self) {
-        let system = systems::any(&mut self.random);
-        let size = self.random.between(0, CARDS);
-        let set = systems::set(&mut self.random, system.n, size);
+    pub fn wire_random_set(&mut self) {
+        let (system, set) = self.system_and_set();
         self.wire_with(&system, &set);
     }
 
@@ -85,6 +82,7 @@ impl Maker {
         let wire = |buffer| {
             let set = write_set(set).to_vec();
             Case::wire(system.n as u64, write_terms(&system.terms), set, buffer)
+                .marked(system.marks)
         };
         for _ in 0..self.random.between(1, 2) {
             let bytes = self.random.pick(&rooms) * WIRE_BYTES;

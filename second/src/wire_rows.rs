@@ -4,6 +4,7 @@
 //! refused whatever is lent.
 
 use crate::batch::{Case, MOST_CASE_BUFFER};
+use crate::marks::Marks;
 use crate::monomial::Monomial;
 use crate::panel::{CARDS, MOST_N, MOST_WIRES_BYTES, SET_BYTES, TERM_BYTES, VARIABLES, WIRE_BYTES};
 use crate::records::{read_set, read_terms, write_set};
@@ -138,8 +139,8 @@ fn before_each_nonsquare() -> Vec<Case> {
     let mut cases = Vec::new();
     for (n, text, names, _) in not_quadratic() {
         let (terms, set) = (bytes_of(&text), set_of(names));
-        let system = read_terms(n as usize, &terms).expect("terms that are taken");
-        let members = read_set(n as usize, &set).expect("a set that is taken");
+        let system = read_terms(n as usize, Marks::NONE, &terms).expect("terms that are taken");
+        let members = read_set(n as usize, Marks::NONE, &set).expect("a set that is taken");
         let rooms = Derivatives::of(&system, &members).rooms();
         let around = |room: usize| {
             let bytes = room * WIRE_BYTES;

@@ -1,5 +1,6 @@
 //! The verdict on a set and its wiring list, both from one pass over the left
-//! variables (document 01, Monomials, derivatives, squares; document 02, [2]).
+//! variables (document 01, Monomials, derivatives, squares; document 02, [2]
+//! and [3]).
 
 use crate::monomial::Monomial;
 use crate::system::{Set, System};
@@ -30,8 +31,8 @@ fn first_pair(signals: &[Monomial], monomial: Monomial) -> Option<(usize, usize)
 pub fn wiring(system: &System, set: &Set) -> Result<Vec<Wire>, usize> {
     let signals = system.signals(set);
     let mut list = Vec::new();
-    for left in 1..signals.len() {
-        for (monomial, coefficient) in system.derivative(signals[left]) {
+    for (left, variable) in system.left_variables(set) {
+        for (monomial, coefficient) in system.derivative(variable) {
             let (a, b) = first_pair(&signals, monomial).ok_or(left)?;
             list.push(Wire {
                 left,

@@ -1,4 +1,4 @@
--- Five words, two or one beside what they ask for: one table, one claim. Assumes nothing.
+-- Six words, three or two beside what they ask for: one table, one claim. Assumes nothing.
 use mathlib.Core.Path.{_≡_, refl}
 use mathlib.Core.List.{List, [], _∷_, map}
 use Prim.Native.Nat.{ℕ}
@@ -18,37 +18,40 @@ record Row : Type 0 where
 number : String → Number
 number word = numberOf (written word)
 
-row : String → String → String → String → String → Asked → Row
-row a b c d e want = record { got = asked (number a) (number b) (number c) (number d) (number e); want = want }
+row : String → String → String → String → String → String → Asked → Row
+row a b c d e f want = record { got = asked (number a) (number b) (number c) (number d) (number e) (number f); want = want }
 
-thinRow : String → String → Asked → Row
-thinRow a b want = record { got = askedThin (number a) (number b); want = want }
+thinRow : String → String → String → Asked → Row
+thinRow a b c want = record { got = askedThin (number a) (number b) (number c); want = want }
 
-wireRow : String → Asked → Row
-wireRow a want = record { got = askedWire (number a); want = want }
+wireRow : String → String → Asked → Row
+wireRow a b want = record { got = askedWire (number a) (number b); want = want }
 
-right : ℕ → ℕ → ℕ → ℕ → ℕ → Asked
-right n cap limit room which = Plan (record { n = n; cap = cap; limit = limit; room = room; which = which })
+right : ℕ → ℕ → ℕ → ℕ → ℕ → ℕ → Asked
+right n marks cap limit room which = Plan (record { n = n; marks = marks; cap = cap; limit = limit; room = room; which = which })
 
 table : List Row
 table =
-    -- N, K, LIMIT, SETS and WHICH; both sides of the most room
-    row "1" "6" "1000000" "1000" "2" (right 1 6 1000000 1000 2)
-    ∷ row "1" "2" "3" "20000" "5" (right 1 2 3 20000 5)
-    ∷ row "1" "2" "3" "20001" "5" Wrong
+    -- N, MARKS, K, LIMIT, SETS and WHICH; both sides of the most room
+    row "1" "0" "6" "1000000" "1000" "2" (right 1 0 6 1000000 1000 2)
+    ∷ row "1" "7" "2" "3" "20000" "5" (right 1 7 2 3 20000 5)
+    ∷ row "1" "7" "2" "3" "20001" "5" Wrong
     -- one word that is no number, in each place
-    ∷ row "" "2" "3" "4" "5" Wrong
-    ∷ row "1" "-2" "3" "4" "5" Wrong
-    ∷ row "1" "2" "3x" "4" "5" Wrong
-    ∷ row "1" "2" "3" "18446744073709551616" "5" Wrong
-    ∷ row "1" "2" "3" "4" "1.5" Wrong
-    -- N and WHICH
-    ∷ thinRow "6" "2" (Thin 6 2)
-    ∷ thinRow "x" "2" Wrong
-    ∷ thinRow "6" "" Wrong
-    -- N alone
-    ∷ wireRow "6" (Wire 6)
-    ∷ wireRow "six" Wrong
+    ∷ row "" "7" "2" "3" "4" "5" Wrong
+    ∷ row "1" "7u" "2" "3" "4" "5" Wrong
+    ∷ row "1" "7" "-2" "3" "4" "5" Wrong
+    ∷ row "1" "7" "2" "3x" "4" "5" Wrong
+    ∷ row "1" "7" "2" "3" "18446744073709551616" "5" Wrong
+    ∷ row "1" "7" "2" "3" "4" "1.5" Wrong
+    -- N, MARKS and WHICH
+    ∷ thinRow "6" "4" "2" (Thin 6 4 2)
+    ∷ thinRow "x" "4" "2" Wrong
+    ∷ thinRow "6" "x" "2" Wrong
+    ∷ thinRow "6" "4" "" Wrong
+    -- N and MARKS
+    ∷ wireRow "6" "32" (Wire 6 32)
+    ∷ wireRow "six" "32" Wrong
+    ∷ wireRow "6" "-" Wrong
     ∷ []
 
 sampled : map (λ r. r .got) table ≡ map (λ r. r .want) table

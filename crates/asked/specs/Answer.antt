@@ -4,6 +4,7 @@ use mathlib.Core.List.{List, [], _∷_}
 use Prim.Native.Nat.{ℕ, _*_}
 use lib.ListN.{length}
 use Rattle.wiring.specs.Panel.{setBytes}
+use Rattle.wiring.specs.Sockets.{panelOf}
 use Rattle.wiring.specs.Reply.{numbers, inOrder}
 use Rattle.wiring.specs.declared.reply.Reply.the-variants.{Setting}
 use Rattle.lines.specs.Answer.{replyLine}
@@ -17,14 +18,14 @@ use Rattle.asked.specs.Input.{setIn, termsIn}
 
 unfoldable pub answered : Asked → List ℕ → List (List ℕ)
 answered (Plan s) input = report s input
-answered (Thin n which) input = thinReport n which (termsIn input) (setIn input) (setBytes * mostSets)
-answered (Wire n) input = wireReport n (termsIn input) (setIn input)
+answered (Thin n marks which) input = thinReport (panelOf n marks) which (termsIn input) (setIn input) (setBytes * mostSets)
+answered (Wire n marks) input = wireReport (panelOf n marks) (termsIn input) (setIn input)
 answered Wrong input = replyLine (inOrder (numbers Setting)) ∷ []
 
 -- ---- as the code prepares it, in two buffers
 abbrev pub Answers : Asked → List ℕ → Prepared → List ℕ → List ℕ → List ℕ → List ℕ → Type 0
 Answers (Plan s) input p sets setsAfter wires wiresAfter = Prepares (fitted s (length sets)) input p sets setsAfter wiresAfter
-Answers (Thin n which) input p sets setsAfter wires wiresAfter = PreparesThin n which (termsIn input) (setIn input) p sets setsAfter wiresAfter
-Answers (Wire n) input p sets setsAfter wires wiresAfter = PreparesWire n (termsIn input) (setIn input) p sets setsAfter wiresAfter
+Answers (Thin n marks which) input p sets setsAfter wires wiresAfter = PreparesThin (panelOf n marks) which (termsIn input) (setIn input) p sets setsAfter wiresAfter
+Answers (Wire n marks) input p sets setsAfter wires wiresAfter = PreparesWire (panelOf n marks) (termsIn input) (setIn input) p sets setsAfter wiresAfter
 Answers Wrong input p sets setsAfter wires wiresAfter =
     (p ≡ record { reply = Setting; lent = 0; wires = 0 }) × (setsAfter ≡ sets) × (wiresAfter ≡ wires)

@@ -39,8 +39,10 @@ pub(crate) fn prepare_asked(
     let terms = &input[at..];
     match a {
         Asked::Plan(s) => prepare::prepare(s, terms, sets, out),
-        Asked::Thin { n, which } => prepare::prepare_thin(n, which, terms, set, sets, out),
-        Asked::Wire { n } => prepare::prepare_wire(n, terms, set, out),
+        Asked::Thin { n, marks, which } => {
+            prepare::prepare_thin(n, marks, which, terms, set, sets, out)
+        },
+        Asked::Wire { n, marks } => prepare::prepare_wire(n, marks, terms, set, out),
         Asked::Wrong => Prepared {
             reply: Reply::Setting,
             lent: 0,

@@ -1,5 +1,5 @@
-// What is asked for by numbers, each a word of the command line: five ask for a plan, two for the thinning of a set,
-// one for its wiring.
+// What is asked for by numbers, each a word of the command line: six ask for a plan, three for the thinning of a set,
+// two for its wiring. The first two are the panel: how many variables, and the marks of those that are signals.
 use lines::number;
 use lines::number::Number;
 use report::prepare::Settings;
@@ -11,16 +11,26 @@ pub(crate) const MOST_SETS: usize = 20000;
 
 pub enum Asked {
     Plan(Settings),
-    Thin { n: u64, which: u64 },
-    Wire { n: u64 },
+    Thin { n: u64, marks: u64, which: u64 },
+    Wire { n: u64, marks: u64 },
     Wrong,
 }
 
-// The plan that five words ask for, read as numbers.
-fn settings_of(n: Number, cap: Number, limit: Number, sets: Number, which: Number) -> Asked
-    ensures { λ r. ⌜ r ≡ asked n cap limit sets which ⌝ }
+// The plan that six words ask for, read as numbers.
+fn settings_of(
+    n: Number,
+    marks: Number,
+    cap: Number,
+    limit: Number,
+    sets: Number,
+    which: Number,
+) -> Asked
+    ensures { λ r. ⌜ r ≡ asked n marks cap limit sets which ⌝ }
 {
     let Number::Of(n) = n else {
+        return Asked::Wrong;
+    };
+    let Number::Of(marks) = marks else {
         return Asked::Wrong;
     };
     let Number::Of(cap) = cap else {
@@ -40,6 +50,7 @@ fn settings_of(n: Number, cap: Number, limit: Number, sets: Number, which: Numbe
     }
     Asked::Plan(Settings {
         n,
+        marks,
         cap,
         limit,
         room: sets as usize,
@@ -47,27 +58,33 @@ fn settings_of(n: Number, cap: Number, limit: Number, sets: Number, which: Numbe
     })
 }
 
-// The thinning that two words ask for, read as numbers.
-fn thinning_of(n: Number, which: Number) -> Asked
-    ensures { λ r. ⌜ r ≡ askedThin n which ⌝ }
+// The thinning that three words ask for, read as numbers.
+fn thinning_of(n: Number, marks: Number, which: Number) -> Asked
+    ensures { λ r. ⌜ r ≡ askedThin n marks which ⌝ }
 {
     let Number::Of(n) = n else {
+        return Asked::Wrong;
+    };
+    let Number::Of(marks) = marks else {
         return Asked::Wrong;
     };
     let Number::Of(which) = which else {
         return Asked::Wrong;
     };
-    Asked::Thin { n, which }
+    Asked::Thin { n, marks, which }
 }
 
-// The wiring that one word asks for, read as a number.
-fn wiring_of(n: Number) -> Asked
-    ensures { λ r. ⌜ r ≡ askedWire n ⌝ }
+// The wiring that two words ask for, read as numbers.
+fn wiring_of(n: Number, marks: Number) -> Asked
+    ensures { λ r. ⌜ r ≡ askedWire n marks ⌝ }
 {
     let Number::Of(n) = n else {
         return Asked::Wrong;
     };
-    Asked::Wire { n }
+    let Number::Of(marks) = marks else {
+        return Asked::Wrong;
+    };
+    Asked::Wire { n, marks }
 }
 
 // Word number i of the command line. One that is missing or over 4,096 bytes comes as an empty word, which is no
@@ -83,13 +100,13 @@ pub(crate) fn read() -> Asked
     ensures { λ r. ⌜ Roomy r ⌝ }
 {
     let words = os::arg_count();
-    if words == 2 {
-        return wiring_of(number_at(1));
-    }
     if words == 3 {
-        return thinning_of(number_at(1), number_at(2));
+        return wiring_of(number_at(1), number_at(2));
     }
-    if words != 6 {
+    if words == 4 {
+        return thinning_of(number_at(1), number_at(2), number_at(3));
+    }
+    if words != 7 {
         return Asked::Wrong;
     }
     settings_of(
@@ -98,5 +115,6 @@ pub(crate) fn read() -> Asked
         number_at(3),
         number_at(4),
         number_at(5),
+        number_at(6),
     )
 }

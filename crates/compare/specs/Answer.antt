@@ -4,6 +4,7 @@ use mathlib.Core.Bool.{cond}
 use mathlib.Core.List.{List}
 use Prim.Native.Nat.{ℕ}
 use lib.Dec.{eqb}
+use Rattle.wiring.specs.Sockets.{panelOf}
 use Rattle.wiring.specs.Reply.{Outcome, inOrder}
 use Rattle.wiring.specs.Answers.{wired}
 use Rattle.walk.specs.Plan.{planned}
@@ -27,9 +28,10 @@ outcomeCase o = record { text = caseLine (inOrder (o .said)) (o .bytes); bytes =
 -- operation 1 plans, 2 wires, and another thins; the buffer has so many bytes
 unfoldable pub caseOf : Head → List ℕ → List ℕ → ℕ → Case
 caseOf h terms set size =
-    let plan = outcomeCase (planned (h .n) (h .cap) (h .limit) terms size) in
-    let wire = outcomeCase (wired (h .n) terms set size) in
-    let thin = outcomeCase (thinned (h .n) terms set size) in
+    let panel = panelOf (h .n) (h .marks) in
+    let plan = outcomeCase (planned panel (h .cap) (h .limit) terms size) in
+    let wire = outcomeCase (wired panel terms set size) in
+    let thin = outcomeCase (thinned panel terms set size) in
     cond (eqb (h .operation) 1) plan (cond (eqb (h .operation) 2) wire thin)
 
 -- its line stands in a line, and its bytes in the buffer

@@ -7,7 +7,7 @@ use lib.ListN.{getD}
 use Rattle.compare.specs.declared.head.Head.{Head}
 
 abbrev pub headBytes : ℕ
-headBytes = 32
+headBytes = 40
 
 -- the operations are numbered from 1
 abbrev pub operations : ℕ
@@ -39,8 +39,9 @@ headOf bytes = record {
   terms = two bytes 2;
   size = four bytes 4;
   n = eight bytes 8;
-  cap = eight bytes 16;
-  limit = eight bytes 24;
+  marks = eight bytes 16;
+  cap = eight bytes 24;
+  limit = eight bytes 32;
 }
 
 -- a known operation, and lengths within the limits

@@ -1,10 +1,10 @@
-// The head of a case: 32 bytes, each number low byte first.
+// The head of a case: 40 bytes, each number low byte first.
 use lines::text;
 ghost use mathlib.Core.Path.{_≡_};
 ghost use Prim.Native.Nat.{_+_, _≤_, _<_};
 ghost use Rattle.compare.specs.Head.{headBytes, two, four, eight, headOf, right};
 
-pub(crate) const HEAD_BYTES: usize = 32;
+pub(crate) const HEAD_BYTES: usize = 40;
 
 // The operations are numbered from 1.
 const OPERATIONS: u64 = 3;
@@ -22,6 +22,7 @@ pub struct Head {
     pub terms: usize,
     pub size: usize,
     pub n: u64,
+    pub marks: u64,
     pub cap: u64,
     pub limit: u64,
 }
@@ -56,8 +57,9 @@ pub(crate) fn read(b: &[u8; HEAD_BYTES]) -> Head
         terms: two_at(b, 2) as usize,
         size: four_at(b, 4) as usize,
         n: eight_at(b, 8),
-        cap: eight_at(b, 16),
-        limit: eight_at(b, 24),
+        marks: eight_at(b, 16),
+        cap: eight_at(b, 24),
+        limit: eight_at(b, 32),
     }
 }
 

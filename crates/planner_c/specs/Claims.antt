@@ -6,10 +6,11 @@ use lib.ListN.{replicate}
 use Rattle.wiring.specs.Panel.{setBytes}
 use Rattle.wiring.specs.Reply.{numbers, inOrder}
 use Rattle.wiring.specs.Terms.{records, system}
+use Rattle.wiring.specs.declared.panel.Panel.{Panel}
 use Rattle.wiring.specs.declared.reply.Reply.{Reply}
 use Rattle.wiring.specs.declared.reply.Reply.the-variants.{Done, Setting, Length, Term, Twice, Nothing, Full, Spent, BadSet, NotQuadratic}
 use Rattle.wiring.specs.Claims.{WireSays, Patch}
-use Rattle.walk.specs.Walk.{bare}
+use Rattle.walk.specs.Walk.{rulesOf}
 use Rattle.walk.specs.Claims.{Lacks, Fills, Spends, Accepted, PlanSays, NoneBelow, Planned}
 use Rattle.thin.specs.Claims.{ThinSays, Thinned, Overfull}
 
@@ -19,52 +20,52 @@ pub record Heard (Means : Reply → Type 0) (five : List ℕ) : Type 0 where
   pub numbered : five ≡ inOrder (numbers reply)
   pub means : Means reply
 
-module _ (n cap limit : ℕ) (terms : List ℕ) (size : ℕ) where
+module _ (panel : Panel) (cap limit : ℕ) (terms : List ℕ) (size : ℕ) where
   -- planning ended without sets: `how` says exactly where, by the order and the steps
   pub record Stopped (how : ℕ → ℕ → Type 0) (order steps : ℕ) (bytes : List ℕ) : Type 0 where
-    pub accepted : Accepted n cap limit terms
-    -- no quadratic list of monomials, of any powers, has fewer members than the order
-    pub none-below : NoneBelow n terms order
+    pub accepted : Accepted panel cap limit terms
+    -- no quadratic list of monomials without signals, of any powers, has fewer members than the order
+    pub none-below : NoneBelow panel terms order
     pub exact : how order steps
     pub zeros : bytes ≡ replicate size 0
 
   -- planning: done lists all smallest quadratic sets; none, full and spent stop exactly by the steps of the walk; the refusals are those of the library
   abbrev pub PlanMeans : Reply → List ℕ → Type 0
-  PlanMeans (Done o c k) bytes = Planned n cap limit terms size o c k bytes
-  PlanMeans (Nothing o k) bytes = Stopped (Lacks bare n (system (records terms)) limit (size / setBytes) cap) o k bytes
-  PlanMeans (Full o k) bytes = Stopped (Fills bare n (system (records terms)) limit (size / setBytes) cap) o k bytes
-  PlanMeans (Spent o k) bytes = Stopped (Spends bare n (system (records terms)) limit (size / setBytes) cap) o k bytes
-  PlanMeans Setting bytes = PlanSays n cap limit terms size Setting × (bytes ≡ replicate size 0)
-  PlanMeans Length bytes = PlanSays n cap limit terms size Length × (bytes ≡ replicate size 0)
-  PlanMeans (Term p) bytes = PlanSays n cap limit terms size (Term p) × (bytes ≡ replicate size 0)
-  PlanMeans (Twice p) bytes = PlanSays n cap limit terms size (Twice p) × (bytes ≡ replicate size 0)
+  PlanMeans (Done o c k) bytes = Planned panel cap limit terms size o c k bytes
+  PlanMeans (Nothing o k) bytes = Stopped (Lacks (rulesOf panel) (panel .n) (system (records terms)) limit (size / setBytes) cap) o k bytes
+  PlanMeans (Full o k) bytes = Stopped (Fills (rulesOf panel) (panel .n) (system (records terms)) limit (size / setBytes) cap) o k bytes
+  PlanMeans (Spent o k) bytes = Stopped (Spends (rulesOf panel) (panel .n) (system (records terms)) limit (size / setBytes) cap) o k bytes
+  PlanMeans Setting bytes = PlanSays panel cap limit terms size Setting × (bytes ≡ replicate size 0)
+  PlanMeans Length bytes = PlanSays panel cap limit terms size Length × (bytes ≡ replicate size 0)
+  PlanMeans (Term p) bytes = PlanSays panel cap limit terms size (Term p) × (bytes ≡ replicate size 0)
+  PlanMeans (Twice p) bytes = PlanSays panel cap limit terms size (Twice p) × (bytes ≡ replicate size 0)
   PlanMeans BadSet bytes = ⊥
   PlanMeans (NotQuadratic o p) bytes = ⊥
 
 -- wiring: done writes a correct list; every other reply leaves zeros
-module _ (n : ℕ) (terms set : List ℕ) (size : ℕ) where
+module _ (panel : Panel) (terms set : List ℕ) (size : ℕ) where
   abbrev pub WireMeans : Reply → List ℕ → Type 0
-  WireMeans (Done o c k) bytes = WireSays n terms set size (Done o c k) × Patch n terms set c bytes
-  WireMeans (Full o k) bytes = WireSays n terms set size (Full o k) × (bytes ≡ replicate size 0)
-  WireMeans Setting bytes = WireSays n terms set size Setting × (bytes ≡ replicate size 0)
-  WireMeans Length bytes = WireSays n terms set size Length × (bytes ≡ replicate size 0)
-  WireMeans (Term p) bytes = WireSays n terms set size (Term p) × (bytes ≡ replicate size 0)
-  WireMeans (Twice p) bytes = WireSays n terms set size (Twice p) × (bytes ≡ replicate size 0)
-  WireMeans BadSet bytes = WireSays n terms set size BadSet × (bytes ≡ replicate size 0)
-  WireMeans (NotQuadratic o p) bytes = WireSays n terms set size (NotQuadratic o p) × (bytes ≡ replicate size 0)
+  WireMeans (Done o c k) bytes = WireSays panel terms set size (Done o c k) × Patch panel terms set c bytes
+  WireMeans (Full o k) bytes = WireSays panel terms set size (Full o k) × (bytes ≡ replicate size 0)
+  WireMeans Setting bytes = WireSays panel terms set size Setting × (bytes ≡ replicate size 0)
+  WireMeans Length bytes = WireSays panel terms set size Length × (bytes ≡ replicate size 0)
+  WireMeans (Term p) bytes = WireSays panel terms set size (Term p) × (bytes ≡ replicate size 0)
+  WireMeans (Twice p) bytes = WireSays panel terms set size (Twice p) × (bytes ≡ replicate size 0)
+  WireMeans BadSet bytes = WireSays panel terms set size BadSet × (bytes ≡ replicate size 0)
+  WireMeans (NotQuadratic o p) bytes = WireSays panel terms set size (NotQuadratic o p) × (bytes ≡ replicate size 0)
   WireMeans (Nothing o k) bytes = ⊥
   WireMeans (Spent o k) bytes = ⊥
 
 -- thinning: done lists all smallest quadratic subsets of the given set, and full says that they are more than there is room for
-module _ (n : ℕ) (terms set : List ℕ) (size : ℕ) where
+module _ (panel : Panel) (terms set : List ℕ) (size : ℕ) where
   abbrev pub ThinMeans : Reply → List ℕ → Type 0
-  ThinMeans (Done o c k) bytes = Thinned n terms set size o c k bytes
-  ThinMeans (Full o k) bytes = Overfull n terms set size o k bytes
-  ThinMeans Setting bytes = ThinSays n terms set size Setting × (bytes ≡ replicate size 0)
-  ThinMeans Length bytes = ThinSays n terms set size Length × (bytes ≡ replicate size 0)
-  ThinMeans (Term p) bytes = ThinSays n terms set size (Term p) × (bytes ≡ replicate size 0)
-  ThinMeans (Twice p) bytes = ThinSays n terms set size (Twice p) × (bytes ≡ replicate size 0)
-  ThinMeans BadSet bytes = ThinSays n terms set size BadSet × (bytes ≡ replicate size 0)
-  ThinMeans (NotQuadratic o p) bytes = ThinSays n terms set size (NotQuadratic o p) × (bytes ≡ replicate size 0)
+  ThinMeans (Done o c k) bytes = Thinned panel terms set size o c k bytes
+  ThinMeans (Full o k) bytes = Overfull panel terms set size o k bytes
+  ThinMeans Setting bytes = ThinSays panel terms set size Setting × (bytes ≡ replicate size 0)
+  ThinMeans Length bytes = ThinSays panel terms set size Length × (bytes ≡ replicate size 0)
+  ThinMeans (Term p) bytes = ThinSays panel terms set size (Term p) × (bytes ≡ replicate size 0)
+  ThinMeans (Twice p) bytes = ThinSays panel terms set size (Twice p) × (bytes ≡ replicate size 0)
+  ThinMeans BadSet bytes = ThinSays panel terms set size BadSet × (bytes ≡ replicate size 0)
+  ThinMeans (NotQuadratic o p) bytes = ThinSays panel terms set size (NotQuadratic o p) × (bytes ≡ replicate size 0)
   ThinMeans (Nothing o k) bytes = ⊥
   ThinMeans (Spent o k) bytes = ⊥

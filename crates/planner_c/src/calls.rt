@@ -6,6 +6,7 @@ use wiring::answers;
 use wiring::reply;
 ghost use mathlib.Core.Path.{_≡_};
 ghost use lib.ListN.{length};
+ghost use Rattle.wiring.specs.Sockets.{panelOf};
 ghost use Rattle.wiring.specs.Answers.{wired};
 ghost use Rattle.walk.specs.Plan.{planned};
 ghost use Rattle.thin.specs.Thin.{thinned};
@@ -15,15 +16,16 @@ ghost use Rattle.planner_c.specs.Calls.{answer, given};
 #[no_mangle]
 pub extern "C" fn siragumon_plan(
     n: u64,
+    marks: u64,
     cap: u64,
     limit: u64,
     terms: &[u8],
     out: &mut [u8],
     five: &mut [u64; 5],
 )
-    ensures { λ _. ⌜ answer (now (five .exit)) (now (out .exit)) ≡ given (planned n cap limit (now (terms .entry)) (length (now (out .entry)))) ⌝ }
+    ensures { λ _. ⌜ answer (now (five .exit)) (now (out .exit)) ≡ given (planned (panelOf n marks) cap limit (now (terms .entry)) (length (now (out .entry)))) ⌝ }
 {
-    let r = plan::plan(n, cap, limit, terms, out);
+    let r = plan::plan(n, marks, cap, limit, terms, out);
     *five = reply::numbers(r);
 }
 
@@ -31,14 +33,15 @@ pub extern "C" fn siragumon_plan(
 #[no_mangle]
 pub extern "C" fn siragumon_wire(
     n: u64,
+    marks: u64,
     terms: &[u8],
     set: &[u8],
     out: &mut [u8],
     five: &mut [u64; 5],
 )
-    ensures { λ _. ⌜ answer (now (five .exit)) (now (out .exit)) ≡ given (wired n (now (terms .entry)) (now (set .entry)) (length (now (out .entry)))) ⌝ }
+    ensures { λ _. ⌜ answer (now (five .exit)) (now (out .exit)) ≡ given (wired (panelOf n marks) (now (terms .entry)) (now (set .entry)) (length (now (out .entry)))) ⌝ }
 {
-    let r = answers::wire(n, terms, set, out);
+    let r = answers::wire(n, marks, terms, set, out);
     *five = reply::numbers(r);
 }
 
@@ -46,13 +49,14 @@ pub extern "C" fn siragumon_wire(
 #[no_mangle]
 pub extern "C" fn siragumon_thin(
     n: u64,
+    marks: u64,
     terms: &[u8],
     set: &[u8],
     out: &mut [u8],
     five: &mut [u64; 5],
 )
-    ensures { λ _. ⌜ answer (now (five .exit)) (now (out .exit)) ≡ given (thinned n (now (terms .entry)) (now (set .entry)) (length (now (out .entry)))) ⌝ }
+    ensures { λ _. ⌜ answer (now (five .exit)) (now (out .exit)) ≡ given (thinned (panelOf n marks) (now (terms .entry)) (now (set .entry)) (length (now (out .entry)))) ⌝ }
 {
-    let r = thinning::thin(n, terms, set, out);
+    let r = thinning::thin(n, marks, terms, set, out);
     *five = reply::numbers(r);
 }

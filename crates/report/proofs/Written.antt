@@ -12,6 +12,7 @@ use Rattle.monomial.proofs.Tests.{Tested, passed, failed, test}
 use Rattle.monomial.proofs.Counting.{below-out}
 use Rattle.monomial.proofs.Members.{map-same}
 use Rattle.lines.specs.Text.{Stands}
+use Rattle.wiring.specs.declared.panel.Panel.{Panel}
 use Rattle.report.specs.declared.prepare.Settings.{Settings}
 use Rattle.report.specs.declared.prepare.Prepared.{Prepared}
 use Rattle.report.specs.Prepare.{Results, resultsIn, Prepares, PreparesThin, PreparesWire}
@@ -49,11 +50,11 @@ module _ {p : Prepared} {sets after wires : List ℕ} (ends : ℕ → ℕ) (befo
       → map (λ k. take (ends k) (line k)) (below stop) ≡ report s terms
   report-written s terms a = lines-written (resultsIn p after wires) ends before line stop told some none ∙ prepared-lines s terms a
 
-  pub thin-report-written : (n which : ℕ) (terms set : List ℕ) → PreparesThin n which terms set p sets after wires
-      → map (λ k. take (ends k) (line k)) (below stop) ≡ thinReport n which terms set (length sets)
-  thin-report-written n which terms set a =
-      lines-written (resultsIn p after wires) ends before line stop told some none ∙ thin-prepared-lines n which terms set a
+  pub thin-report-written : (panel : Panel) (which : ℕ) (terms set : List ℕ) → PreparesThin panel which terms set p sets after wires
+      → map (λ k. take (ends k) (line k)) (below stop) ≡ thinReport panel which terms set (length sets)
+  thin-report-written panel which terms set a =
+      lines-written (resultsIn p after wires) ends before line stop told some none ∙ thin-prepared-lines panel which terms set a
 
-  pub wire-report-written : (n : ℕ) (terms set : List ℕ) → PreparesWire n terms set p sets after wires
-      → map (λ k. take (ends k) (line k)) (below stop) ≡ wireReport n terms set
-  wire-report-written n terms set a = lines-written (resultsIn p after wires) ends before line stop told some none ∙ wire-prepared-lines n terms set a
+  pub wire-report-written : (panel : Panel) (terms set : List ℕ) → PreparesWire panel terms set p sets after wires
+      → map (λ k. take (ends k) (line k)) (below stop) ≡ wireReport panel terms set
+  wire-report-written panel terms set a = lines-written (resultsIn p after wires) ends before line stop told some none ∙ wire-prepared-lines panel terms set a

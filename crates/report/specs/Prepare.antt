@@ -6,6 +6,8 @@ use Prim.Native.Nat.{ℕ, _*_, _-_, _/_, min}
 use lib.Dec.{leb}
 use lib.ListN.{length, take, drop, replicate}
 use Rattle.wiring.specs.Panel.{setBytes, wiresBytes}
+use Rattle.wiring.specs.Sockets.{panelOf}
+use Rattle.wiring.specs.declared.panel.Panel.{Panel}
 use Rattle.wiring.specs.Reply.{Outcome, outcome}
 use Rattle.wiring.specs.Answers.{wired}
 use Rattle.walk.specs.Plan.{planned}
@@ -30,9 +32,9 @@ abbrev pub slot : ℕ → List ℕ → ℕ → List ℕ
 slot size bytes i = take size (drop (size * i) bytes)
 
 -- the wiring of set number `which`, from 1, of so many sets in a buffer; nothing where there is no such set
-unfoldable pub wiringOf : ℕ → List ℕ → ℕ → ℕ → List ℕ → Counted
-wiringOf n terms which count sets =
-    let w = wired n terms (slot setBytes sets (which - 1)) wiresBytes in
+unfoldable pub wiringOf : Panel → List ℕ → ℕ → ℕ → List ℕ → Counted
+wiringOf panel terms which count sets =
+    let w = wired panel terms (slot setBytes sets (which - 1)) wiresBytes in
     cond (leb 1 which && leb which count) (countedOf w) (counted 0 (replicate wiresBytes 0))
 
 -- the outcome of an operation, with the sets that it lists, and the wiring of one set
@@ -40,20 +42,24 @@ pub record Results : Type 0 where
   pub listed : Outcome
   pub wiring : Counted
 
-unfoldable pub resultsOf : ℕ → List ℕ → ℕ → Outcome → Results
-resultsOf n terms which o = record { listed = o; wiring = wiringOf n terms which (o .said .count) (o .bytes) }
+unfoldable pub resultsOf : Panel → List ℕ → ℕ → Outcome → Results
+resultsOf panel terms which o = record { listed = o; wiring = wiringOf panel terms which (o .said .count) (o .bytes) }
+
+-- the panel of settings
+abbrev pub panelIn : Settings → Panel
+panelIn s = panelOf (s .n) (s .marks)
 
 -- of planning; and of thinning into a buffer of so many bytes
 unfoldable pub results : Settings → List ℕ → Results
-results s terms = resultsOf (s .n) terms (s .which) (planned (s .n) (s .cap) (s .limit) terms (setBytes * s .room))
+results s terms = resultsOf (panelIn s) terms (s .which) (planned (panelIn s) (s .cap) (s .limit) terms (setBytes * s .room))
 
-unfoldable pub thinResults : ℕ → ℕ → List ℕ → List ℕ → ℕ → Results
-thinResults n which terms set size = resultsOf n terms which (thinned n terms set size)
+unfoldable pub thinResults : Panel → ℕ → List ℕ → List ℕ → ℕ → Results
+thinResults panel which terms set size = resultsOf panel terms which (thinned panel terms set size)
 
 -- of wiring the given set: no sets are listed, since the owner has it
-unfoldable pub wireResults : ℕ → List ℕ → List ℕ → Results
-wireResults n terms set =
-    let w = wired n terms set wiresBytes in
+unfoldable pub wireResults : Panel → List ℕ → List ℕ → Results
+wireResults panel terms set =
+    let w = wired panel terms set wiresBytes in
     record { listed = record { said = w .said; bytes = [] }; wiring = countedOf w }
 
 -- ---- as the code has them: the results in two buffers, of which the first was lent for the sets, as far as is said
@@ -62,7 +68,7 @@ resultsIn p sets wires = record { listed = outcome (p .reply) (take (p .lent) se
 
 -- the settings, with no more room than a buffer of so many bytes has
 abbrev pub fitted : Settings → ℕ → Settings
-fitted s size = record { n = s .n; cap = s .cap; limit = s .limit; room = min (s .room) (size / setBytes); which = s .which }
+fitted s size = record { n = s .n; marks = s .marks; cap = s .cap; limit = s .limit; room = min (s .room) (size / setBytes); which = s .which }
 
 -- results are left, of which the sets were lent so many bytes; what was not lent is as it was
 pub record Leaves (size : ℕ) (r : Results) (p : Prepared) (sets after wires : List ℕ) : Type 0 where
@@ -75,8 +81,8 @@ pub record Leaves (size : ℕ) (r : Results) (p : Prepared) (sets after wires : 
 abbrev pub Prepares : Settings → List ℕ → Prepared → List ℕ → List ℕ → List ℕ → Type 0
 Prepares s terms = Leaves (setBytes * s .room) (results s terms)
 
-abbrev pub PreparesThin : ℕ → ℕ → List ℕ → List ℕ → Prepared → List ℕ → List ℕ → List ℕ → Type 0
-PreparesThin n which terms set p sets = Leaves (length sets) (thinResults n which terms set (length sets)) p sets
+abbrev pub PreparesThin : Panel → ℕ → List ℕ → List ℕ → Prepared → List ℕ → List ℕ → List ℕ → Type 0
+PreparesThin panel which terms set p sets = Leaves (length sets) (thinResults panel which terms set (length sets)) p sets
 
-abbrev pub PreparesWire : ℕ → List ℕ → List ℕ → Prepared → List ℕ → List ℕ → List ℕ → Type 0
-PreparesWire n terms set = Leaves 0 (wireResults n terms set)
+abbrev pub PreparesWire : Panel → List ℕ → List ℕ → Prepared → List ℕ → List ℕ → List ℕ → Type 0
+PreparesWire panel terms set = Leaves 0 (wireResults panel terms set)

@@ -7,6 +7,7 @@ use lib.Dec.{eqb}
 use lib.ListN.{length, getD}
 use Rattle.monomial.specs.Lists.{below}
 use Rattle.wiring.specs.Panel.{setBytes, wireBytes}
+use Rattle.wiring.specs.declared.panel.Panel.{Panel}
 use Rattle.wiring.specs.Reply.{Outcome, inOrder}
 use Rattle.lines.specs.Answer.{replyLine, setLine, wireLine}
 use Rattle.report.specs.Prepare.{Counted, slot, Results, results, thinResults, wireResults}
@@ -31,11 +32,11 @@ linesOf r = replyLine (inOrder (r .listed .said)) ∷ cond (eqb (r .listed .said
 unfoldable pub report : Settings → List ℕ → List (List ℕ)
 report s terms = linesOf (results s terms)
 
-unfoldable pub thinReport : ℕ → ℕ → List ℕ → List ℕ → ℕ → List (List ℕ)
-thinReport n which terms set size = linesOf (thinResults n which terms set size)
+unfoldable pub thinReport : Panel → ℕ → List ℕ → List ℕ → ℕ → List (List ℕ)
+thinReport panel which terms set size = linesOf (thinResults panel which terms set size)
 
-unfoldable pub wireReport : ℕ → List ℕ → List ℕ → List (List ℕ)
-wireReport n terms set = linesOf (wireResults n terms set)
+unfoldable pub wireReport : Panel → List ℕ → List ℕ → List (List ℕ)
+wireReport panel terms set = linesOf (wireResults panel terms set)
 
 -- line number k, from 0; nothing behind the last
 abbrev pub lineAt : List (List ℕ) → ℕ → List ℕ

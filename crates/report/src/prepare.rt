@@ -12,11 +12,13 @@ ghost use mathlib.Core.List.{List};
 ghost use Prim.Native.Nat.{ℕ, _*_, _≤_, min};
 ghost use lib.ListN.{length};
 ghost use Rattle.wiring.specs.Panel.{setBytes};
+ghost use Rattle.wiring.specs.Sockets.{panelOf};
 ghost use Rattle.report.specs.Prepare.{counted, wiringOf, fitted, Prepares, PreparesThin, PreparesWire};
 
 // What planning is asked for. Room is in sets. The set that is wired goes by its number, from 1.
 pub struct Settings {
     pub n: u64,
+    pub marks: u64,
     pub cap: u64,
     pub limit: u64,
     pub room: usize,
@@ -39,6 +41,7 @@ pub fn least(a: usize, b: usize) -> usize
 // Wires set number `which` of so many, from 1, and gives the number of records: zeros where there is no such set.
 fn wire_set(
     n: u64,
+    marks: u64,
     terms: &[u8],
     which: u64,
     count: u64,
@@ -46,7 +49,7 @@ fn wire_set(
     out: &mut [u8; WIRES_BYTES],
 ) -> u64
     requires { ⌜ setBytes * count ≤ length (now sets) ⌝ }
-    ensures { λ r. ⌜ counted r (now (out .exit)) ≡ wiringOf n (now (terms .entry)) which count (now (sets .entry)) ⌝ }
+    ensures { λ r. ⌜ counted r (now (out .exit)) ≡ wiringOf (panelOf n marks) (now (terms .entry)) which count (now (sets .entry)) ⌝ }
 {
     buffer::clear(out);
     if which < 1 {
@@ -57,7 +60,7 @@ fn wire_set(
     }
     let at = SET_BYTES * (which as usize - 1);
     let end = at + SET_BYTES;
-    let said = answers::wire(n, terms, &sets[at..end], out);
+    let said = answers::wire(n, marks, terms, &sets[at..end], out);
     let five = reply::numbers(said);
     five[2]
 }
@@ -70,36 +73,43 @@ pub fn prepare(s: Settings, terms: &[u8], sets: &mut [u8], out: &mut [u8; WIRES_
 {
     let room = least(s.room, sets.len() / SET_BYTES);
     let lent = SET_BYTES * room;
-    let reply = plan::plan(s.n, s.cap, s.limit, terms, &mut sets[..lent]);
+    let reply = plan::plan(s.n, s.marks, s.cap, s.limit, terms, &mut sets[..lent]);
     let five = reply::numbers(reply);
-    let wires = wire_set(s.n, terms, s.which, five[2], &sets[..lent], out);
+    let wires = wire_set(s.n, s.marks, terms, s.which, five[2], &sets[..lent], out);
     Prepared { reply, lent, wires }
 }
 
 // Thins the given set into all of `sets`; and wires one of the subsets that are listed.
 pub fn prepare_thin(
     n: u64,
+    marks: u64,
     which: u64,
     terms: &[u8],
     set: &[u8],
     sets: &mut [u8],
     out: &mut [u8; WIRES_BYTES],
 ) -> Prepared
-    ensures { λ r. ⌜ PreparesThin n which (now (terms .entry)) (now (set .entry)) r
+    ensures { λ r. ⌜ PreparesThin (panelOf n marks) which (now (terms .entry)) (now (set .entry)) r
         (now (sets .entry)) (now (sets .exit)) (now (out .exit)) ⌝ }
 {
     let lent = sets.len();
-    let reply = thinning::thin(n, terms, set, sets);
+    let reply = thinning::thin(n, marks, terms, set, sets);
     let five = reply::numbers(reply);
-    let wires = wire_set(n, terms, which, five[2], sets, out);
+    let wires = wire_set(n, marks, terms, which, five[2], sets, out);
     Prepared { reply, lent, wires }
 }
 
 // Wires the given set, which its owner has: no sets are listed, and no buffer is lent for any.
-pub fn prepare_wire(n: u64, terms: &[u8], set: &[u8], out: &mut [u8; WIRES_BYTES]) -> Prepared
-    ensures { λ r. ⌜ ((sets : List ℕ) → PreparesWire n (now (terms .entry)) (now (set .entry)) r sets sets (now (out .exit))) ⌝ }
+pub fn prepare_wire(
+    n: u64,
+    marks: u64,
+    terms: &[u8],
+    set: &[u8],
+    out: &mut [u8; WIRES_BYTES],
+) -> Prepared
+    ensures { λ r. ⌜ ((sets : List ℕ) → PreparesWire (panelOf n marks) (now (terms .entry)) (now (set .entry)) r sets sets (now (out .exit))) ⌝ }
 {
-    let reply = answers::wire(n, terms, set, out);
+    let reply = answers::wire(n, marks, terms, set, out);
     let five = reply::numbers(reply);
     let wires = five[2];
     Prepared {

@@ -26,6 +26,7 @@ pub fn prepare_program(
 {
     let s = Settings {
         n: WIDTH as u64,
+        marks: 0,
         cap: CARDS as u64,
         limit: LIMIT,
         room: ROOM,

@@ -1,5 +1,5 @@
 -- Thinning computed by the definitions from the bytes of the records, beside replies and buffers that were worked outside the project: subsets of
--- every kind, both sides of the room, and each refusal. One table, one claim. Assumes nothing.
+-- every kind, both sides of the room, each refusal, and signals. One table, one claim. Assumes nothing.
 use mathlib.Core.Path.{_≡_, refl, sym, ap, _∙_}
 use mathlib.Core.List.{List, [], _∷_, _++_, map}
 use Prim.Native.Nat.{ℕ, _*_, _-_}
@@ -7,6 +7,8 @@ use native.Mathlib.Omega.{arith}
 use lib.ListN.{length, replicate}
 use Rattle.monomial.specs.Lists.{any, some, all, keep, place, gather, below, pairwise, pointwise, dictionary, insertBy, arrangeBy}
 use Rattle.monomial.specs.Monomial.{vars}
+use Rattle.wiring.specs.Sockets.{panelOf, halved, marked, countRight, panelRight, free, mayBe}
+use Rattle.wiring.specs.declared.panel.Panel.{Panel}
 use Rattle.wiring.specs.Reply.{Numbers, five, Outcome}
 use Rattle.wiring.specs.Coefficient.{signed, isZero}
 use Rattle.wiring.specs.Poly.{coeff, times, support}
@@ -15,7 +17,7 @@ use Rattle.wiring.specs.Quadratic.{factor, inV2, unmet, nonsquares}
 use Rattle.wiring.specs.Signals.{signals}
 use Rattle.wiring.specs.Terms.{records, lengthRight, exponentsRight, coefficientRight, termRight, faultFrom, equation, system}
 use Rattle.wiring.specs.Sets.{places, sizeOf, setOf, ascending, monomialRight, setRight, setRecord}
-use Rattle.wiring.specs.Answers.{countRight, firstUnmet, judged, recordJudged, verdict}
+use Rattle.wiring.specs.Answers.{firstUnmet, judged, recordJudged, verdict}
 use Rattle.walk.specs.Plan.{setsBytes, said}
 use Rattle.walk.proofs.Worked.{padded, plus, set}
 use Rattle.thin.specs.Subsets.{subsets}
@@ -26,11 +28,15 @@ record Row : Type 0 where
   want : Outcome
 
 -- the bytes of a set, the five numbers, the subsets, and zeros to the end of the buffer
-row : ℕ → List ℕ → List ℕ → ℕ → Numbers → List (List (List ℕ)) → Row
-row n terms given size said sets = record {
-  got = thinned n terms given size;
-  want = record { said = said; bytes = gather set sets ++ replicate (size - 36 * length sets) 0 };
+fed : ℕ → ℕ → List ℕ → List ℕ → ℕ → Numbers → List (List (List ℕ)) → Row
+fed n marks terms given size numbers sets = record {
+  got = thinned (panelOf n marks) terms given size;
+  want = record { said = numbers; bytes = gather set sets ++ replicate (size - 36 * length sets) 0 };
 }
+
+-- with no marks
+row : ℕ → List ℕ → List ℕ → ℕ → Numbers → List (List (List ℕ)) → Row
+row n = fed n 0
 
 -- x' = x^4 + x^3
 unfoldable pub quartic : List ℕ
@@ -84,31 +90,36 @@ table =
     ∷ row 1 (plus 1 (2 ∷ []) ++ plus 1 (10 ∷ [])) (set ((1 ∷ []) ∷ [])) 36 (five 3 0 0 0 2) []
     ∷ row 1 (plus 1 (2 ∷ []) ++ plus 1 (2 ∷ [])) (set ((1 ∷ []) ∷ [])) 36 (five 4 0 0 0 2) []
     ∷ row 1 (plus 1 (2 ∷ [])) (set ((1 ∷ []) ∷ [])) 36 (five 8 0 0 0 0) []
+    -- x1' = x1^3 + u x1 with {x1^2, x1^3}, u a signal; with a signal in the set; a mark at n; an equation of the signal
+    ∷ fed 2 2 (plus 1 (3 ∷ []) ++ plus 1 (1 ∷ 1 ∷ [])) (set ((2 ∷ []) ∷ (3 ∷ []) ∷ [])) 36 (five 0 1 1 4 0) (((2 ∷ []) ∷ []) ∷ [])
+    ∷ fed 2 2 (plus 1 (3 ∷ []) ++ plus 1 (1 ∷ 1 ∷ [])) (set ((1 ∷ 1 ∷ []) ∷ (2 ∷ []) ∷ [])) 36 (five 8 0 0 0 0) []
+    ∷ fed 2 4 (plus 1 (3 ∷ [])) (set ((2 ∷ []) ∷ [])) 36 (five 1 0 0 0 0) []
+    ∷ fed 2 2 (plus 1 (3 ∷ []) ++ plus 2 (1 ∷ [])) (set ((2 ∷ []) ∷ [])) 36 (five 3 0 0 0 2) []
     ∷ []
 
 -- replies and buffers are as written
 worked : map (λ r. r .got) table ≡ map (λ r. r .want) table
-unfolding table row quartic powers feeding plus set padded thinned thinnedBy thinning thinnest least leastSize quadraticOnes subsets said setsBytes setRecord
-    verdict recordJudged judged firstUnmet countRight records lengthRight exponentsRight coefficientRight termRight faultFrom equation system places
+unfolding table fed row quartic powers feeding plus set padded thinned thinnedBy thinning thinnest least leastSize quadraticOnes subsets said setsBytes setRecord
+    verdict recordJudged judged firstUnmet halved marked countRight panelRight free mayBe records lengthRight exponentsRight coefficientRight termRight faultFrom equation system places
     sizeOf setOf ascending monomialRight setRight signals factor inV2 unmet nonsquares partsFrom derivative coeff times support signed isZero vars any
     some all keep place gather below pairwise pointwise dictionary insertBy arrangeBy
 worked = refl
 
 -- one reply does not do for all: x^4 + x^3 with {x^2, x^3, x^4} has room for its subsets or not
 pub record TwoRooms : Type 0 where
-  pub enough : thinned 1 quartic powers 72 .said ≡ five 0 2 2 8 0
-  pub short : thinned 1 quartic powers 71 .said ≡ five 6 2 0 8 0
+  pub enough : thinned (panelOf 1 0) quartic powers 72 .said ≡ five 0 2 2 8 0
+  pub short : thinned (panelOf 1 0) quartic powers 71 .said ≡ five 6 2 0 8 0
 
 pub two-rooms : TwoRooms
 unfolding quartic powers plus set padded thinned thinnedBy thinning thinnest least leastSize quadraticOnes subsets said setsBytes setRecord verdict recordJudged
-    judged firstUnmet countRight records lengthRight exponentsRight coefficientRight termRight faultFrom equation system places sizeOf setOf ascending
+    judged firstUnmet halved marked countRight panelRight free mayBe records lengthRight exponentsRight coefficientRight termRight faultFrom equation system places sizeOf setOf ascending
     monomialRight setRight signals factor inV2 unmet nonsquares partsFrom derivative coeff times support signed isZero vars any some all keep place
     gather below pairwise pointwise dictionary insertBy arrangeBy
 two-rooms = record { enough = refl; short = refl }
 
-pub thin-not-constant : (x : Numbers) → ((n : ℕ) (terms given : List ℕ) (size : ℕ) → x ≡ thinned n terms given size .said) → ⊥
+pub thin-not-constant : (x : Numbers) → ((panel : Panel) (terms given : List ℕ) (size : ℕ) → x ≡ thinned panel terms given size .said) → ⊥
 thin-not-constant x h =
-    let done : x ≡ five 0 2 2 8 0 = h 1 quartic powers 72 ∙ two-rooms .enough in
-    let full : x ≡ five 6 2 0 8 0 = h 1 quartic powers 71 ∙ two-rooms .short in
+    let done : x ≡ five 0 2 2 8 0 = h (panelOf 1 0) quartic powers 72 ∙ two-rooms .enough in
+    let full : x ≡ five 6 2 0 8 0 = h (panelOf 1 0) quartic powers 71 ∙ two-rooms .short in
     let codes : _≡_ {A = ℕ} 0 6 = ap (λ (y : Numbers). y .code) (sym done ∙ full) in
     omega arith

@@ -11,9 +11,11 @@ use Rattle.monomial.specs.Order.{same, before, beforeSet}
 use Rattle.monomial.specs.Claims.{_∈_, _⊆_, Ascending}
 use Rattle.wiring.specs.Panel.{setBytes}
 use Rattle.wiring.specs.Reply.{numbers}
+use Rattle.wiring.specs.Poly.{Poly}
 use Rattle.wiring.specs.Terms.{records, system}
 use Rattle.wiring.specs.Sets.{setOf}
-use Rattle.wiring.specs.Claims.{Recordable, VerdictSays, QuadraticIn}
+use Rattle.wiring.specs.Claims.{Recordable, derivativeIn, VerdictSays, QuadraticIn}
+use Rattle.wiring.specs.declared.panel.Panel.{Panel}
 use Rattle.wiring.specs.declared.reply.Reply.{Reply}
 use Rattle.wiring.specs.declared.reply.Reply.the-variants.{Done, Setting, Length, Term, Twice, Nothing, Full, Spent, BadSet, NotQuadratic}
 use Rattle.walk.specs.Walk.{Finds}
@@ -21,67 +23,67 @@ use Rattle.walk.specs.Plan.{setsBytes}
 use Rattle.walk.specs.Claims.{QuadraticList, Laid}
 use Rattle.thin.specs.Thin.{least, thinnest}
 
--- ---- the smallest quadratic subsets of s
-module _ (n : ℕ) (terms : List ℕ) (s : List Mono) (order : ℕ) where
+-- ---- the smallest quadratic subsets of s, by a derivation of monomials
+module _ (n : ℕ) (d : Mono → Poly Mono) (s : List Mono) (order : ℕ) where
   -- one of them: its signals are signals of s, and it can stand in a set record of n variables
   pub record ThinSet (t : List Mono) : Type 0 where
     pub part : t ⊆ s
     pub recordable : Recordable n t
-    pub quadratic : QuadraticList n (system (records terms)) t
+    pub quadratic : QuadraticList n d t
     pub size : length t ≡ order
 
   -- of all lists of signals of s, in any order and with repeats, the empty one among them: no quadratic one has fewer members
   abbrev pub NoneThinner : Type 0
-  NoneThinner = (t : List Mono) → t ⊆ s → QuadraticList n (system (records terms)) t → order ≤ length t
+  NoneThinner = (t : List Mono) → t ⊆ s → QuadraticList n d t → order ≤ length t
 
   -- all of them
   pub record Thinnest (l : Finds) : Type 0 where
     pub none-thinner : NoneThinner
     -- every quadratic list of that many signals of s, put in order, is listed
-    pub all : (t : List Mono) → t ⊆ s → QuadraticList n (system (records terms)) t → length t ≡ order → arrangeBy same before t ∈ l
+    pub all : (t : List Mono) → t ⊆ s → QuadraticList n d t → length t ≡ order → arrangeBy same before t ∈ l
     pub each : (t : List Mono) → t ∈ l → ThinSet t
     pub ascending : Ascending beforeSet l
     pub some : l ≡ [] → ⊥
 
 -- ---- of a set record
-abbrev pub leastIn : ℕ → List ℕ → List ℕ → ℕ
-leastIn n terms set = least n (system (records terms)) (setOf set)
+abbrev pub leastIn : Panel → List ℕ → List ℕ → ℕ
+leastIn panel terms set = least (panel .n) (system (records terms)) (setOf set)
 
-abbrev pub thinnestIn : ℕ → List ℕ → List ℕ → Finds
-thinnestIn n terms set = thinnest n (system (records terms)) (setOf set)
+abbrev pub thinnestIn : Panel → List ℕ → List ℕ → Finds
+thinnestIn panel terms set = thinnest (panel .n) (system (records terms)) (setOf set)
 
 -- what each reply of thinning says: a verdict that refuses, or whether the list has room in a buffer of this size
-abbrev pub ThinSays : ℕ → List ℕ → List ℕ → ℕ → Reply → Type 0
-ThinSays n terms set size (Done o c k) =
-    QuadraticIn n terms set × (o ≡ leastIn n terms set) × (c ≡ length (thinnestIn n terms set)) × (k ≡ 2 ^ length (setOf set)) × (c ≤ size / setBytes)
-ThinSays n terms set size (Full o k) =
-    QuadraticIn n terms set × (o ≡ leastIn n terms set) × (k ≡ 2 ^ length (setOf set)) × (size / setBytes < length (thinnestIn n terms set))
-ThinSays n terms set size Setting = VerdictSays n terms set Setting
-ThinSays n terms set size Length = VerdictSays n terms set Length
-ThinSays n terms set size (Term p) = VerdictSays n terms set (Term p)
-ThinSays n terms set size (Twice p) = VerdictSays n terms set (Twice p)
-ThinSays n terms set size BadSet = VerdictSays n terms set BadSet
-ThinSays n terms set size (NotQuadratic o p) = VerdictSays n terms set (NotQuadratic o p)
-ThinSays n terms set size (Nothing o k) = ⊥
-ThinSays n terms set size (Spent o k) = ⊥
+abbrev pub ThinSays : Panel → List ℕ → List ℕ → ℕ → Reply → Type 0
+ThinSays panel terms set size (Done o c k) =
+    QuadraticIn panel terms set × (o ≡ leastIn panel terms set) × (c ≡ length (thinnestIn panel terms set)) × (k ≡ 2 ^ length (setOf set)) × (c ≤ size / setBytes)
+ThinSays panel terms set size (Full o k) =
+    QuadraticIn panel terms set × (o ≡ leastIn panel terms set) × (k ≡ 2 ^ length (setOf set)) × (size / setBytes < length (thinnestIn panel terms set))
+ThinSays panel terms set size Setting = VerdictSays panel terms set Setting
+ThinSays panel terms set size Length = VerdictSays panel terms set Length
+ThinSays panel terms set size (Term p) = VerdictSays panel terms set (Term p)
+ThinSays panel terms set size (Twice p) = VerdictSays panel terms set (Twice p)
+ThinSays panel terms set size BadSet = VerdictSays panel terms set BadSet
+ThinSays panel terms set size (NotQuadratic o p) = VerdictSays panel terms set (NotQuadratic o p)
+ThinSays panel terms set size (Nothing o k) = ⊥
+ThinSays panel terms set size (Spent o k) = ⊥
 
 -- and what it leaves in the buffer: the subsets and then zeros; or only zeros
-abbrev pub thinLeaves : ℕ → List ℕ → List ℕ → ℕ → Reply → List ℕ
-thinLeaves n terms set size r =
-    let sets = thinnestIn n terms set in
+abbrev pub thinLeaves : Panel → List ℕ → List ℕ → ℕ → Reply → List ℕ
+thinLeaves panel terms set size r =
+    let sets = thinnestIn panel terms set in
     cond (eqb (numbers r .code) 0) (setsBytes sets ++ replicate (size - setBytes * length sets) 0) (replicate size 0)
 
 -- what done says, and its bytes
-pub record Thinned (n : ℕ) (terms set : List ℕ) (size order count steps : ℕ) (bytes : List ℕ) : Type 0 where
-  pub given : QuadraticIn n terms set
-  pub smallest : Thinnest n terms (setOf set) order (thinnestIn n terms set)
+pub record Thinned (panel : Panel) (terms set : List ℕ) (size order count steps : ℕ) (bytes : List ℕ) : Type 0 where
+  pub given : QuadraticIn panel terms set
+  pub smallest : Thinnest (panel .n) (derivativeIn panel terms) (setOf set) order (thinnestIn panel terms set)
   pub judged : steps ≡ 2 ^ length (setOf set)
-  pub laid : Laid (thinnestIn n terms set) count size bytes
+  pub laid : Laid (thinnestIn panel terms set) count size bytes
 
 -- what full says: the subsets of that size are more than there is room for
-pub record Overfull (n : ℕ) (terms set : List ℕ) (size order steps : ℕ) (bytes : List ℕ) : Type 0 where
-  pub given : QuadraticIn n terms set
-  pub smallest : Thinnest n terms (setOf set) order (thinnestIn n terms set)
+pub record Overfull (panel : Panel) (terms set : List ℕ) (size order steps : ℕ) (bytes : List ℕ) : Type 0 where
+  pub given : QuadraticIn panel terms set
+  pub smallest : Thinnest (panel .n) (derivativeIn panel terms) (setOf set) order (thinnestIn panel terms set)
   pub judged : steps ≡ 2 ^ length (setOf set)
-  pub over : size / setBytes < length (thinnestIn n terms set)
+  pub over : size / setBytes < length (thinnestIn panel terms set)
   pub zeros : bytes ≡ replicate size 0

@@ -12,6 +12,7 @@ use Rattle.wiring.specs.Poly.{Poly}
 use Rattle.wiring.specs.Terms.{records, system}
 use Rattle.wiring.specs.Sets.{setOf}
 use Rattle.wiring.specs.Answers.{verdict}
+use Rattle.wiring.specs.declared.panel.Panel.{Panel}
 use Rattle.wiring.specs.declared.reply.Reply.{Reply}
 use Rattle.walk.specs.Walk.{Finds}
 use Rattle.walk.specs.Plan.{Ending, done, fullAt, said}
@@ -46,5 +47,5 @@ unfoldable pub thinnedBy : Reply → Ending → ℕ → Outcome
 thinnedBy judges ends size = cond (eqb (numbers judges .code) 0) (said ends size) (refused judges size)
 
 -- thinning: the verdict of wiring on what was given, with the subsets of the set
-unfoldable pub thinned : ℕ → List ℕ → List ℕ → ℕ → Outcome
-thinned n terms set size = thinnedBy (verdict n terms set) (thinning n (system (records terms)) (setOf set) (size / setBytes)) size
+unfoldable pub thinned : Panel → List ℕ → List ℕ → ℕ → Outcome
+thinned panel terms set size = thinnedBy (verdict panel terms set) (thinning (panel .n) (system (records terms)) (setOf set) (size / setBytes)) size

@@ -1,4 +1,4 @@
-// Thinning: the operation on n, term records and a set record. It assumes nothing of its input.
+// Thinning: the operation on n, marks, term records and a set record. It assumes nothing of its input.
 use super::subsets;
 use super::subsets::Best;
 use wiring::answers;
@@ -10,6 +10,7 @@ ghost use mathlib.Core.Path.{_≡_};
 ghost use Prim.Native.Nat.{_/_};
 ghost use lib.ListN.{length, replicate};
 ghost use Rattle.wiring.specs.Panel.{setBytes};
+ghost use Rattle.wiring.specs.Sockets.{panelOf};
 ghost use Rattle.wiring.specs.Reply.{outcome};
 ghost use Rattle.wiring.specs.Terms.{records, system};
 ghost use Rattle.wiring.specs.Sets.{monomialsOf};
@@ -54,11 +55,11 @@ fn thin_judged(n: usize, terms: &[u8], set: Set, out: &mut [u8]) -> Reply
 }
 
 // Thins: every smallest quadratic subset of the set that is given, ascending, then zeros; after a refusal only zeros.
-pub fn thin(n: u64, terms: &[u8], set: &[u8], out: &mut [u8]) -> Reply
-    ensures { λ r. ⌜ outcome r (now (out .exit)) ≡ thinned n (now (terms .entry)) (now (set .entry)) (length (now (out .entry))) ⌝ }
+pub fn thin(n: u64, marks: u64, terms: &[u8], set: &[u8], out: &mut [u8]) -> Reply
+    ensures { λ r. ⌜ outcome r (now (out .exit)) ≡ thinned (panelOf n marks) (now (terms .entry)) (now (set .entry)) (length (now (out .entry))) ⌝ }
 {
     buffer::clear(out);
-    let g = answers::accept(n, terms, set);
+    let g = answers::accept(n, marks, terms, set);
     if !g.good {
         return g.said;
     }

@@ -1,5 +1,6 @@
--- What the laws of the walk ask of its rules, and what the rules say of a child and of a set; document 01's rules keep all of it. Assumes nothing.
-use mathlib.Core.Path.{_≡_, refl, sym, subst}
+-- What the laws of the walk ask of its rules, and what the rules say of a child and of a set; document 01's rules keep all of it, whatever a
+-- new monomial may be. Assumes nothing.
+use mathlib.Core.Path.{_≡_, refl, sym, ap, subst, fun-ext}
 use mathlib.Core.Logic.{_⊎_, inl, inr, ⊎-elim}
 use mathlib.Core.Bool.{Bool, true, false, _&&_, _||_}
 use mathlib.Core.List.{List, List·Memᴰ·not-nil, Memᴰ·cast}
@@ -17,9 +18,13 @@ use Rattle.monomial.proofs.Rearranged.{rearranged-self, rearranged-in, rearrang
 use Rattle.monomial.proofs.order.Laws.{mono-order}
 use Rattle.monomial.proofs.order.Ascending.{among-in, among-out}
 use Rattle.wiring.specs.Poly.{Poly}
+use Rattle.wiring.specs.Sockets.{panelOf, mayBe}
+use Rattle.wiring.specs.declared.panel.Panel.{Panel}
 use Rattle.wiring.specs.Signals.{signals}
+use Rattle.wiring.specs.Claims.{Free}
+use Rattle.wiring.proofs.sockets.Laws.{may-in, may-out, unmarked-may}
 use Rattle.wiring.proofs.signals.Laws.{set-in}
-use Rattle.walk.specs.Walk.{Rules, bare, child, opens, ends}
+use Rattle.walk.specs.Walk.{Rules, allowing, bare, rulesOf, child, opens, ends}
 use Rattle.walk.specs.Claims.{Orderly, Extends, Counts, Sparing}
 use Rattle.walk.proofs.children.Laws.{child-sub, Grown, old, left, right, child-out, Placed, was, now, child-left, child-right}
 
@@ -102,20 +107,36 @@ module _ (r : Rules) (n k : ℕ) (s ns : List Mono) where
       go (passed t) = absurd (is→nT (ends r n k s ns) e (is→T (ends r n k s ns) (at-its-level (leb-true k (length s) t))))
       go (failed t) = leb-false k (length s) t
 
--- ---- document 01's rules
-pub bare-orderly : Orderly bare
-bare-orderly v m = rearranged-self (pairs m)
+-- ---- document 01's rules with a test of its own for new monomials
+module _ (may : Mono → Bool) where
+  pub allowing-orderly : Orderly (allowing may)
+  allowing-orderly v m = rearranged-self (pairs m)
 
-pub bare-opens : (n k : ℕ) (s : List Mono) (p : Mono × Mono) → opens bare n k s p ≡ leb (length (child n s p)) k
-unfolding opens
-bare-opens n k s p = refl
+  pub allowing-goes-on : (n k : ℕ) (s ns : List Mono) → length s < k → ends (allowing may) n k s ns ≡ false
+  allowing-goes-on n k s ns h = goes-on (allowing may) n k s ns h refl
 
-pub bare-goes-on : (n k : ℕ) (s ns : List Mono) → length s < k → ends bare n k s ns ≡ false
-bare-goes-on n k s ns h = goes-on bare n k s ns h refl
+  pub allowing-sparing : (n : ℕ) (fs : List (Poly Mono)) → Sparing (allowing may) n fs
+  allowing-sparing n fs room s t a b w e q h c = subst T (sym c) tt
 
-pub bare-sparing : (n : ℕ) (fs : List (Poly Mono)) → Sparing bare n fs
-bare-sparing n fs room s t a b w e q h c = subst T (sym c) tt
+  -- the lists that count are those whose monomials may be
+  pub allowing-counts : (s : List Mono) → ((m : Mono) → m ∈ s → T (may m)) → Counts (allowing may) s
+  allowing-counts s f = record { holds = λ x h. absurd (List·Memᴰ·not-nil h); may = λ x h. inr (f x h) }
 
--- every list counts
+  pub counts-allowed : (s : List Mono) → Counts (allowing may) s → (m : Mono) → m ∈ s → T (may m)
+  counts-allowed s c m h = ⊎-elim (λ k. absurd (List·Memᴰ·not-nil k)) (λ t. t) (c .may m h)
+
+-- by document 01's own every list counts
 pub bare-extends : (s : List Mono) → Counts bare s
-bare-extends s = record { holds = λ x h. absurd (List·Memᴰ·not-nil h); may = λ x h. inr tt }
+bare-extends s = allowing-counts (λ m. true) s (λ m h. tt)
+
+-- by a panel's those without signals
+module _ (panel : Panel) (s : List Mono) where
+  pub free-counts : Free (panel .marks) s → Counts (rulesOf panel) s
+  free-counts f = allowing-counts (mayBe panel) s (λ m h. may-in panel m (f m h))
+
+  pub counts-free : Counts (rulesOf panel) s → Free (panel .marks) s
+  counts-free c m h = may-out panel m (counts-allowed (mayBe panel) s c m h)
+
+-- with no marks they are document 01's
+pub unmarked-rules : (n : ℕ) → rulesOf (panelOf n 0) ≡ bare
+unmarked-rules n = ap allowing (fun-ext (unmarked-may n))

@@ -1,6 +1,7 @@
 -- What a plan of clean records says of quadratic sets, over Definition 1 itself and by any rules: of the lists of monomials of any powers, in any
 -- order and with repeats, that hold the start and besides only what may be (`Counts`), no quadratic one has fewer members than the level reached;
--- done lists every quadratic set of that size and no other. By document 01's rules every list counts (`bare-extends`). Assumes nothing.
+-- done lists every quadratic set of that size and no other. By document 01's rules every list counts (`bare-extends`),
+-- by a panel's every one without signals (`free-counts`). Assumes nothing.
 use mathlib.Core.Path.{_≡_, refl, sym, subst}
 use mathlib.Core.List.{List, [], _∷_, List·Memᴰ·not-nil}
 use Prim.Native.Nat.{ℕ, zero, suc, _<_, _≤_}
@@ -20,12 +21,12 @@ use Rattle.wiring.specs.Panel.{cards}
 use Rattle.wiring.specs.Poly.{Poly, plain}
 use Rattle.wiring.specs.Derivative.{derivative}
 use Rattle.wiring.specs.Signals.{signals}
-use Rattle.wiring.specs.Terms.{records, fault, system}
+use Rattle.wiring.specs.Sockets.{panelOf}
+use Rattle.wiring.specs.Terms.{records, system, CleanFor}
 use Rattle.wiring.specs.Answers.{missing}
-use Rattle.wiring.specs.declared.terms.Fault.the-variants.{Clean}
 use Rattle.wiring.specs.Claims.{Wide}
-use Rattle.wiring.proofs.quadratic.Definition1.{definition1}
-use Rattle.wiring.proofs.terms.Laws.{clean-widens}
+use Rattle.wiring.proofs.quadratic.Definition1.{definition1, quadratic-same}
+use Rattle.wiring.proofs.terms.Laws.{clean-for}
 use Rattle.walk.specs.Walk.{Finds, Rules, found, level, walked}
 use Rattle.walk.specs.Turns.{Walked}
 use Rattle.walk.specs.Plan.{done, plan}
@@ -37,10 +38,10 @@ use Rattle.walk.proofs.Runs.{distinct-asc, distinct-in, distinct-out}
 use Rattle.walk.proofs.Stops.{done-exact}
 
 module _ (n : ℕ) (fs : List (Poly Mono)) where
-  pub no-gap : (s : List Mono) → QuadraticList n fs s → missing n fs s ≡ []
+  pub no-gap : (s : List Mono) → QuadraticList n (derivative plain fs) s → missing n fs s ≡ []
   no-gap s = definition1 plain mono-order (signals width n s) (derivative plain fs) .0
 
-  pub gapless : (s : List Mono) → missing n fs s ≡ [] → QuadraticList n fs s
+  pub gapless : (s : List Mono) → missing n fs s ≡ [] → QuadraticList n (derivative plain fs) s
   gapless s = definition1 plain mono-order (signals width n s) (derivative plain fs) .1
 
   -- ---- any list of monomials, by its members in order, each once
@@ -53,7 +54,7 @@ module _ (n : ℕ) (fs : List (Poly Mono)) where
   arranged-extends : (r : Rules) (s t : List Mono) → Extends r s t → Extends r s (arranged t)
   arranged-extends r s t e = record { holds = λ x h. arrange-in mono-order t (e .holds x h); may = λ x h. e .may x (arrange-out mono-order t h) }
 
-  pub arranged-quadratic : (s : List Mono) → QuadraticList n fs s → missing n fs (arranged s) ≡ []
+  pub arranged-quadratic : (s : List Mono) → QuadraticList n (derivative plain fs) s → missing n fs (arranged s) ≡ []
   arranged-quadratic s q = same-members n fs s (arranged s) (λ x h. arrange-in mono-order s h) (λ x h. arrange-out mono-order s h) (no-gap s q)
 
 -- ---- rules that try every pair, close no set that is needed, and begin with an ascending set
@@ -84,7 +85,7 @@ module _ (r : Rules) (o : Orderly r) (begins : Ascending before (r .start)) (n :
           let y : s ∈ distinct (level r n fs k) = distinct-in (level r n fs k) s (level-has k s a w x q (omega arith) ih) in
           absurd (List·Memᴰ·not-nil (subst (λ l. s ∈ l) (b k (omega arith)) y))
 
-  pub none-smaller : (j : ℕ) → Barren r n fs j → NoneSmaller r n fs j
+  pub none-smaller : (j : ℕ) → Barren r n fs j → NoneSmaller r n (derivative plain fs) j
   none-smaller j b s w x q =
       let u : List Mono = arranged n fs s in
       let h : j ≤ length u = least j b u (arrange-asc mono-order s) (arranged-wide n fs s w) (arranged-extends n fs r (r .start) s x) (arranged-quadratic n fs s q) in
@@ -92,7 +93,7 @@ module _ (r : Rules) (o : Orderly r) (begins : Ascending before (r .start)) (n :
       omega arith
 
   -- each one of j members is found at level j
-  pub all-found : (j : ℕ) → Barren r n fs j → (s : List Mono) → Wide s → Counts r s → QuadraticList n fs s → length s ≡ j
+  pub all-found : (j : ℕ) → Barren r n fs j → (s : List Mono) → Wide s → Counts r s → QuadraticList n (derivative plain fs) s → length s ≡ j
       → arrangeBy same before s ∈ distinct (level r n fs j)
   all-found j b s w x q e =
       let u : List Mono = arranged n fs s in
@@ -114,41 +115,41 @@ arranged-self s a =
     sub-equal mono-order (arrangeBy same before s) s asc a out (sub-length mono-order s (arrangeBy same before s) a asc into)
 
 -- the size and the list are settled by this
-module _ (r : Rules) (n : ℕ) (terms : List ℕ) where
-  pub ascending-listed : (j : ℕ) (l : Finds) → Smallest r n terms j l → (s : List Mono) → Ascending before s → Wide s → Counts r s
-      → QuadraticList n (system (records terms)) s → length s ≡ j → s ∈ l
+module _ (r : Rules) (n : ℕ) (d : Mono → Poly Mono) where
+  pub ascending-listed : (j : ℕ) (l : Finds) → Smallest r n d j l → (s : List Mono) → Ascending before s → Wide s → Counts r s
+      → QuadraticList n d s → length s ≡ j → s ∈ l
   ascending-listed j l m s a w x q e = subst (λ u. u ∈ l) (arranged-self s a) (m .all s w x q e)
 
-  no-larger : (j j' : ℕ) (l l' : Finds) → Smallest r n terms j l → Smallest r n terms j' l' → j ≤ j'
+  no-larger : (j j' : ℕ) (l l' : Finds) → Smallest r n d j l → Smallest r n d j' l' → j ≤ j'
   no-larger j j' l [] m m' = absurd (m' .some refl)
   no-larger j j' l (s ∷ l') m m' =
-      let x : Listed r n terms j' s = m' .each s here in
+      let x : Listed r n d j' s = m' .each s here in
       let h : j ≤ length s = m .none-smaller s (x .recordable .wide) (x .extends) (x .quadratic) in
       omega (arith, x .size)
 
-  pub smallest-size : (j j' : ℕ) (l l' : Finds) → Smallest r n terms j l → Smallest r n terms j' l' → j ≡ j'
+  pub smallest-size : (j j' : ℕ) (l l' : Finds) → Smallest r n d j l → Smallest r n d j' l' → j ≡ j'
   smallest-size j j' l l' m m' = omega (arith, no-larger j j' l l' m m', no-larger j' j l' l m' m)
 
-  inside : (j : ℕ) (l l' : Finds) → Smallest r n terms j l → Smallest r n terms j l' → l ⊆ l'
+  inside : (j : ℕ) (l l' : Finds) → Smallest r n d j l → Smallest r n d j l' → l ⊆ l'
   inside j l l' m m' s h =
-      let x : Listed r n terms j s = m .each s h in
+      let x : Listed r n d j s = m .each s h in
       ascending-listed j l' m' s (x .recordable .permitted .ascends) (x .recordable .wide) (x .extends) (x .quadratic) (x .size)
 
-  pub smallest-one : (j : ℕ) (l l' : Finds) → Smallest r n terms j l → Smallest r n terms j l' → l ≡ l'
+  pub smallest-one : (j : ℕ) (l l' : Finds) → Smallest r n d j l → Smallest r n d j l' → l ≡ l'
   smallest-one j l l' m m' =
       let back : length l' ≤ length l = sub-length set-order l' l (m' .ascending) (m .ascending) (inside j l' l m' m) in
       sub-equal set-order l l' (m .ascending) (m' .ascending) (inside j l l' m m') back
 
 -- ---- plans of clean records, from a start that is a set of the walk
 module _ (r : Rules) (o : Orderly r) (begins : Walked (r .start)) (n : ℕ) (proper : Proper n (r .start)) (terms : List ℕ) (few : n ≤ width)
-    (clean : fault n (records terms) ≡ Clean) (spares : Sparing r n (system (records terms))) (cap limit room : ℕ) (low : cap ≤ cards) where
+    (clean : CleanFor n terms) (spares : Sparing r n (system (records terms))) (cap limit room : ℕ) (low : cap ≤ cards) where
   abbrev fs : List (Poly Mono)
   fs = system (records terms)
 
-  each-listed : (j : ℕ) → j ≤ cards → Barren r n fs j → (s : List Mono) → found s ∈ level r n fs j → Listed r n terms j s
+  each-listed : (j : ℕ) → j ≤ cards → Barren r n fs j → (s : List Mono) → found s ∈ level r n fs j → Listed r n (derivative plain fs) j s
   each-listed j h b s m =
       let at = level-out r n fs j (found s) m in
-      let x : Sound r n terms j (r .start) s = opened-sound r o n terms (clean-widens n (records terms) few clean) j h (suc j) (r .start) s begins (at .0) (at .1) in
+      let x : Sound r n terms j (r .start) s = opened-sound r o n terms (clean-for (panelOf n 0) width terms few clean) j h (suc j) (r .start) s begins (at .0) (at .1) in
       let k : j ≤ length s = least r o (begins .recorded .ascending) n fs spares j b s (x .walked .recorded .ascending) (x .walked .recorded .wide) (x .extends) (x .quadratic) in
       let short : length s ≤ j = x .short in
       record {
@@ -158,7 +159,7 @@ module _ (r : Rules) (o : Orderly r) (begins : Walked (r .start)) (n : ℕ) (pro
         size = omega arith;
       }
 
-  pub plan-done : (j u : ℕ) (l : Finds) → plan r n fs limit room cap ≡ done j u l → Finished r n terms cap limit room j u l
+  pub plan-done : (j u : ℕ) (l : Finds) → plan r n fs limit room cap ≡ done j u l → Finished r n fs (derivative plain fs) cap limit room j u l
   plan-done j u l e =
       let f : Ends r n fs limit room cap j u l = done-exact r n fs limit room cap j u l .0 e in
       let h : j ≤ cap = f .low in
@@ -176,3 +177,26 @@ module _ (r : Rules) (o : Orderly r) (begins : Walked (r .start)) (n : ℕ) (pro
           some = f .some;
         };
       }
+
+-- ---- the same is said by another derivation that agrees with it on V of every list that counts
+module _ (r : Rules) (n : ℕ) (d e : Mono → Poly Mono) (same-on : (s : List Mono) → Counts r s → (z : Mono) → z ∈ signals width n s → d z ≡ e z) where
+  quadratic-by : (s : List Mono) → Counts r s → QuadraticList n d s → QuadraticList n e s
+  quadratic-by s x = quadratic-same plain (signals width n s) d e (same-on s x)
+
+  quadratic-back : (s : List Mono) → Counts r s → QuadraticList n e s → QuadraticList n d s
+  quadratic-back s x = quadratic-same plain (signals width n s) e d (λ z h. sym (same-on s x z h))
+
+  pub none-smaller-by : (j : ℕ) → NoneSmaller r n d j → NoneSmaller r n e j
+  none-smaller-by j f s w x q = f s w x (quadratic-back s x q)
+
+  pub smallest-by : (j : ℕ) (l : Finds) → Smallest r n d j l → Smallest r n e j l
+  smallest-by j l m = record {
+    none-smaller = none-smaller-by j (m .none-smaller);
+    all = λ s w x q h. m .all s w x (quadratic-back s x q) h;
+    each = λ s h. let x = m .each s h in record { recordable = x .recordable; extends = x .extends; quadratic = quadratic-by s (x .extends) (x .quadratic); size = x .size };
+    ascending = m .ascending;
+    some = m .some;
+  }
+
+  pub finished-by : (fs : List (Poly Mono)) (cap limit room j u : ℕ) (l : Finds) → Finished r n fs d cap limit room j u l → Finished r n fs e cap limit room j u l
+  finished-by fs cap limit room j u l f = record { low = f .low; steps = f .steps; within = f .within; roomy = f .roomy; sets = smallest-by j l (f .sets) }

@@ -18,11 +18,11 @@ use Rattle.monomial.proofs.Within.{within-at, at-within, within-mul, within-set
 use Rattle.wiring.specs.Panel.{cards, setExponent, termExponent}
 use Rattle.wiring.specs.Poly.{Poly}
 use Rattle.wiring.specs.Derivative.{power}
-use Rattle.wiring.specs.Terms.{Record, records, fault, system, CleanTerms}
+use Rattle.wiring.specs.Sockets.{panelOf}
+use Rattle.wiring.specs.Terms.{Record, records, system, CleanFor, CleanTerms}
 use Rattle.wiring.specs.Answers.{missing}
-use Rattle.wiring.specs.declared.terms.Fault.the-variants.{Clean}
 use Rattle.wiring.specs.Claims.{Recordable, base}
-use Rattle.wiring.proofs.terms.Laws.{Fields, fields-out, clean-right, clean-widens, exponents-everywhere}
+use Rattle.wiring.proofs.terms.Laws.{Fields, fields-out, clean-right, clean-for, exponents-everywhere}
 use Rattle.wiring.proofs.signals.Laws.{base-in, signals-cases}
 use Rattle.walk.specs.Walk.{Rules, child, found, opened}
 use Rattle.walk.specs.Turns.{Walked}
@@ -43,7 +43,7 @@ within-base n x h k = within-first n width x h k
 pub empty-proper : (n : ℕ) → Proper n []
 empty-proper n = record { new = λ x i. absurd (List·Memᴰ·not-nil i); within = λ x i. absurd (List·Memᴰ·not-nil i) }
 
-module _ (n : ℕ) (terms : List ℕ) (clean : fault n (records terms) ≡ Clean) where
+module _ (n : ℕ) (terms : List ℕ) (clean : CleanFor n terms) where
   abbrev fs : List (Poly Mono)
   fs = system (records terms)
 
@@ -54,7 +54,7 @@ module _ (n : ℕ) (terms : List ℕ) (clean : fault n (records terms) ≡ Clean
         let r : Record = i .from .by in
         let at : ℕ = r .equation - 1 in
         let e : ℕ = power r (i .of) - 1 in
-        let f : Fields n r = fields-out n r (clean-right n [] (records terms) clean r (i .from .listed)) in
+        let f : Fields (panelOf n 0) r = fields-out (panelOf n 0) r (clean-right (panelOf n 0) [] (records terms) clean r (i .from .listed)) in
         let own : Within n (i .of) = ⊎-elim (base-within n (i .of)) (q .within (i .of)) (signals-cases n s (i .of-in)) in
         let term : Within n (r .monomial) = at-within n (r .monomial) (λ j l. exponents-everywhere termExponent n (r .monomial) (f .exponents) j .zero l) in
         let low : 1 ≤ r .equation = f .low in
@@ -106,9 +106,9 @@ module _ (r : Rules) (o : Orderly r) (n : ℕ) (terms : List ℕ) (six : CleanTe
       record { quadratic = x .1; extends = x .0 .extends; short = x .0 .short; walked = x .0 .walked }
 
 -- and what may stand in a record of n variables stands in one
-module _ (r : Rules) (o : Orderly r) (n : ℕ) (terms : List ℕ) (few : n ≤ width) (clean : fault n (records terms) ≡ Clean) where
+module _ (r : Rules) (o : Orderly r) (n : ℕ) (terms : List ℕ) (few : n ≤ width) (clean : CleanFor n terms) where
   six : CleanTerms terms
-  six = clean-widens n (records terms) few clean
+  six = clean-for (panelOf n 0) width terms few clean
 
   recordable : (s : List Mono) → Walked s → Proper n s → Recordable n s
   recordable s w q = record {

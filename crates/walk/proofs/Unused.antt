@@ -2,12 +2,12 @@
 -- larger number. The further variables have no derivative, and no monomial that the walk meets holds them. Assumes nothing.
 use mathlib.Core.Path.{_≡_, refl, sym, ap, _∙_, subst}
 use mathlib.Core.Logic.{⊎-elim}
-use mathlib.Core.Bool.{cond}
+use mathlib.Core.Bool.{Bool, cond}
 use mathlib.Core.List.{List, [], _∷_, List·Memᴰ·not-nil}
 use Prim.Native.Nat.{ℕ, zero, suc, _-_, _/_, _≤_}
 use native.Mathlib.Omega.{arith}
 use lib.Dec.{T, leb}
-use lib.ListN.{length, getD}
+use lib.ListN.{length}
 use Rattle.monomial.specs.Lists.{any}
 use Rattle.monomial.specs.Monomial.{Mono, constants, width}
 use Rattle.monomial.specs.Order.{same}
@@ -29,23 +29,25 @@ use Rattle.wiring.specs.Quadratic.{inV2}
 use Rattle.wiring.specs.Derivative.{derivative}
 use Rattle.wiring.specs.Signals.{signals}
 use Rattle.wiring.specs.Choice.{chosen}
-use Rattle.wiring.specs.Terms.{Record, records, fault, system, CleanTerms}
+use Rattle.wiring.specs.Sockets.{panelOf, mayBe}
+use Rattle.wiring.specs.declared.panel.Panel.{Panel}
+use Rattle.wiring.specs.Terms.{records, fault, system, CleanFor, CleanTerms}
 use Rattle.wiring.specs.Answers.{missing}
 use Rattle.wiring.specs.declared.terms.Fault.the-variants.{Clean}
-use Rattle.wiring.specs.Claims.{Keeps, Alike, Flawless, beyond, base, Wide}
+use Rattle.wiring.specs.Claims.{Ranged, base, Wide}
 use Rattle.wiring.proofs.quadratic.Laws.{Factors, inV2-in, inV2-out, unmet-in, unmet-out, Nonsquare, nonsquares-in, nonsquares-out, nonsquares-asc}
 use Rattle.wiring.proofs.Poly.{support-out}
 use Rattle.wiring.proofs.derivative.Records.{Derived, derived}
-use Rattle.wiring.proofs.terms.Exact.{clean-exact}
-use Rattle.wiring.proofs.answers.Exact.{count-in}
-use Rattle.wiring.proofs.terms.Laws.{Fields, fields-out, clean-right, clean-widens}
+use Rattle.wiring.proofs.sockets.Laws.{may-same}
+use Rattle.wiring.proofs.answers.Exact.{panel-in}
+use Rattle.wiring.proofs.terms.Laws.{Fields, fields-out, clean-right, clean-widens, clean-for}
 use Rattle.wiring.proofs.signals.Laws.{base-in, set-in, signals-cases}
-use Rattle.walk.specs.Walk.{Rules, bare, added, child, Step, opens, ends, tried, after, opened, level, Run, ended, spent, full, run}
+use Rattle.walk.specs.Walk.{Rules, allowing, rulesOf, added, child, Step, opens, ends, tried, after, opened, level, Run, ended, spent, full, run}
 use Rattle.walk.specs.Plan.{Ending, settled, levels, plan, settingsRight, planned}
 use Rattle.walk.specs.Claims.{Orderly, Proper, Heedless}
 use Rattle.walk.proofs.children.Laws.{chosen-in, signals-wide, Grown, old, left, right, child-out, nonsquare-wide}
 use Rattle.walk.proofs.Steps.{tried-alike, after-alike}
-use Rattle.walk.proofs.Rules.{tries-out, bare-orderly}
+use Rattle.walk.proofs.Rules.{tries-out, allowing-orderly}
 use Rattle.walk.proofs.Sound.{within-base, empty-proper, gap-within, keeps-proper}
 
 -- V has more in it, but nothing more that says nothing of the further variables
@@ -65,12 +67,12 @@ module _ (n b : ℕ) (more : n ≤ b) (s : List Mono) where
 pub factor-within : (n : ℕ) (m x y : Mono) → Within n m → length x ≡ length y → mul x y ≡ m → Within n x
 factor-within n m x y w l e = within-divides n x m (subst (λ (z : Mono). T (divides x z)) e (factor-divides x y l)) w
 
-module _ (n b : ℕ) (terms : List ℕ) (more : n ≤ b) (few : b ≤ width) (clean : fault n (records terms) ≡ Clean) where
+module _ (n b : ℕ) (terms : List ℕ) (more : n ≤ b) (few : b ≤ width) (clean : CleanFor n terms) where
   abbrev fs : List (Poly Mono)
   fs = system (records terms)
 
   six : CleanTerms terms
-  six = clean-widens n (records terms) (omega arith) clean
+  six = clean-for (panelOf n 0) width terms (omega arith) clean
 
   module _ (s : List Mono) (q : Proper n s) (wide : Wide s) where
     factors-grow : (m : Mono) → Factors plain mono-order (signals width n s) m → Factors plain mono-order (signals width b s) m
@@ -90,8 +92,8 @@ module _ (n b : ℕ) (terms : List ℕ) (more : n ≤ b) (few : b ≤ width) (cl
         from : Derived (records terms) z m
         from = derived (records terms) z m (support-out plain mono-order (derivative plain fs z) m k .0)
 
-        own : Fields n (from .by)
-        own = fields-out n (from .by) (clean-right n [] (records terms) clean (from .by) (from .listed))
+        own : Fields (panelOf n 0) (from .by)
+        own = fields-out (panelOf n 0) (from .by) (clean-right (panelOf n 0) [] (records terms) clean (from .by) (from .listed))
 
         constant : z ∈ base b → Within n z
         constant j =
@@ -159,20 +161,20 @@ settled-same limit k f g spent e = refl
 settled-same limit k f g (full t) e = refl
 
 -- ---- rules that heed no unused variable: of a set and nonsquares that hold none they say the same for n and for b variables
-pub bare-heedless : (n b : ℕ) → Heedless bare n b
-bare-heedless n b = record {
+pub allowing-heedless : (may : Mono → Bool) (n b : ℕ) → Heedless (allowing may) n b
+allowing-heedless may n b = record {
   proper = empty-proper n;
   wide = λ x i. absurd (List·Memᴰ·not-nil i);
   closing = λ room s ns q w i x. refl;
   trying = λ s m q w i x. refl;
 }
 
-module _ (r : Rules) (o : Orderly r) (n b : ℕ) (heed : Heedless r n b) (terms : List ℕ) (more : n ≤ b) (few : b ≤ width) (clean : fault n (records terms) ≡ Clean) where
+module _ (r : Rules) (o : Orderly r) (n b : ℕ) (heed : Heedless r n b) (terms : List ℕ) (more : n ≤ b) (few : b ≤ width) (clean : CleanFor n terms) where
   abbrev system-of : List (Poly Mono)
   system-of = system (records terms)
 
   clean-6 : CleanTerms terms
-  clean-6 = clean-widens n (records terms) (omega arith) clean
+  clean-6 = clean-for (panelOf n 0) width terms (omega arith) clean
 
   -- ---- the steps
   module _ (k : ℕ) (s : List Mono) (q : Proper n s) (w : Wide s) where
@@ -243,33 +245,19 @@ module _ (r : Rules) (o : Orderly r) (n b : ℕ) (heed : Heedless r n b) (terms 
     plan-same cap = levels-same (suc cap) 0 0
 
 -- ---- the operation over bytes
--- records that are clean for n are clean for more
-clean-more : (n b : ℕ) (rs : List Record) → n ≤ b → fault n rs ≡ Clean → fault b rs ≡ Clean
-clean-more n b rs h e = clean-exact b rs beyond .1 (record { keeps = λ i k. widen (getD rs i beyond) (f .keeps i k); apart = λ i j k l q. f .apart i j k l (like q) })
-  where
-    f : Flawless n rs beyond
-    f = clean-exact n rs beyond .0 e
-
-    like : {i j : ℕ} → Alike b rs beyond i j → Alike n rs beyond i j
-    like q = record { equations = q .equations; monomials = q .monomials }
-
-    widen : (r : Record) → Keeps n r → Keeps b r
-    widen r k = let high : r .equation ≤ n = k .high in record {
-      low = k .low;
-      high = omega arith;
-      blank = k .blank;
-      small = k .small;
-      beyond = λ i l. k .beyond i (omega arith);
-      nonzero = k .nonzero;
-      limited = k .limited;
-    }
+-- the same marks in a panel of b variables
+abbrev pub widened : Panel → ℕ → Panel
+widened panel b = panelOf b (panel .marks)
 
 -- the same numbers, and every byte of the buffer
-pub planned-same : (n b cap limit : ℕ) (terms : List ℕ) (size : ℕ) → 1 ≤ n → n ≤ b → b ≤ width → fault n (records terms) ≡ Clean
-    → planned n cap limit terms size ≡ planned b cap limit terms size
+pub planned-same : (panel : Panel) (b cap limit : ℕ) (terms : List ℕ) (size : ℕ) → Ranged panel → panel .n ≤ b → b ≤ width → fault panel (records terms) ≡ Clean
+    → planned panel cap limit terms size ≡ planned (widened panel b) cap limit terms size
 unfolding planned settingsRight
-planned-same n b cap limit terms size low more few clean =
-    let high : n ≤ width = omega arith in
-    let low' : 1 ≤ b = omega arith in
-    let plans = plan-same bare bare-orderly n b (bare-heedless n b) terms more few clean limit (size / setBytes) cap in
-    rw (count-in n (low, high), count-in b (low', few), clean, clean-more n b (records terms) more clean, plans)
+planned-same panel b cap limit terms size ranged more few clean =
+    let n : ℕ = panel .n in
+    let low : 1 ≤ n = ranged .low in
+    let wide : Ranged (widened panel b) = record { low = omega arith; high = few; known = λ i h. ranged .known i (omega arith) } in
+    let own : CleanFor n terms = clean-for panel n terms (omega arith) clean in
+    let plans = plan-same (rulesOf panel) (allowing-orderly (mayBe panel)) n b (allowing-heedless (mayBe panel) n b) terms more few own limit (size / setBytes) cap in
+    let rules = ap (λ (may : Mono → Bool). plan (allowing may) b (system (records terms)) limit (size / setBytes) cap) (may-same (panel .n) b (panel .marks)) in
+    rw (panel-in panel ranged, panel-in (widened panel b) wide, clean, clean-widens panel (widened panel b) more (λ i e. e) (records terms) clean, plans ∙ rules)

@@ -1,5 +1,5 @@
 -- Planning computed by the definitions from the bytes of the term records: document 01's sums worked by hand, marked P, with every byte of the
--- buffer and the wiring of the first set, then each refusal and both sides of the limits. One table, one claim. Assumes nothing.
+-- buffer and the wiring of the first set, then each refusal and both sides of the limits, then signals. One table, one claim. Assumes nothing.
 use mathlib.Core.Path.{_≡_, refl, sym, ap, _∙_}
 use mathlib.Core.List.{List, [], _∷_, _++_, map}
 use Prim.Native.Nat.{ℕ, _*_, _-_}
@@ -8,6 +8,8 @@ use lib.ListN.{length, replicate}
 use Rattle.monomial.specs.Lists.{any, some, all, keep, place, gather, below, pairwise, pointwise, dictionary, insertBy, arrangeBy}
 use Rattle.monomial.specs.Monomial.{vars}
 use Rattle.monomial.specs.Divisors.{score, divisors, pairs}
+use Rattle.wiring.specs.Sockets.{panelOf, halved, marked, countRight, panelRight, free, mayBe}
+use Rattle.wiring.specs.declared.panel.Panel.{Panel}
 use Rattle.wiring.specs.Reply.{Numbers, five, Outcome}
 use Rattle.wiring.specs.Coefficient.{signed, unsigned, isZero}
 use Rattle.wiring.specs.Poly.{coeff, times, support}
@@ -18,7 +20,7 @@ use Rattle.wiring.specs.Choice.{cheaper, chosen}
 use Rattle.wiring.specs.Terms.{records, lengthRight, exponentsRight, coefficientRight, termRight, faultFrom, equation, system}
 use Rattle.wiring.specs.Sets.{places, sizeOf, setOf, ascending, monomialRight, setRight, setRecord}
 use Rattle.wiring.specs.Wires.{firstOf, secondOf, row as rowOf, rowsFrom, wiring, wireRecord}
-use Rattle.wiring.specs.Answers.{countRight, firstUnmet, judged, recordJudged, verdict, listed, told, wired}
+use Rattle.wiring.specs.Answers.{firstUnmet, judged, recordJudged, verdict, listed, told, wired}
 use Rattle.wiring.specs.Panel.{setBytes}
 use Rattle.walk.specs.Walk.{added, child, opens, ends, tried, after, opened, level, kept, onward, run}
 use Rattle.walk.specs.Plan.{settled, levels, plan, setsBytes, said, settingsRight, planned}
@@ -49,22 +51,25 @@ wire left a b c = left ∷ a ∷ b ∷ 0 ∷ c ∷ 0 ∷ 0 ∷ 0 ∷ []
 back : ℕ → ℕ → ℕ → ℕ → List ℕ
 back left a b c = left ∷ a ∷ b ∷ 0 ∷ (256 - c) ∷ 255 ∷ 255 ∷ 255 ∷ []
 
--- planning: the five numbers, the sets, and zeros to the end of the buffer
-planning : ℕ → ℕ → ℕ → ℕ → List ℕ → Numbers → List (List (List ℕ)) → Row
-planning n cap limit size terms said sets = record {
-  got = planned n cap limit terms size;
-  want = record { said = said; bytes = gather set sets ++ replicate (size - 36 * length sets) 0 };
+-- planning: the five numbers, the sets, and zeros to the end of the buffer; with marks, and with none
+marking : ℕ → ℕ → ℕ → ℕ → ℕ → List ℕ → Numbers → List (List (List ℕ)) → Row
+marking n marks most limit size terms numbers sets = record {
+  got = planned (panelOf n marks) most limit terms size;
+  want = record { said = numbers; bytes = gather set sets ++ replicate (size - 36 * length sets) 0 };
 }
+
+planning : ℕ → ℕ → ℕ → ℕ → List ℕ → Numbers → List (List (List ℕ)) → Row
+planning n = marking n 0
 
 -- where a row names nothing else, the cap is 6, the limit 1,000,000 and the room 1,000 sets
 usual : ℕ → List ℕ → Numbers → List (List (List ℕ)) → Row
-usual n terms said sets = planning n 6 1000000 36000 terms said sets
+usual n = planning n 6 1000000 36000
 
 -- wiring a set into room for 224 records
 wiringOf : ℕ → List ℕ → List (List ℕ) → Numbers → List (List ℕ) → Row
-wiringOf n terms s said list = record {
-  got = wired n terms (set s) 1792;
-  want = record { said = said; bytes = gather (λ w. w) list ++ replicate (1792 - 8 * length list) 0 };
+wiringOf n terms s numbers list = record {
+  got = wired (panelOf n 0) terms (set s) 1792;
+  want = record { said = numbers; bytes = gather (λ w. w) list ++ replicate (1792 - 8 * length list) 0 };
 }
 
 table : List Row
@@ -133,32 +138,54 @@ table =
     -- a wrong record, and one that repeats the first
     ∷ planning 1 6 1 40 (plus 1 (2 ∷ []) ++ plus 1 (10 ∷ [])) (five 3 0 0 0 2) []
     ∷ planning 1 6 1 40 (plus 1 (2 ∷ []) ++ plus 1 (2 ∷ [])) (five 4 0 0 0 2) []
+    -- x1' = x1^2 u, u a signal: none, for each cap
+    ∷ marking 2 2 0 1000000 36 (plus 1 (2 ∷ 1 ∷ [])) (five 5 1 0 1 0) []
+    ∷ marking 2 2 1 1000000 36 (plus 1 (2 ∷ 1 ∷ [])) (five 5 2 0 6 0) []
+    ∷ marking 2 2 2 1000000 36 (plus 1 (2 ∷ 1 ∷ [])) (five 5 3 0 16 0) []
+    ∷ marking 2 2 3 1000000 36 (plus 1 (2 ∷ 1 ∷ [])) (five 5 4 0 32 0) []
+    ∷ marking 2 2 4 1000000 36 (plus 1 (2 ∷ 1 ∷ [])) (five 5 5 0 55 0) []
+    ∷ marking 2 2 5 1000000 36 (plus 1 (2 ∷ 1 ∷ [])) (five 5 6 0 86 0) []
+    ∷ marking 2 2 6 1000000 36 (plus 1 (2 ∷ 1 ∷ [])) (five 5 7 0 126 0) []
+    -- and at the limit, and one less
+    ∷ marking 2 2 1 6 36 (plus 1 (2 ∷ 1 ∷ [])) (five 5 2 0 6 0) []
+    ∷ marking 2 2 1 5 36 (plus 1 (2 ∷ 1 ∷ [])) (five 7 1 0 5 0) []
+    -- document 000's example 5.3: x1' = x1 + x1 u, x2' = x1^2 u
+    ∷ marking 3 4 6 1000000 72 (plus 1 (1 ∷ []) ++ plus 1 (1 ∷ 0 ∷ 1 ∷ []) ++ plus 2 (2 ∷ 0 ∷ 1 ∷ [])) (five 0 1 1 6 0) (((2 ∷ []) ∷ []) ∷ [])
+    -- x1' = x1^3 + u x1, and x1' = x1^3 + u^2 x1
+    ∷ marking 2 2 6 1000000 72 (plus 1 (3 ∷ []) ++ plus 1 (1 ∷ 1 ∷ [])) (five 0 1 1 6 0) (((2 ∷ []) ∷ []) ∷ [])
+    ∷ marking 2 2 6 1000000 72 (plus 1 (3 ∷ []) ++ plus 1 (1 ∷ 2 ∷ [])) (five 5 7 0 61 0) []
+    -- a mark at n, and all marks
+    ∷ marking 1 2 6 1 5 (plus 1 (2 ∷ [])) (five 1 0 0 0 0) []
+    ∷ marking 6 18446744073709551615 6 1 5 [] (five 1 0 0 0 0) []
+    -- every variable is a signal; then the equation of one is wrong, and comes before the repeat
+    ∷ marking 6 63 6 1 37 [] (five 0 0 1 1 0) ([] ∷ [])
+    ∷ marking 2 2 6 1 5 (plus 1 (2 ∷ []) ++ plus 2 (2 ∷ []) ++ plus 2 (2 ∷ [])) (five 3 0 0 0 2) []
     ∷ []
 
 -- replies, buffers and lists are as written
 worked : map (λ r. r .got) table ≡ map (λ r. r .want) table
-unfolding table usual planning wiringOf plus minus set wire back padded planned settingsRight said setsBytes plan levels settled run onward
+unfolding table usual planning marking wiringOf plus minus set wire back padded planned settingsRight said setsBytes plan levels settled run onward
     kept level opened after ends tried opens child added cheaper chosen pairs divisors score setRecord wired told listed verdict recordJudged judged firstUnmet
-    countRight records lengthRight exponentsRight coefficientRight termRight faultFrom equation system places sizeOf setOf ascending monomialRight
+    halved marked countRight panelRight free mayBe records lengthRight exponentsRight coefficientRight termRight faultFrom equation system places sizeOf setOf ascending monomialRight
     setRight firstOf secondOf rowOf rowsFrom wiring wireRecord signals factor inV2 unmet nonsquares partsFrom derivative coeff times support signed
     unsigned isZero vars any some all keep place gather below pairwise pointwise dictionary insertBy arrangeBy
 worked = refl
 
 -- one reply does not do for all: x' = x^2 and x' = x^3 with cap 0 have different ones
 pub record TwoSystems : Type 0 where
-  pub square : planned 1 0 1 (plus 1 (2 ∷ [])) setBytes .said ≡ five 0 0 1 1 0
-  pub cube : planned 1 0 1 (plus 1 (3 ∷ [])) setBytes .said ≡ five 5 1 0 1 0
+  pub square : planned (panelOf 1 0) 0 1 (plus 1 (2 ∷ [])) setBytes .said ≡ five 0 0 1 1 0
+  pub cube : planned (panelOf 1 0) 0 1 (plus 1 (3 ∷ [])) setBytes .said ≡ five 5 1 0 1 0
 
 pub two-systems : TwoSystems
 unfolding plus padded planned settingsRight said setsBytes plan levels settled run onward kept level opened after ends tried opens child added cheaper
-    chosen pairs divisors score setRecord countRight records lengthRight exponentsRight coefficientRight termRight faultFrom equation system signals
+    chosen pairs divisors score setRecord halved marked countRight panelRight free mayBe records lengthRight exponentsRight coefficientRight termRight faultFrom equation system signals
     factor inV2 unmet nonsquares partsFrom derivative coeff times support signed isZero vars any some all keep gather below pairwise pointwise
     dictionary insertBy arrangeBy
 two-systems = record { square = refl; cube = refl }
 
-pub plan-not-constant : (x : Numbers) → ((n cap limit : ℕ) (terms : List ℕ) (size : ℕ) → x ≡ planned n cap limit terms size .said) → ⊥
+pub plan-not-constant : (x : Numbers) → ((panel : Panel) (most limit : ℕ) (terms : List ℕ) (size : ℕ) → x ≡ planned panel most limit terms size .said) → ⊥
 plan-not-constant x h =
-    let done : x ≡ five 0 0 1 1 0 = h 1 0 1 (plus 1 (2 ∷ [])) setBytes ∙ two-systems .square in
-    let none : x ≡ five 5 1 0 1 0 = h 1 0 1 (plus 1 (3 ∷ [])) setBytes ∙ two-systems .cube in
+    let done : x ≡ five 0 0 1 1 0 = h (panelOf 1 0) 0 1 (plus 1 (2 ∷ [])) setBytes ∙ two-systems .square in
+    let none : x ≡ five 5 1 0 1 0 = h (panelOf 1 0) 0 1 (plus 1 (3 ∷ [])) setBytes ∙ two-systems .cube in
     let codes : _≡_ {A = ℕ} 0 5 = ap (λ (y : Numbers). y .code) (sym done ∙ none) in
     omega arith

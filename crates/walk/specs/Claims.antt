@@ -14,16 +14,16 @@ use Rattle.monomial.specs.Claims.{_∈_, _⊆_, Ascending, Rearranged, Within}
 use Rattle.wiring.specs.Panel.{cards, setBytes, mostSteps}
 use Rattle.wiring.specs.Reply.{numbers}
 use Rattle.wiring.specs.Poly.{Poly, plain}
-use Rattle.wiring.specs.Derivative.{derivative}
 use Rattle.wiring.specs.Quadratic.{Quadratic}
 use Rattle.wiring.specs.Signals.{signals}
 use Rattle.wiring.specs.Terms.{records, system}
 use Rattle.wiring.specs.Sets.{setRecord}
 use Rattle.wiring.specs.Answers.{missing}
-use Rattle.wiring.specs.Claims.{Wide, base, Measured, Breaks, Repeats, Flawless, beyond, Ranged, Recordable}
+use Rattle.wiring.specs.Claims.{Wide, base, Measured, Breaks, Repeats, Flawless, beyond, Free, Ranged, Recordable, LeftLinked, derivativeIn}
+use Rattle.wiring.specs.declared.panel.Panel.{Panel}
 use Rattle.wiring.specs.declared.reply.Reply.{Reply}
 use Rattle.wiring.specs.declared.reply.Reply.the-variants.{Done, Setting, Length, Term, Twice, Nothing, Full, Spent, BadSet, NotQuadratic}
-use Rattle.walk.specs.Walk.{Finds, Rules, bare, Step, found, other, level, walked, opened, Run, ended, spent, full}
+use Rattle.walk.specs.Walk.{Finds, Rules, rulesOf, Step, found, other, level, walked, opened, Run, ended, spent, full}
 use Rattle.walk.specs.Plan.{Ending, done, none, fullAt, spentAt, plan, setsBytes}
 use Rattle.walk.specs.Turns.{Walked}
 
@@ -175,37 +175,37 @@ module _ (r : Rules) (n : ℕ) (fs : List (Poly Mono)) (room cap : ℕ) where
     pub is : plan r n fs limit room cap ≡ spentAt level limit
 
 -- ---- smallest
--- Definition 1 for V of a list of monomials
-abbrev pub QuadraticList : ℕ → List (Poly Mono) → List Mono → Type 0
-QuadraticList n fs s = Quadratic plain (signals width n s) (derivative plain fs)
+-- Definition 1 for V of a list of monomials, by a derivation of them
+abbrev pub QuadraticList : ℕ → (Mono → Poly Mono) → List Mono → Type 0
+QuadraticList n d s = Quadratic plain (signals width n s) d
 
 -- of the lists that count, no quadratic one has fewer than j members
-abbrev pub NoneSmaller : Rules → ℕ → List (Poly Mono) → ℕ → Type 0
-NoneSmaller r n fs j = (s : List Mono) → Wide s → Counts r s → QuadraticList n fs s → j ≤ length s
+abbrev pub NoneSmaller : Rules → ℕ → (Mono → Poly Mono) → ℕ → Type 0
+NoneSmaller r n d j = (s : List Mono) → Wide s → Counts r s → QuadraticList n d s → j ≤ length s
 
 -- one of the sets that done lists: it can stand in a set record of n variables
-pub record Listed (r : Rules) (n : ℕ) (terms : List ℕ) (j : ℕ) (s : List Mono) : Type 0 where
+pub record Listed (r : Rules) (n : ℕ) (d : Mono → Poly Mono) (j : ℕ) (s : List Mono) : Type 0 where
   pub recordable : Recordable n s
   pub extends : Counts r s
-  pub quadratic : QuadraticList n (system (records terms)) s
+  pub quadratic : QuadraticList n d s
   pub size : length s ≡ j
 
 -- all of them
-pub record Smallest (r : Rules) (n : ℕ) (terms : List ℕ) (j : ℕ) (l : Finds) : Type 0 where
-  pub none-smaller : NoneSmaller r n (system (records terms)) j
+pub record Smallest (r : Rules) (n : ℕ) (d : Mono → Poly Mono) (j : ℕ) (l : Finds) : Type 0 where
+  pub none-smaller : NoneSmaller r n d j
   -- every quadratic list of that many members that counts, put in order, is listed
-  pub all : (s : List Mono) → Wide s → Counts r s → QuadraticList n (system (records terms)) s → length s ≡ j → arrangeBy same before s ∈ l
-  pub each : (s : List Mono) → s ∈ l → Listed r n terms j s
+  pub all : (s : List Mono) → Wide s → Counts r s → QuadraticList n d s → length s ≡ j → arrangeBy same before s ∈ l
+  pub each : (s : List Mono) → s ∈ l → Listed r n d j s
   pub ascending : Ascending beforeSet l
   pub some : l ≡ [] → ⊥
 
--- found in the walk's steps, within the limit and the room
-pub record Finished (r : Rules) (n : ℕ) (terms : List ℕ) (cap limit room j u : ℕ) (l : Finds) : Type 0 where
+-- found in the steps of the walk of fs, within the limit and the room
+pub record Finished (r : Rules) (n : ℕ) (fs : List (Poly Mono)) (d : Mono → Poly Mono) (cap limit room j u : ℕ) (l : Finds) : Type 0 where
   pub low : j ≤ cap
-  pub steps : u ≡ walked r n (system (records terms)) (suc j)
+  pub steps : u ≡ walked r n fs (suc j)
   pub within : u ≤ limit
   pub roomy : length l ≤ room
-  pub sets : Smallest r n terms j l
+  pub sets : Smallest r n d j l
 
 -- a quadratic set inside t that is found below the opened set s at level k, with d more steps of depth
 pub record Reached (r : Rules) (n : ℕ) (fs : List (Poly Mono)) (k : ℕ) (t : List Mono) (d : ℕ) (s : List Mono) : Type 0 where
@@ -217,44 +217,44 @@ pub record Reached (r : Rules) (n : ℕ) (fs : List (Poly Mono)) (k : ℕ) (t : 
   pub listed : found set ∈ opened r n fs k d s
 
 -- ---- planning
-pub record InRange (n cap limit : ℕ) : Type 0 where
-  pub ranged : Ranged n
+pub record InRange (panel : Panel) (cap limit : ℕ) : Type 0 where
+  pub ranged : Ranged panel
   pub capped : cap ≤ cards
   pub low : 1 ≤ limit
   pub high : limit ≤ mostSteps
 
 -- the settings, the length and the records are in order
-pub record Accepted (n cap limit : ℕ) (terms : List ℕ) : Type 0 where
-  pub range : InRange n cap limit
+pub record Accepted (panel : Panel) (cap limit : ℕ) (terms : List ℕ) : Type 0 where
+  pub range : InRange panel cap limit
   pub measured : Measured terms
-  pub flawless : Flawless n (records terms) beyond
+  pub flawless : Flawless panel (records terms) beyond
 
 -- the sets found at a level, ascending, each once
-abbrev pub setsAt : ℕ → List ℕ → ℕ → Finds
-setsAt n terms order = distinct (level bare n (system (records terms)) order)
+abbrev pub setsAt : Panel → List ℕ → ℕ → Finds
+setsAt panel terms order = distinct (level (rulesOf panel) (panel .n) (system (records terms)) order)
 
 -- what each reply of planning says, with a buffer of this size
-abbrev pub PlanSays : ℕ → ℕ → ℕ → List ℕ → ℕ → Reply → Type 0
-PlanSays n cap limit terms size Setting = InRange n cap limit → ⊥
-PlanSays n cap limit terms size Length = InRange n cap limit × (Measured terms → ⊥)
-PlanSays n cap limit terms size (Term p) = InRange n cap limit × Measured terms × Breaks n (records terms) beyond p
-PlanSays n cap limit terms size (Twice p) = InRange n cap limit × Measured terms × Repeats n (records terms) beyond p
-PlanSays n cap limit terms size (Done o c k) =
-    Accepted n cap limit terms × (c ≡ length (setsAt n terms o)) × Ends bare n (system (records terms)) limit (size / setBytes) cap o k (setsAt n terms o)
-PlanSays n cap limit terms size (Nothing o k) = Accepted n cap limit terms × Lacks bare n (system (records terms)) limit (size / setBytes) cap o k
-PlanSays n cap limit terms size (Full o k) = Accepted n cap limit terms × Fills bare n (system (records terms)) limit (size / setBytes) cap o k
-PlanSays n cap limit terms size (Spent o k) = Accepted n cap limit terms × Spends bare n (system (records terms)) limit (size / setBytes) cap o k
-PlanSays n cap limit terms size BadSet = ⊥
-PlanSays n cap limit terms size (NotQuadratic o p) = ⊥
+abbrev pub PlanSays : Panel → ℕ → ℕ → List ℕ → ℕ → Reply → Type 0
+PlanSays panel cap limit terms size Setting = InRange panel cap limit → ⊥
+PlanSays panel cap limit terms size Length = InRange panel cap limit × (Measured terms → ⊥)
+PlanSays panel cap limit terms size (Term p) = InRange panel cap limit × Measured terms × Breaks panel (records terms) beyond p
+PlanSays panel cap limit terms size (Twice p) = InRange panel cap limit × Measured terms × Repeats panel (records terms) beyond p
+PlanSays panel cap limit terms size (Done o c k) =
+    Accepted panel cap limit terms × (c ≡ length (setsAt panel terms o)) × Ends (rulesOf panel) (panel .n) (system (records terms)) limit (size / setBytes) cap o k (setsAt panel terms o)
+PlanSays panel cap limit terms size (Nothing o k) = Accepted panel cap limit terms × Lacks (rulesOf panel) (panel .n) (system (records terms)) limit (size / setBytes) cap o k
+PlanSays panel cap limit terms size (Full o k) = Accepted panel cap limit terms × Fills (rulesOf panel) (panel .n) (system (records terms)) limit (size / setBytes) cap o k
+PlanSays panel cap limit terms size (Spent o k) = Accepted panel cap limit terms × Spends (rulesOf panel) (panel .n) (system (records terms)) limit (size / setBytes) cap o k
+PlanSays panel cap limit terms size BadSet = ⊥
+PlanSays panel cap limit terms size (NotQuadratic o p) = ⊥
 
 -- and what it leaves in the buffer: the sets and then zeros; or only zeros
-abbrev pub planLeaves : ℕ → List ℕ → ℕ → Reply → List ℕ
-planLeaves n terms size r =
-    cond (eqb (numbers r .code) 0) (setsBytes (setsAt n terms (numbers r .order)) ++ replicate (size - setBytes * numbers r .count) 0) (replicate size 0)
+abbrev pub planLeaves : Panel → List ℕ → ℕ → Reply → List ℕ
+planLeaves panel terms size r =
+    cond (eqb (numbers r .code) 0) (setsBytes (setsAt panel terms (numbers r .order)) ++ replicate (size - setBytes * numbers r .count) 0) (replicate size 0)
 
--- of all lists of monomials, of any powers, in any order and with repeats: no quadratic one has fewer than j members
-abbrev pub NoneBelow : ℕ → List ℕ → ℕ → Type 0
-NoneBelow n terms j = (s : List Mono) → Wide s → QuadraticList n (system (records terms)) s → j ≤ length s
+-- of all lists of monomials without signals, of any powers, in any order and with repeats: no quadratic one has fewer than j members
+abbrev pub NoneBelow : Panel → List ℕ → ℕ → Type 0
+NoneBelow panel terms j = (s : List Mono) → Wide s → Free (panel .marks) s → QuadraticList (panel .n) (derivativeIn panel terms) s → j ≤ length s
 
 -- a list of sets as it lies in a buffer of this size: record number i holds set number i; behind them are zeros
 pub record Laid (l : Finds) (count size : ℕ) (bytes : List ℕ) : Type 0 where
@@ -265,11 +265,21 @@ pub record Laid (l : Finds) (count size : ℕ) (bytes : List ℕ) : Type 0 where
   pub long : length bytes ≡ size
 
 -- what done says, and its bytes
-pub record Planned (n cap limit : ℕ) (terms : List ℕ) (size order count steps : ℕ) (bytes : List ℕ) : Type 0 where
-  pub accepted : Accepted n cap limit terms
+pub record Planned (panel : Panel) (cap limit : ℕ) (terms : List ℕ) (size order count steps : ℕ) (bytes : List ℕ) : Type 0 where
+  pub accepted : Accepted panel cap limit terms
   -- the sets found at the level of this order are the smallest quadratic sets, all of them, found in the walk's steps, within the limit and the room
-  pub finished : Finished bare n terms cap limit (size / setBytes) order steps (setsAt n terms order)
-  -- of all lists of monomials: no quadratic one is smaller, and each of that many members, put in order, is listed
-  pub none-below : NoneBelow n terms order
-  pub all : (s : List Mono) → Wide s → QuadraticList n (system (records terms)) s → length s ≡ order → arrangeBy same before s ∈ setsAt n terms order
-  pub laid : Laid (setsAt n terms order) count size bytes
+  pub finished : Finished (rulesOf panel) (panel .n) (system (records terms)) (derivativeIn panel terms) cap limit (size / setBytes) order steps (setsAt panel terms order)
+  -- none of them holds a signal
+  pub free : (s : List Mono) → s ∈ setsAt panel terms order → Free (panel .marks) s
+  -- of all lists of monomials without signals: no quadratic one is smaller, and each of that many members, put in order, is listed
+  pub none-below : NoneBelow panel terms order
+  pub all : (s : List Mono) → Wide s → Free (panel .marks) s → QuadraticList (panel .n) (derivativeIn panel terms) s → length s ≡ order
+      → arrangeBy same before s ∈ setsAt panel terms order
+  pub laid : Laid (setsAt panel terms order) count size bytes
+
+-- what done says of a system gs that has the equations of the records, and any equations whatever of the signals: Definition 1 over the left variables
+-- that have an equation
+pub record DrivenPlan (panel : Panel) (gs : List (Poly Mono)) (order : ℕ) (l : Finds) : Type 0 where
+  pub each : (s : List Mono) → s ∈ l → LeftLinked (panel .marks) gs (signals width (panel .n) s)
+  pub none-below : (s : List Mono) → Wide s → Free (panel .marks) s → LeftLinked (panel .marks) gs (signals width (panel .n) s) → order ≤ length s
+  pub all : (s : List Mono) → Wide s → Free (panel .marks) s → LeftLinked (panel .marks) gs (signals width (panel .n) s) → length s ≡ order → arrangeBy same before s ∈ l

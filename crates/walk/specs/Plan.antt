@@ -7,13 +7,15 @@ use lib.ListN.{length, replicate}
 use Rattle.monomial.specs.Lists.{gather}
 use Rattle.monomial.specs.Monomial.{Mono}
 use Rattle.wiring.specs.Panel.{cards, setBytes, mostSteps}
+use Rattle.wiring.specs.Sockets.{panelRight}
+use Rattle.wiring.specs.declared.panel.Panel.{Panel}
 use Rattle.wiring.specs.Reply.{Outcome, outcome, refused}
 use Rattle.wiring.specs.Poly.{Poly}
 use Rattle.wiring.specs.Terms.{records, lengthRight, fault, system}
 use Rattle.wiring.specs.Sets.{setRecord}
-use Rattle.wiring.specs.Answers.{countRight, unlessFault}
+use Rattle.wiring.specs.Answers.{unlessFault}
 use Rattle.wiring.specs.declared.reply.Reply.the-variants.{Done, Setting, Length, Nothing, Full, Spent}
-use Rattle.walk.specs.Walk.{Finds, Rules, bare, level, Run, ended, spent, full, run}
+use Rattle.walk.specs.Walk.{Finds, Rules, rulesOf, level, Run, ended, spent, full, run}
 
 -- how planning a system ends: the level, the steps, and for done the sets
 pub data Ending : Type 0 where
@@ -50,13 +52,13 @@ said (none order steps) size = refused (Nothing order steps) size
 said (fullAt order steps) size = refused (Full order steps) size
 said (spentAt order steps) size = refused (Spent order steps) size
 
--- the number of variables, the cap and the limit are in range
-unfoldable pub settingsRight : ℕ → ℕ → ℕ → Bool
-settingsRight n cap limit = countRight n && leb cap cards && leb 1 limit && leb limit mostSteps
+-- the number of variables, the marks, the cap and the limit are in range
+unfoldable pub settingsRight : Panel → ℕ → ℕ → Bool
+settingsRight panel cap limit = panelRight panel && leb cap cards && leb 1 limit && leb limit mostSteps
 
-unfoldable pub planned : ℕ → ℕ → ℕ → List ℕ → ℕ → Outcome
-planned n cap limit terms size =
-    let walk = said (plan bare n (system (records terms)) limit (size / setBytes) cap) size in
-    let read = unlessFault (λ r. refused r size) (fault n (records terms)) walk in
+unfoldable pub planned : Panel → ℕ → ℕ → List ℕ → ℕ → Outcome
+planned panel cap limit terms size =
+    let walk = said (plan (rulesOf panel) (panel .n) (system (records terms)) limit (size / setBytes) cap) size in
+    let read = unlessFault (λ r. refused r size) (fault panel (records terms)) walk in
     let long = cond (lengthRight terms) read (refused Length size) in
-    cond (settingsRight n cap limit) long (refused Setting size)
+    cond (settingsRight panel cap limit) long (refused Setting size)

@@ -3,7 +3,6 @@ use mathlib.Core.Path.{_≡_}
 use mathlib.Core.Bool.{Bool, true, false}
 use mathlib.Core.List.{List, _∷_}
 use Prim.Native.Nat.{ℕ, _*_, _/_, _≤_, _<_}
-use lib.Dec.{leb}
 use lib.ListN.{length}
 use Rattle.monomial.specs.Monomial.{Mono, width}
 use Rattle.monomial.specs.Product.{AtMost}
@@ -30,9 +29,9 @@ pub record Walked (s : List Mono) : Type 0 where
   pub recorded : Recorded s
   pub small : (m : Mono) → m ∈ s → AtMost (termExponent * length s) m
 
--- the child c, where it has at most `level` monomials
-pub record Child (level : ℕ) (c : List Mono) (t : Tried) : Type 0 where
-  pub go : t .go ≡ leb (length c) level
+-- the child c, where the test says that it is opened
+pub record Child (test : Bool) (c : List Mono) (t : Tried) : Type 0 where
+  pub go : t .go ≡ test
   pub is : t .go ≡ true → monomialsOf (t .set) ≡ c
   pub size : t .go ≡ true → t .set .len ≡ length c
 

@@ -1,5 +1,5 @@
 -- The walk as the list of its steps, by given rules and without a limit; and a run of that list under a limit of steps and of room. Document 01's
--- walk is that by the rules `bare`. Assumes nothing.
+-- walk is that by the rules `bare`, a panel's that by `rulesOf`. Assumes nothing.
 use mathlib.Core.Bool.{Bool, true, false, cond, _&&_, _||_}
 use mathlib.Core.List.{List, [], _∷_}
 use Prim.Native.Nat.{ℕ, zero, suc, _+_, _-_}
@@ -9,6 +9,8 @@ use Rattle.monomial.specs.Lists.{any, gather, insertBy}
 use Rattle.monomial.specs.Monomial.{Mono, width}
 use Rattle.monomial.specs.Order.{same, before, sameSet, beforeSet}
 use Rattle.monomial.specs.Divisors.{pairs}
+use Rattle.wiring.specs.Sockets.{mayBe}
+use Rattle.wiring.specs.declared.panel.Panel.{Panel}
 use Rattle.wiring.specs.Poly.{Poly, plain}
 use Rattle.wiring.specs.Derivative.{derivative}
 use Rattle.wiring.specs.Quadratic.{nonsquares}
@@ -38,9 +40,17 @@ pub record Rules : Type 0 where
   -- the set that each level opens; the first level is its size
   pub start : List Mono
 
--- document 01's rules: everything may be, nothing is closed, pairs are tried by ascending m1, and the empty set is opened
+-- document 01's rules with a test of its own for new monomials: nothing is closed, pairs are tried by ascending m1, and the empty set is opened
+abbrev pub allowing : (Mono → Bool) → Rules
+allowing may = record { may = may; closed = λ room v ns. false; tries = λ v m. pairs m; start = [] }
+
+-- document 01's: everything may be
 abbrev pub bare : Rules
-bare = record { may = λ m. true; closed = λ room v ns. false; tries = λ v m. pairs m; start = [] }
+bare = allowing (λ m. true)
+
+-- a panel's: no new monomial holds a signal
+abbrev pub rulesOf : Panel → Rules
+rulesOf panel = allowing (mayBe panel)
 
 -- a step without a find: a pair is tried, or a set is opened that is not quadratic
 pub data Taken : Type 0 where

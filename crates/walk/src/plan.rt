@@ -3,12 +3,13 @@ use super::walk;
 use super::walk::Frame;
 use super::walk::State;
 use super::walk::Turn;
-use wiring::answers;
 use wiring::buffer;
 use wiring::panel::CARDS;
 use wiring::panel::MOST_STEPS;
+use wiring::panel::Panel;
 use wiring::reply::Reply;
 use wiring::sets::Set;
+use wiring::sockets;
 use wiring::terms;
 use wiring::terms::Fault;
 ghost use mathlib.Core.Path.{_≡_};
@@ -16,16 +17,17 @@ ghost use Prim.Native.Nat.{_/_, _≤_, _<_};
 ghost use lib.ListN.{length, replicate};
 ghost use Rattle.monomial.specs.Monomial.{width};
 ghost use Rattle.wiring.specs.Panel.{cards, setBytes};
+ghost use Rattle.wiring.specs.Sockets.{panelOf};
 ghost use Rattle.wiring.specs.Reply.{outcome};
 ghost use Rattle.wiring.specs.Terms.{records, system, CleanTerms};
-ghost use Rattle.walk.specs.Walk.{bare};
+ghost use Rattle.walk.specs.Walk.{rulesOf};
 ghost use Rattle.walk.specs.Plan.{plan, said, settingsRight, planned};
 
-// Whether n, the cap and the limit are in range.
-fn settings_right(n: u64, cap: u64, limit: u64) -> bool
-    ensures { λ r. ⌜ r ≡ settingsRight n cap limit ⌝ }
+// Whether n, the marks, the cap and the limit are in range.
+fn settings_right(n: u64, marks: u64, cap: u64, limit: u64) -> bool
+    ensures { λ r. ⌜ r ≡ settingsRight (panelOf n marks) cap limit ⌝ }
 {
-    if !answers::count_right(n) {
+    if !sockets::panel_right(n, marks) {
         return false;
     }
     if (CARDS as u64) < cap {
@@ -38,14 +40,18 @@ fn settings_right(n: u64, cap: u64, limit: u64) -> bool
 }
 
 // The levels from 0 to the cap; the buffer is all zeros at the start.
-fn climb(terms: &[u8], out: &mut [u8], n: usize, cap: usize, limit: u64) -> Reply
-    requires { ⌜ (n ≤ width) × ((cap ≤ cards) × (CleanTerms (now terms) × (now out ≡ replicate (length (now out)) 0))) ⌝ }
-    ensures { λ r. ⌜ outcome r (now (out .exit)) ≡ said (plan bare n (system (records (now (terms .entry)))) limit (length (now (out .entry)) / setBytes) cap) (length (now (out .entry))) ⌝ }
+fn climb(terms: &[u8], out: &mut [u8], panel: Panel, cap: usize, limit: u64) -> Reply
+    requires { ⌜ (panel .n ≤ width) × ((cap ≤ cards) × (CleanTerms (now terms) × (now out ≡ replicate (length (now out)) 0))) ⌝ }
+    ensures { λ r. ⌜ outcome r (now (out .exit)) ≡ said (plan (rulesOf panel) (panel .n) (system (records (now (terms .entry)))) limit (length (now (out .entry)) / setBytes) cap) (length (now (out .entry))) ⌝ }
 {
     let mut steps: u64 = 0;
     let mut k: usize = 0;
     while k <= cap {
-        let f = Frame { n, level: k, limit };
+        let f = Frame {
+            panel,
+            level: k,
+            limit,
+        };
         match walk::open(terms, out, f, Set::EMPTY, State { steps, count: 0 }) {
             Turn::Going(s) => {
                 let count = s.count;
@@ -82,18 +88,22 @@ fn climb(terms: &[u8], out: &mut [u8], n: usize, cap: usize, limit: u64) -> Repl
 }
 
 // Plans: every smallest quadratic set, or how far the walk got.
-pub fn plan(n: u64, cap: u64, limit: u64, terms: &[u8], out: &mut [u8]) -> Reply
-    ensures { λ r. ⌜ outcome r (now (out .exit)) ≡ planned n cap limit (now (terms .entry)) (length (now (out .entry))) ⌝ }
+pub fn plan(n: u64, marks: u64, cap: u64, limit: u64, terms: &[u8], out: &mut [u8]) -> Reply
+    ensures { λ r. ⌜ outcome r (now (out .exit)) ≡ planned (panelOf n marks) cap limit (now (terms .entry)) (length (now (out .entry))) ⌝ }
 {
     buffer::clear(out);
-    if !settings_right(n, cap, limit) {
+    if !settings_right(n, marks, cap, limit) {
         return Reply::Setting;
     }
     if !terms::length_right(terms) {
         return Reply::Length;
     }
-    match terms::fault_of(n as usize, terms) {
-        Fault::Clean => climb(terms, out, n as usize, cap as usize, limit),
+    let panel = Panel {
+        n: n as usize,
+        marks,
+    };
+    match terms::fault_of(panel, terms) {
+        Fault::Clean => climb(terms, out, panel, cap as usize, limit),
         Fault::Wrong(place) => Reply::Term { place },
         Fault::Repeated(place) => Reply::Twice { place },
     }

@@ -3,6 +3,7 @@ use super::children;
 use super::listing;
 use super::listing::Kept;
 use monomial::Monomial;
+use wiring::panel::Panel;
 use wiring::panel::TABLE_BYTES;
 use wiring::quadratic;
 use wiring::sets::Set;
@@ -13,13 +14,13 @@ ghost use lib.ListN.{length};
 ghost use Rattle.wiring.specs.Panel.{setBytes};
 ghost use Rattle.wiring.specs.Terms.{records, system};
 ghost use Rattle.wiring.specs.Sets.{monomialsOf};
-ghost use Rattle.walk.specs.Walk.{Finds, bare, opened, triedAll, run, kept};
+ghost use Rattle.walk.specs.Walk.{Finds, rulesOf, opened, triedAll, run, kept};
 ghost use Rattle.walk.specs.Listing.{Shown};
 ghost use Rattle.walk.specs.Turns.{Tells, Ready, Splits, Found, Stepped};
 
 // What stays the same through a level.
 pub struct Frame {
-    pub n: usize,
+    pub panel: Panel,
     pub level: usize,
     pub limit: u64,
 }
@@ -59,8 +60,8 @@ fn found(out: &mut [u8], set: Set, st: State) -> Turn
 
 // Takes the step of opening a set, and says what follows.
 fn take_step(terms: &[u8], out: &mut [u8], f: Frame, set: Set, st: State) -> Opened
-    requires { ⌜ Ready (f .n) (now terms) (f .level) set (st .count) (now out) ⌝ }
-    ensures { λ r. ⌜ Stepped bare (f .n) (now (terms .entry)) (f .level) (f .limit) set st (now (out .entry)) r (now (out .exit)) ⌝ }
+    requires { ⌜ Ready (f .panel .n) (now terms) (f .level) set (st .count) (now out) ⌝ }
+    ensures { λ r. ⌜ Stepped (rulesOf (f .panel)) (f .panel .n) (now (terms .entry)) (f .level) (f .limit) set st (now (out .entry)) r (now (out .exit)) ⌝ }
 {
     let taken = st.steps;
     if f.limit <= taken {
@@ -74,7 +75,7 @@ fn take_step(terms: &[u8], out: &mut [u8], f: Frame, set: Set, st: State) -> Ope
         steps: taken + 1,
         count: st.count,
     };
-    let v = signals::signals_of(f.n, set);
+    let v = signals::signals_of(f.panel.n, set);
     let mut table = [0u8; TABLE_BYTES];
     let used = signals::products_of(v, &mut table);
     if v.len <= quadratic::first_unmet(terms, v, &table[..used]) {
@@ -102,10 +103,10 @@ fn take_step(terms: &[u8], out: &mut [u8], f: Frame, set: Set, st: State) -> Ope
 
 // Opens a set: one step, and then its pairs.
 pub(crate) fn open(terms: &[u8], out: &mut [u8], f: Frame, set: Set, st: State) -> Turn
-    requires { ⌜ Ready (f .n) (now terms) (f .level) set (st .count) (now out) ⌝ }
+    requires { ⌜ Ready (f .panel .n) (now terms) (f .level) set (st .count) (now out) ⌝ }
     ensures { λ r. ⌜ ((d : ℕ) (finds : Finds) → f .level - set .len < d → Shown finds (st .count) (now (out .entry)) →
         Tells r (now (out .exit))
-        (run (f .limit) (length (now (out .entry)) / setBytes) (opened bare (f .n) (system (records (now (terms .entry)))) (f .level) d (monomialsOf set)) (st .steps) finds)) ⌝ }
+        (run (f .limit) (length (now (out .entry)) / setBytes) (opened (rulesOf (f .panel)) (f .panel .n) (system (records (now (terms .entry)))) (f .level) d (monomialsOf set)) (st .steps) finds)) ⌝ }
 {
     let o = take_step(terms, out, f, set, st);
     if !o.split {
@@ -121,14 +122,14 @@ pub(crate) fn open(terms: &[u8], out: &mut [u8], f: Frame, set: Set, st: State) 
 
 // Runs the factor pairs of m: one step each, and a child is walked to its end before the next pair.
 fn pairs(terms: &[u8], out: &mut [u8], f: Frame, set: Set, m: Monomial, st: State) -> Turn
-    requires { ⌜ Ready (f .n) (now terms) (f .level) set (st .count) (now out) × Splits (f .n) (now terms) (f .level) set (m .e) ⌝ }
+    requires { ⌜ Ready (f .panel .n) (now terms) (f .level) set (st .count) (now out) × Splits (f .panel .n) (now terms) (f .level) set (m .e) ⌝ }
     ensures { λ r. ⌜ ((d : ℕ) (finds : Finds) → f .level - set .len ≤ d → Shown finds (st .count) (now (out .entry)) →
         Tells r (now (out .exit))
         (run (f .limit) (length (now (out .entry)) / setBytes)
-        (triedAll bare (f .n) (system (records (now (terms .entry)))) (f .level) (opened bare (f .n) (system (records (now (terms .entry)))) (f .level) d) (monomialsOf set) (m .e))
+        (triedAll (rulesOf (f .panel)) (f .panel .n) (system (records (now (terms .entry)))) (f .level) (opened (rulesOf (f .panel)) (f .panel .n) (system (records (now (terms .entry)))) (f .level) d) (monomialsOf set) (m .e))
         (st .steps) finds)) ⌝ }
 {
-    let v = signals::signals_of(f.n, set);
+    let v = signals::signals_of(f.panel.n, set);
     let mut cur = st;
     let mut a = Monomial::ONE;
     while a.leads(m) {
@@ -141,7 +142,7 @@ fn pairs(terms: &[u8], out: &mut [u8], f: Frame, set: Set, m: Monomial, st: Stat
             steps: taken + 1,
             count: seen,
         };
-        let t = children::offer(f.level, v, set, a, m.over(a));
+        let t = children::offer(f.level, f.panel, v, set, a, m.over(a));
         if t.go {
             let c = t.set;
             match open(terms, out, f, c, cur) {

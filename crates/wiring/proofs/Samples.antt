@@ -1,11 +1,12 @@
 -- Wiring, computed by the definitions from the bytes of the records, beside replies and buffers that were worked outside the
--- project: document 01's rows, each refusal, and both sides of each limit. One table, one claim. Assumes nothing.
+-- project: document 01's rows, each refusal, both sides of each limit, and signals. One table, one claim. Assumes nothing.
 use mathlib.Core.Path.{_≡_, refl}
 use mathlib.Core.List.{List, [], _∷_, _++_, map}
 use Prim.Native.Nat.{ℕ, _*_, _-_}
 use lib.ListN.{length, replicate}
 use Rattle.monomial.specs.Lists.{any, some, all, keep, place, gather, below, pairwise, pointwise, dictionary, insertBy, arrangeBy}
 use Rattle.monomial.specs.Monomial.{vars}
+use Rattle.wiring.specs.Sockets.{panelOf, halved, marked, countRight, panelRight, free, mayBe}
 use Rattle.wiring.specs.Reply.{Numbers, five, Outcome}
 use Rattle.wiring.specs.Coefficient.{signed, unsigned, isZero}
 use Rattle.wiring.specs.Poly.{coeff, times, support}
@@ -15,7 +16,7 @@ use Rattle.wiring.specs.Signals.{signals}
 use Rattle.wiring.specs.Terms.{records, lengthRight, exponentsRight, coefficientRight, termRight, faultFrom, equation, system}
 use Rattle.wiring.specs.Sets.{places, sizeOf, setOf, ascending, monomialRight, setRight}
 use Rattle.wiring.specs.Wires.{firstOf, secondOf, row as rowOf, rowsFrom, wiring, wireRecord}
-use Rattle.wiring.specs.Answers.{countRight, firstUnmet, judged, recordJudged, verdict, listed, told, wired}
+use Rattle.wiring.specs.Answers.{firstUnmet, judged, recordJudged, verdict, listed, told, wired}
 
 record Row : Type 0 where
   got : Outcome
@@ -41,8 +42,12 @@ wire left first second coefficient = left ∷ first ∷ second ∷ 0 ∷ coeffic
 set : List (List ℕ) → List ℕ
 set s = gather padded s ++ replicate (36 - 6 * length s) 0
 
+-- with marks, and with none
+fed : ℕ → ℕ → List ℕ → List ℕ → ℕ → Numbers → List ℕ → Row
+fed n marks terms s size said bytes = record { got = wired (panelOf n marks) terms s size; want = record { said = said; bytes = bytes } }
+
 row : ℕ → List ℕ → List ℕ → ℕ → Numbers → List ℕ → Row
-row n terms s size said bytes = record { got = wired n terms s size; want = record { said = said; bytes = bytes } }
+row n = fed n 0
 
 table : List Row
 table =
@@ -223,10 +228,33 @@ table =
     ∷ row 1 (term 1 0 (10 ∷ []) (plus 1))
     (set ((1 ∷ []) ∷ [])) 3
     (five 3 0 0 0 1) (replicate 3 0)
+    -- document 000's example 5.3, x1' = x1 + x1 u and x2' = x1^2 u, with {x1^2}: nothing is listed for the signal u
+    ∷ fed 3 4 (term 1 0 (1 ∷ []) (plus 1) ++ term 1 0 (1 ∷ 0 ∷ 1 ∷ []) (plus 1) ++ term 2 0 (2 ∷ 0 ∷ 1 ∷ []) (plus 1))
+    (set ((2 ∷ []) ∷ [])) 48
+    (five 0 1 5 0 0) (wire 1 0 1 (plus 1) ++ wire 1 1 3 (plus 1) ++ wire 2 3 4 (plus 1) ++ wire 4 0 4 (plus 2) ++ wire 4 3 4 (plus 2) ++ replicate 8 0)
+    -- x1' = x1^3 + u x1 with {x1^2}, and x1' = x1^3 + u^2 x1
+    ∷ fed 2 2 (term 1 0 (3 ∷ []) (plus 1) ++ term 1 0 (1 ∷ 1 ∷ []) (plus 1))
+    (set ((2 ∷ []) ∷ [])) 32
+    (five 0 1 4 0 0) (wire 1 1 2 (plus 1) ++ wire 1 1 3 (plus 1) ++ wire 3 2 3 (plus 2) ++ wire 3 3 3 (plus 2))
+    ∷ fed 2 2 (term 1 0 (3 ∷ []) (plus 1) ++ term 1 0 (1 ∷ 2 ∷ []) (plus 1))
+    (set ((2 ∷ []) ∷ [])) 3
+    (five 9 1 0 0 1) (replicate 3 0)
+    -- x1' = x1^2 u with {x1 u}: 8 where u is a signal
+    ∷ fed 2 2 (term 1 0 (2 ∷ 1 ∷ []) (plus 1))
+    (set ((1 ∷ 1 ∷ []) ∷ [])) 3
+    (five 8 0 0 0 0) (replicate 3 0)
+    -- a mark at n, before a length
+    ∷ fed 2 4 (replicate 11 0)
+    (set []) 3
+    (five 1 0 0 0 0) (replicate 3 0)
+    -- the equation of a signal, though it repeats a record
+    ∷ fed 2 1 (term 2 0 (2 ∷ []) (plus 1) ++ term 1 0 (2 ∷ []) (plus 1) ++ term 1 0 (2 ∷ []) (plus 1))
+    (set []) 3
+    (five 3 0 0 0 2) (replicate 3 0)
     ∷ []
 
 sampled : map (λ r. r .got) table ≡ map (λ r. r .want) table
-unfolding table row term plus minus wire set padded wired told listed verdict recordJudged judged firstUnmet countRight records
+unfolding table fed row term plus minus wire set padded wired told listed verdict recordJudged judged firstUnmet halved marked countRight panelRight free mayBe records
     lengthRight exponentsRight coefficientRight termRight faultFrom equation system places sizeOf setOf ascending monomialRight
     setRight firstOf secondOf rowOf rowsFrom wiring wireRecord signals factor inV2 unmet nonsquares partsFrom derivative coeff
     times support signed unsigned isZero vars any some all keep place gather below pairwise pointwise dictionary insertBy

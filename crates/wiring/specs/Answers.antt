@@ -9,6 +9,7 @@ use lib.ListN.{length, replicate}
 use Rattle.monomial.specs.Lists.{some, gather, place}
 use Rattle.monomial.specs.Monomial.{Mono, width}
 use Rattle.wiring.specs.Panel.{cards, setBytes, setExponent, wireBytes}
+use Rattle.wiring.specs.Sockets.{panelRight}
 use Rattle.wiring.specs.Reply.{numbers, Outcome, outcome, refused}
 use Rattle.wiring.specs.Poly.{Poly, plain}
 use Rattle.wiring.specs.Derivative.{derivative}
@@ -18,6 +19,7 @@ use Rattle.wiring.specs.Terms.{records, lengthRight, fault, system, Clea
 use Rattle.wiring.specs.Sets.{setOf, setRight, monomialsOf}
 use Rattle.wiring.specs.Wires.{Wire, wiring, wireRecord}
 use Rattle.wiring.specs.declared.answers.Given.{Given}
+use Rattle.wiring.specs.declared.panel.Panel.{Panel}
 use Rattle.wiring.specs.declared.reply.Reply.{Reply}
 use Rattle.wiring.specs.declared.reply.Reply.the-variants.{Done, Setting, Length, Term, Twice, Full, BadSet, NotQuadratic}
 use Rattle.wiring.specs.declared.sets.Set.{Set}
@@ -27,10 +29,6 @@ use Rattle.wiring.specs.declared.terms.Fault.the-variants.{Clean, Wrong,
 -- a test that holds lets the checks go on; else this is said
 abbrev pub unless : Bool → Reply → Reply → Reply
 unless test answer rest = cond test rest answer
-
--- n is from 1 to the number of variables
-unfoldable pub countRight : ℕ → Bool
-countRight n = leb 1 n && leb n width
 
 -- a refusal of the records, as it is answered; clean records let the checks go on
 abbrev pub unlessFault : {A : Type 0} → (Reply → A) → Fault → A → A
@@ -54,14 +52,14 @@ module _ (n : ℕ) (fs : List (Poly Mono)) (s : List Mono) where
   judged = unless (not (some missing)) (NotQuadratic (length s) firstUnmet) (Done (length s) 0 0)
 
 -- of a set record, and of all three in the order of the checks
-unfoldable pub recordJudged : ℕ → List (Poly Mono) → List ℕ → Reply
-recordJudged n fs set = unless (setRight n set) BadSet (judged n fs (setOf set))
+unfoldable pub recordJudged : Panel → List (Poly Mono) → List ℕ → Reply
+recordJudged panel fs set = unless (setRight panel set) BadSet (judged (panel .n) fs (setOf set))
 
-unfoldable pub verdict : ℕ → List ℕ → List ℕ → Reply
-verdict n terms set =
-    let last = recordJudged n (system (records terms)) set in
-    let read = unlessFault (λ r. r) (fault n (records terms)) last in
-    unless (countRight n) Setting (unless (lengthRight terms && eqb (length set) setBytes) Length read)
+unfoldable pub verdict : Panel → List ℕ → List ℕ → Reply
+verdict panel terms set =
+    let last = recordJudged panel (system (records terms)) set in
+    let read = unlessFault (λ r. r) (fault panel (records terms)) last in
+    unless (panelRight panel) Setting (unless (lengthRight terms && eqb (length set) setBytes) Length read)
 
 -- the list, then zeros; or no room for it
 unfoldable pub listed : ℕ → List Wire → ℕ → Outcome
@@ -74,8 +72,8 @@ unfoldable pub told : Reply → List Wire → ℕ → Outcome
 told said list size = cond (eqb (numbers said .code) 0) (listed (numbers said .order) list size) (refused said size)
 
 -- wiring: the verdict on what was given, with the list of the set
-unfoldable pub wired : ℕ → List ℕ → List ℕ → ℕ → Outcome
-wired n terms set size = told (verdict n terms set) (wires n (system (records terms)) (setOf set)) size
+unfoldable pub wired : Panel → List ℕ → List ℕ → ℕ → Outcome
+wired panel terms set size = told (verdict panel terms set) (wires (panel .n) (system (records terms)) (setOf set)) size
 
 -- ---- as the code reads what was given
 -- a set that can be judged
@@ -86,22 +84,22 @@ pub record Judgeable (n : ℕ) (terms : List ℕ) (set : Set) : Type 0 where
   pub fits : Fitting setExponent (monomialsOf set)
 
 -- the set of a record is read; whether the record keeps its rule decides
-pub record Reads (n : ℕ) (bytes : List ℕ) (g : Given) : Type 0 where
-  pub right : g .good ≡ setRight n bytes
+pub record Reads (panel : Panel) (bytes : List ℕ) (g : Given) : Type 0 where
+  pub right : g .good ≡ setRight panel bytes
   pub said : g .said ≡ BadSet
   pub holds : g .good ≡ true → monomialsOf (g .set) ≡ setOf bytes
   pub small : g .set .len ≤ cards
 
 -- the set is taken, so that the verdict is about it; or what was given is refused
-pub record Takes (n : ℕ) (terms bytes : List ℕ) (set : Set) : Type 0 where
-  pub says : verdict n terms bytes ≡ judged n (system (records terms)) (setOf bytes)
+pub record Takes (panel : Panel) (terms bytes : List ℕ) (set : Set) : Type 0 where
+  pub says : verdict panel terms bytes ≡ judged (panel .n) (system (records terms)) (setOf bytes)
   pub holds : monomialsOf set ≡ setOf bytes
-  pub judgeable : Judgeable n terms set
+  pub judgeable : Judgeable (panel .n) terms set
 
-pub record Refuses (n : ℕ) (terms bytes : List ℕ) (r : Reply) : Type 0 where
-  pub says : verdict n terms bytes ≡ r
+pub record Refuses (panel : Panel) (terms bytes : List ℕ) (r : Reply) : Type 0 where
+  pub says : verdict panel terms bytes ≡ r
   pub code : numbers r .code ≡ 0 → ⊥
 
-pub record Gives (n : ℕ) (terms bytes : List ℕ) (g : Given) : Type 0 where
-  pub taken : g .good ≡ true → Takes n terms bytes (g .set)
-  pub refused : g .good ≡ false → Refuses n terms bytes (g .said)
+pub record Gives (panel : Panel) (terms bytes : List ℕ) (g : Given) : Type 0 where
+  pub taken : g .good ≡ true → Takes panel terms bytes (g .set)
+  pub refused : g .good ≡ false → Refuses panel terms bytes (g .said)

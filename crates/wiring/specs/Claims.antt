@@ -2,27 +2,29 @@
 -- Assumes nothing.
 use mathlib.Core.Path.{_≡_}
 use mathlib.Core.Logic.{_⊎_, _↔_}
-use mathlib.Core.Bool.{cond}
+use mathlib.Core.Bool.{true, false, not, cond, _&&_}
 use mathlib.Core.List.{List, [], _∷_, _++_, map}
 use Prim.Native.Nat.{ℕ, suc, _*_, _-_, _%_, _≤_, _<_}
-use lib.Dec.{T, eqb}
+use lib.Dec.{T, eqb, leb}
 use lib.IntN.{ℤ, pos, natAbs, _+ℤ_, _*ℤ_}
 use lib.ListN.{length, getD, take, drop, replicate}
-use Rattle.monomial.specs.Lists.{keep, gather, below}
+use Rattle.monomial.specs.Lists.{any, keep, gather, below}
 use Rattle.monomial.specs.Monomial.{Mono, constants, width}
-use Rattle.monomial.specs.Order.{before}
+use Rattle.monomial.specs.Order.{same, before}
 use Rattle.monomial.specs.Claims.{_∈_, Ascending}
 use Rattle.wiring.specs.Panel.{cards, termBytes, termsBytes, termExponent, mostCoefficient, setBytes, setExponent, wireBytes, mostWires}
+use Rattle.wiring.specs.Sockets.{panelOf, marked, countRight, panelRight, free}
 use Rattle.wiring.specs.Reply.{numbers}
 use Rattle.wiring.specs.Coefficient.{word, signed}
 use Rattle.wiring.specs.Poly.{Kind, Poly, plain, Same, coeff, support}
 use Rattle.wiring.specs.Derivative.{derivative}
 use Rattle.wiring.specs.Quadratic.{Product, multiplied, Linked, Quadratic}
 use Rattle.wiring.specs.Signals.{signals}
-use Rattle.wiring.specs.Terms.{Record, records, alike, system}
-use Rattle.wiring.specs.Sets.{sizeOf, setOf}
+use Rattle.wiring.specs.Terms.{Record, records, exponentsRight, coefficientRight, termRight, alike, system}
+use Rattle.wiring.specs.Sets.{sizeOf, setOf, monomialRight}
 use Rattle.wiring.specs.Wires.{Wire, signal, wireList}
 use Rattle.wiring.specs.Answers.{wires}
+use Rattle.wiring.specs.declared.panel.Panel.{Panel}
 use Rattle.wiring.specs.declared.reply.Reply.{Reply}
 use Rattle.wiring.specs.declared.reply.Reply.the-variants.{Done, Setting, Length, Term, Twice, Nothing, Full, Spent, BadSet, NotQuadratic}
 
@@ -32,18 +34,19 @@ pub record Measured (bytes : List ℕ) : Type 0 where
   pub divided : length bytes % termBytes ≡ 0
   pub limited : length bytes ≤ termsBytes
 
--- a record's rule, field by field
-pub record Keeps (n : ℕ) (r : Record) : Type 0 where
+-- a record's rule, field by field; no signal has an equation
+pub record Keeps (panel : Panel) (r : Record) : Type 0 where
   pub low : 1 ≤ r .equation
-  pub high : r .equation ≤ n
+  pub high : r .equation ≤ panel .n
+  pub unfed : marked (panel .marks) (r .equation - 1) ≡ false
   pub blank : r .blank ≡ 0
   pub small : (i : ℕ) → getD (r .monomial) i 0 ≤ termExponent
-  pub beyond : (i : ℕ) → n ≤ i → getD (r .monomial) i 0 ≡ 0
+  pub beyond : (i : ℕ) → panel .n ≤ i → getD (r .monomial) i 0 ≡ 0
   pub nonzero : r .coefficient ≡ pos 0 → ⊥
   pub limited : natAbs (r .coefficient) ≤ mostCoefficient
 
 -- which record decides. Records are numbered from 0; d stands for a record beyond the last, of which nothing is said
-module _ (n : ℕ) (rs : List Record) (d : Record) where
+module _ (panel : Panel) (rs : List Record) (d : Record) where
   -- records i and j have the same equation and exponents
   pub record Alike (i j : ℕ) : Type 0 where
     pub equations : getD rs i d .equation ≡ getD rs j d .equation
@@ -51,7 +54,7 @@ module _ (n : ℕ) (rs : List Record) (d : Record) where
 
   -- record i keeps its rule and repeats none before it
   pub record Fine (i : ℕ) : Type 0 where
-    pub keeps : Keeps n (getD rs i d)
+    pub keeps : Keeps panel (getD rs i d)
     pub new : (j : ℕ) → j < i → Alike i j → ⊥
 
   -- place p: its record breaks the rule, and those before it are fine
@@ -59,7 +62,7 @@ module _ (n : ℕ) (rs : List Record) (d : Record) where
     pub number : ℕ
     pub counted : number < length rs
     pub place : p ≡ suc number
-    pub wrong : Keeps n (getD rs number d) → ⊥
+    pub wrong : Keeps panel (getD rs number d) → ⊥
     pub before : (j : ℕ) → j < number → Fine j
 
   -- place p: its record keeps the rule and repeats an earlier one, and those before it are fine
@@ -67,7 +70,7 @@ module _ (n : ℕ) (rs : List Record) (d : Record) where
     pub number : ℕ
     pub counted : number < length rs
     pub place : p ≡ suc number
-    pub keeps : Keeps n (getD rs number d)
+    pub keeps : Keeps panel (getD rs number d)
     pub earlier : ℕ
     pub sooner : earlier < number
     pub same : Alike number earlier
@@ -75,7 +78,7 @@ module _ (n : ℕ) (rs : List Record) (d : Record) where
 
   -- every record keeps its rule, and no two are alike
   pub record Flawless : Type 0 where
-    pub keeps : (i : ℕ) → i < length rs → Keeps n (getD rs i d)
+    pub keeps : (i : ℕ) → i < length rs → Keeps panel (getD rs i d)
     pub apart : (i j : ℕ) → j < i → i < length rs → Alike i j → ⊥
 
 -- that record
@@ -123,38 +126,60 @@ pub record Permitted (n : ℕ) (s : List Mono) : Type 0 where
   pub small : (m : Mono) → m ∈ s → (i : ℕ) → getD m i 0 ≤ setExponent
   pub within : (m : Mono) → m ∈ s → (i : ℕ) → n ≤ i → getD m i 0 ≡ 0
 
--- such a set, and zero bytes behind it
-pub record RightRecord (n : ℕ) (bytes : List ℕ) : Type 0 where
-  pub zeros : (k : ℕ) → width * sizeOf bytes ≤ k → getD bytes k 0 ≡ 0
-  pub permitted : Permitted n (setOf bytes)
-
 -- such a set of no more monomials than there are cards, of the panel's width
 pub record Recordable (n : ℕ) (s : List Mono) : Type 0 where
   pub few : length s ≤ cards
   pub wide : (m : Mono) → m ∈ s → length m ≡ width
   pub permitted : Permitted n s
 
+-- no monomial of the list holds a signal that is fed from outside
+abbrev pub Free : ℕ → List Mono → Type 0
+Free marks s = (m : Mono) → m ∈ s → (i : ℕ) → marked marks i ≡ true → getD m i 0 ≡ 0
+
+-- what a set may hold, without such signals, and zero bytes behind it
+pub record RightRecord (panel : Panel) (bytes : List ℕ) : Type 0 where
+  pub zeros : (k : ℕ) → width * sizeOf bytes ≤ k → getD bytes k 0 ≡ 0
+  pub permitted : Permitted (panel .n) (setOf bytes)
+  pub free : Free (panel .marks) (setOf bytes)
+
 -- ---- the verdict
-abbrev pub Ranged : ℕ → Type 0
-Ranged n = (1 ≤ n) × (n ≤ width)
+-- n is a number of variables, and no bit at or above it marks one
+pub record Ranged (panel : Panel) : Type 0 where
+  pub low : 1 ≤ panel .n
+  pub high : panel .n ≤ width
+  pub known : (i : ℕ) → panel .n ≤ i → marked (panel .marks) i ≡ false
 
 pub record Lengths (terms set : List ℕ) : Type 0 where
   pub measured : Measured terms
   pub long : length set ≡ setBytes
 
--- what all three have to be for a set to be judged
-pub record WellFormed (n : ℕ) (terms set : List ℕ) : Type 0 where
-  pub ranged : Ranged n
+-- what all of them have to be for a set to be judged
+pub record WellFormed (panel : Panel) (terms set : List ℕ) : Type 0 where
+  pub ranged : Ranged panel
   pub lengths : Lengths terms set
-  pub flawless : Flawless n (records terms) beyond
-  pub right : RightRecord n set
+  pub flawless : Flawless panel (records terms) beyond
+  pub right : RightRecord panel set
 
--- the signals of the set, and the derivation of the system
-abbrev pub signalsIn : ℕ → List ℕ → List Mono
-signalsIn n set = signals width n (setOf set)
+-- V of the set
+abbrev pub signalsIn : Panel → List ℕ → List Mono
+signalsIn panel set = signals width (panel .n) (setOf set)
 
-abbrev pub derivativeIn : List ℕ → Mono → Poly Mono
-derivativeIn terms = derivative plain (system (records terms))
+-- Definition 1 over the left variables that have an equation: the derivative of each member of v without signals is a list of products of two members
+abbrev pub LeftLinked : ℕ → List (Poly Mono) → List Mono → Type 0
+LeftLinked marks fs v = (z : Mono) → z ∈ v → T (free marks z) → Linked plain v (derivative plain fs z)
+
+-- the derivative of what has one: 1, the variables that have an equation, and the monomials in these. Of what holds a signal nothing is asked, so
+-- that Definition 1 by this derivation is `LeftLinked` (`over-the-left`)
+unfoldable pub slope : ℕ → List (Poly Mono) → Mono → Poly Mono
+slope marks fs z = cond (free marks z) (derivative plain fs z) []
+
+-- gs is a system with the equations of fs, and any equations whatever of the signals
+pub record Driven (marks : ℕ) (fs gs : List (Poly Mono)) : Type 0 where
+  pub long : length gs ≡ length fs
+  pub own : (i : ℕ) → marked marks i ≡ false → getD gs i [] ≡ getD fs i []
+
+abbrev pub derivativeIn : Panel → List ℕ → Mono → Poly Mono
+derivativeIn panel terms = slope (panel .marks) (system (records terms))
 
 -- number i is the first member of v whose derivative by d is no list of products of two members; x stands for one beyond the last
 pub record FirstUnlinked {M : Type 0} (k : Kind M) (v : List M) (d : M → Poly M) (x : M) (i : ℕ) : Type 0 where
@@ -163,19 +188,19 @@ pub record FirstUnlinked {M : Type 0} (k : Kind M) (v : List M) (d : M → Poly 
   pub earlier : (j : ℕ) → j < i → Linked k v (d (getD v j x))
 
 -- what each verdict says: a refusal, or done where Definition 1 holds
-abbrev pub VerdictSays : ℕ → List ℕ → List ℕ → Reply → Type 0
-VerdictSays n terms set Setting = Ranged n → ⊥
-VerdictSays n terms set Length = Ranged n × ((Measured terms → ⊥) ⊎ (length set ≡ setBytes → ⊥))
-VerdictSays n terms set (Term p) = Ranged n × Lengths terms set × Breaks n (records terms) beyond p
-VerdictSays n terms set (Twice p) = Ranged n × Lengths terms set × Repeats n (records terms) beyond p
-VerdictSays n terms set BadSet = Ranged n × Lengths terms set × Flawless n (records terms) beyond × (RightRecord n set → ⊥)
-VerdictSays n terms set (NotQuadratic o p) =
-    WellFormed n terms set × (o ≡ length (setOf set)) × FirstUnlinked plain (signalsIn n set) (derivativeIn terms) [] p
-VerdictSays n terms set (Done o c k) =
-    WellFormed n terms set × (o ≡ length (setOf set)) × (c ≡ 0) × (k ≡ 0) × Quadratic plain (signalsIn n set) (derivativeIn terms)
-VerdictSays n terms set (Nothing o k) = ⊥
-VerdictSays n terms set (Full o k) = ⊥
-VerdictSays n terms set (Spent o k) = ⊥
+abbrev pub VerdictSays : Panel → List ℕ → List ℕ → Reply → Type 0
+VerdictSays panel terms set Setting = Ranged panel → ⊥
+VerdictSays panel terms set Length = Ranged panel × ((Measured terms → ⊥) ⊎ (length set ≡ setBytes → ⊥))
+VerdictSays panel terms set (Term p) = Ranged panel × Lengths terms set × Breaks panel (records terms) beyond p
+VerdictSays panel terms set (Twice p) = Ranged panel × Lengths terms set × Repeats panel (records terms) beyond p
+VerdictSays panel terms set BadSet = Ranged panel × Lengths terms set × Flawless panel (records terms) beyond × (RightRecord panel set → ⊥)
+VerdictSays panel terms set (NotQuadratic o p) =
+    WellFormed panel terms set × (o ≡ length (setOf set)) × FirstUnlinked plain (signalsIn panel set) (derivativeIn panel terms) [] p
+VerdictSays panel terms set (Done o c k) =
+    WellFormed panel terms set × (o ≡ length (setOf set)) × (c ≡ 0) × (k ≡ 0) × Quadratic plain (signalsIn panel set) (derivativeIn panel terms)
+VerdictSays panel terms set (Nothing o k) = ⊥
+VerdictSays panel terms set (Full o k) = ⊥
+VerdictSays panel terms set (Spent o k) = ⊥
 
 -- ---- the wiring list
 -- the product of the two signals of a record, and the record as a product of members of v
@@ -224,60 +249,74 @@ pub record Decodes (x : Wire) (bytes : List ℕ) : Type 0 where
 
 -- ---- wiring
 -- the list of a set record
-abbrev pub listIn : ℕ → List ℕ → List ℕ → List Wire
-listIn n terms set = wires n (system (records terms)) (setOf set)
+abbrev pub listIn : Panel → List ℕ → List ℕ → List Wire
+listIn panel terms set = wires (panel .n) (system (records terms)) (setOf set)
 
 -- what each reply says: a verdict that refuses, or whether the list fits a buffer of this size
-abbrev pub WireSays : ℕ → List ℕ → List ℕ → ℕ → Reply → Type 0
-WireSays n terms set size (Done o c k) =
-    WellFormed n terms set × Quadratic plain (signalsIn n set) (derivativeIn terms)
-    × (o ≡ length (setOf set)) × (c ≡ length (listIn n terms set)) × (k ≡ 0) × (wireBytes * length (listIn n terms set) ≤ size)
-WireSays n terms set size (Full o k) =
-    WellFormed n terms set × Quadratic plain (signalsIn n set) (derivativeIn terms)
-    × (o ≡ length (setOf set)) × (k ≡ 0) × (size < wireBytes * length (listIn n terms set))
-WireSays n terms set size Setting = VerdictSays n terms set Setting
-WireSays n terms set size Length = VerdictSays n terms set Length
-WireSays n terms set size (Term p) = VerdictSays n terms set (Term p)
-WireSays n terms set size (Twice p) = VerdictSays n terms set (Twice p)
-WireSays n terms set size BadSet = VerdictSays n terms set BadSet
-WireSays n terms set size (NotQuadratic o p) = VerdictSays n terms set (NotQuadratic o p)
-WireSays n terms set size (Nothing o k) = ⊥
-WireSays n terms set size (Spent o k) = ⊥
+abbrev pub WireSays : Panel → List ℕ → List ℕ → ℕ → Reply → Type 0
+WireSays panel terms set size (Done o c k) =
+    WellFormed panel terms set × Quadratic plain (signalsIn panel set) (derivativeIn panel terms)
+    × (o ≡ length (setOf set)) × (c ≡ length (listIn panel terms set)) × (k ≡ 0) × (wireBytes * length (listIn panel terms set) ≤ size)
+WireSays panel terms set size (Full o k) =
+    WellFormed panel terms set × Quadratic plain (signalsIn panel set) (derivativeIn panel terms)
+    × (o ≡ length (setOf set)) × (k ≡ 0) × (size < wireBytes * length (listIn panel terms set))
+WireSays panel terms set size Setting = VerdictSays panel terms set Setting
+WireSays panel terms set size Length = VerdictSays panel terms set Length
+WireSays panel terms set size (Term p) = VerdictSays panel terms set (Term p)
+WireSays panel terms set size (Twice p) = VerdictSays panel terms set (Twice p)
+WireSays panel terms set size BadSet = VerdictSays panel terms set BadSet
+WireSays panel terms set size (NotQuadratic o p) = VerdictSays panel terms set (NotQuadratic o p)
+WireSays panel terms set size (Nothing o k) = ⊥
+WireSays panel terms set size (Spent o k) = ⊥
 
 -- and what it leaves in the buffer: the list, then zeros, or only zeros
-abbrev pub wireLeaves : ℕ → List ℕ → List ℕ → ℕ → Reply → List ℕ
-wireLeaves n terms set size r =
-    cond (eqb (numbers r .code) 0) (wireList (listIn n terms set) ++ replicate (size - wireBytes * length (listIn n terms set)) 0) (replicate size 0)
+abbrev pub wireLeaves : Panel → List ℕ → List ℕ → ℕ → Reply → List ℕ
+wireLeaves panel terms set size r =
+    cond (eqb (numbers r .code) 0) (wireList (listIn panel terms set) ++ replicate (size - wireBytes * length (listIn panel terms set)) 0) (replicate size 0)
 
 -- what the bytes of a list say: so many records, each in its place, then zeros; their list is correct
-pub record Patch (n : ℕ) (terms set : List ℕ) (count : ℕ) (bytes : List ℕ) : Type 0 where
+pub record Patch (panel : Panel) (terms set : List ℕ) (count : ℕ) (bytes : List ℕ) : Type 0 where
   pub list : List Wire
   pub counted : count ≡ length list
   pub most : count ≤ mostWires
-  pub correct : Correct plain (signalsIn n set) (derivativeIn terms) list
+  pub correct : Correct plain (signalsIn panel set) (derivativeIn panel terms) list
   pub written : (j : ℕ) (none : Wire) → j < count → Decodes (getD list j none) (take wireBytes (drop (wireBytes * j) bytes))
   pub rest : (k : ℕ) → wireBytes * count ≤ k → getD bytes k 0 ≡ 0
 
 -- ---- the verdict alone
 -- what was given is well-formed, and quadratic by Definition 1
-pub record QuadraticIn (n : ℕ) (terms set : List ℕ) : Type 0 where
-  pub formed : WellFormed n terms set
-  pub quadratic : Quadratic plain (signalsIn n set) (derivativeIn terms)
+pub record QuadraticIn (panel : Panel) (terms set : List ℕ) : Type 0 where
+  pub formed : WellFormed panel terms set
+  pub quadratic : Quadratic plain (signalsIn panel set) (derivativeIn panel terms)
 
 -- it is well-formed, and not quadratic
-pub record Unquadratic (n : ℕ) (terms set : List ℕ) : Type 0 where
-  pub formed : WellFormed n terms set
-  pub not : Quadratic plain (signalsIn n set) (derivativeIn terms) → ⊥
+pub record Unquadratic (panel : Panel) (terms set : List ℕ) : Type 0 where
+  pub formed : WellFormed panel terms set
+  pub not : Quadratic plain (signalsIn panel set) (derivativeIn panel terms) → ⊥
 
 -- the verdict that a reply tells, whatever the buffer: quadratic is done or full
-pub record TellsVerdict (n : ℕ) (terms set : List ℕ) (r : Reply) : Type 0 where
-  pub quadratic : ((numbers r .code ≡ 0) ⊎ (numbers r .code ≡ 6)) ↔ QuadraticIn n terms set
-  pub not-quadratic : (numbers r .code ≡ 9) ↔ Unquadratic n terms set
+pub record TellsVerdict (panel : Panel) (terms set : List ℕ) (r : Reply) : Type 0 where
+  pub quadratic : ((numbers r .code ≡ 0) ⊎ (numbers r .code ≡ 6)) ↔ QuadraticIn panel terms set
+  pub not-quadratic : (numbers r .code ≡ 9) ↔ Unquadratic panel terms set
   -- every other code says that what was given is not well-formed
-  pub refused : ((numbers r .code ≡ 0 → ⊥) × (numbers r .code ≡ 6 → ⊥) × (numbers r .code ≡ 9 → ⊥)) ↔ (WellFormed n terms set → ⊥)
+  pub refused : ((numbers r .code ≡ 0 → ⊥) × (numbers r .code ≡ 6 → ⊥) × (numbers r .code ≡ 9 → ⊥)) ↔ (WellFormed panel terms set → ⊥)
 
 -- and where the buffer is shorter than a record, done says besides that there is nothing to list, and full that there is something
-pub record VerdictAlone (n : ℕ) (terms set : List ℕ) (r : Reply) : Type 0 where
-  pub tells : TellsVerdict n terms set r
-  pub done : (numbers r .code ≡ 0) ↔ (QuadraticIn n terms set × (listIn n terms set ≡ []))
-  pub full : (numbers r .code ≡ 6) ↔ (QuadraticIn n terms set × (listIn n terms set ≡ [] → ⊥))
+pub record VerdictAlone (panel : Panel) (terms set : List ℕ) (r : Reply) : Type 0 where
+  pub tells : TellsVerdict panel terms set r
+  pub done : (numbers r .code ≡ 0) ↔ (QuadraticIn panel terms set × (listIn panel terms set ≡ []))
+  pub full : (numbers r .code ≡ 6) ↔ (QuadraticIn panel terms set × (listIn panel terms set ≡ [] → ⊥))
+
+-- ---- whatever the equations of the signals are
+-- the rows of a list are the derivatives by gs of the left variables that have an equation, and there are no others
+pub record DrivenList (marks : ℕ) (gs : List (Poly Mono)) (v : List Mono) (list : List Wire) : Type 0 where
+  pub rows : (i : ℕ) → i < length v → T (free marks (signal plain v i)) → Row plain v i (derivative plain gs (signal plain v i)) (rowOf i list)
+  pub others : (i : ℕ) → i < length v → (T (free marks (signal plain v i)) → ⊥) → rowOf i list ≡ []
+
+-- ---- with no marks each test is document 01's, and the derivative is that of every monomial
+pub record Unmarked (n : ℕ) : Type 0 where
+  pub settings : panelRight (panelOf n 0) ≡ countRight n
+  pub terms : (r : Record) → termRight (panelOf n 0) r
+      ≡ leb 1 (r .equation) && leb (r .equation) n && eqb (r .blank) 0 && exponentsRight termExponent n (r .monomial) && coefficientRight (r .coefficient)
+  pub sets : (m : Mono) → monomialRight (panelOf n 0) m ≡ not (any (same m) (constants width)) && exponentsRight setExponent n m
+  pub slopes : (fs : List (Poly Mono)) → slope 0 fs ≡ derivative plain fs

@@ -9,8 +9,10 @@ use Rattle.monomial.specs.Lists.{any, all, place, below}
 use Rattle.monomial.specs.Monomial.{Mono, one, constants, width}
 use Rattle.monomial.specs.Order.{same, before}
 use Rattle.wiring.specs.Panel.{cards, setBytes, setExponent}
+use Rattle.wiring.specs.Sockets.{mayBe}
 use Rattle.wiring.specs.Signals.{front, flat}
 use Rattle.wiring.specs.Terms.{exponentsRight}
+use Rattle.wiring.specs.declared.panel.Panel.{Panel}
 use Rattle.wiring.specs.declared.sets.Set.{Set}
 use Rattle.wiring.specs.declared.sets.SetRead.{SetRead}
 
@@ -30,12 +32,12 @@ unfoldable pub ascending : List Mono → Bool
 ascending [] = true
 ascending (m ∷ l) = let r = ascending l in all (before m) l && r
 
--- neither 1 nor a single variable, exponents that a set may have, zero beyond xn
-unfoldable pub monomialRight : ℕ → Mono → Bool
-monomialRight n m = not (any (same m) (constants width)) && exponentsRight setExponent n m
+-- neither 1 nor a single variable, exponents that a set may have, zero beyond xn, and what a new monomial may be
+unfoldable pub monomialRight : Panel → Mono → Bool
+monomialRight panel m = not (any (same m) (constants width)) && exponentsRight setExponent (panel .n) m && mayBe panel m
 
-unfoldable pub setRight : ℕ → List ℕ → Bool
-setRight n bytes = all (eqb 0) (drop (width * sizeOf bytes) bytes) && ascending (setOf bytes) && all (monomialRight n) (setOf bytes)
+unfoldable pub setRight : Panel → List ℕ → Bool
+setRight panel bytes = all (eqb 0) (drop (width * sizeOf bytes) bytes) && ascending (setOf bytes) && all (monomialRight panel) (setOf bytes)
 
 -- the record of a set
 unfoldable pub setRecord : List Mono → List ℕ
@@ -46,8 +48,8 @@ abbrev pub monomialsOf : Set → List Mono
 monomialsOf s = front (s .len) (s .m)
 
 -- reading a record: whether it keeps its rule, and then its set
-pub record SetReads (n : ℕ) (bytes : List ℕ) (r : SetRead) : Type 0 where
-  pub right : r .good ≡ setRight n bytes
+pub record SetReads (panel : Panel) (bytes : List ℕ) (r : SetRead) : Type 0 where
+  pub right : r .good ≡ setRight panel bytes
   pub holds : r .good ≡ true → monomialsOf (r .set) ≡ setOf bytes
   pub size : r .good ≡ true → r .set .len ≡ length (setOf bytes)
   pub fits : r .set .len ≤ cards

@@ -2,7 +2,7 @@
 use mathlib.Core.Path.{_≡_}
 use mathlib.Core.Bool.{Bool, not, cond, _&&_}
 use mathlib.Core.List.{List, [], _∷_, _++_, map}
-use Prim.Native.Nat.{ℕ, suc, _+_, _*_, _/_, _%_}
+use Prim.Native.Nat.{ℕ, suc, _+_, _*_, _-_, _/_, _%_}
 use lib.Dec.{eqb, leb}
 use lib.IntN.{ℤ, natAbs}
 use lib.ListN.{length, getD, take, drop}
@@ -10,8 +10,10 @@ use Rattle.monomial.specs.Lists.{any, all, keep, below}
 use Rattle.monomial.specs.Monomial.{Mono, width}
 use Rattle.monomial.specs.Order.{same}
 use Rattle.wiring.specs.Panel.{termBytes, mostTerms, termExponent, mostCoefficient, coefficientAt, monomialAt}
+use Rattle.wiring.specs.Sockets.{panelOf, marked}
 use Rattle.wiring.specs.Coefficient.{word, signed, isZero}
 use Rattle.wiring.specs.Poly.{Poly}
+use Rattle.wiring.specs.declared.panel.Panel.{Panel}
 use Rattle.wiring.specs.declared.terms.Fault.{Fault}
 use Rattle.wiring.specs.declared.terms.Fault.the-variants.{Clean, Wrong, Repeated}
 
@@ -45,30 +47,36 @@ exponentsRight most n m = all (λ e. leb e most) m && all (eqb 0) (drop n m)
 unfoldable pub coefficientRight : ℤ → Bool
 coefficientRight c = not (isZero c) && leb (natAbs c) mostCoefficient
 
--- every field keeps its rule
-unfoldable pub termRight : ℕ → Record → Bool
-termRight n r =
-    leb 1 (r .equation) && leb (r .equation) n && eqb (r .blank) 0 && exponentsRight termExponent n (r .monomial) && coefficientRight (r .coefficient)
+-- every field keeps its rule; the equation is that of a variable that has one
+unfoldable pub termRight : Panel → Record → Bool
+termRight panel r =
+    leb 1 (r .equation) && leb (r .equation) (panel .n) && not (marked (panel .marks) (r .equation - 1)) && eqb (r .blank) 0
+    && exponentsRight termExponent (panel .n) (r .monomial) && coefficientRight (r .coefficient)
 
 -- the same equation and exponents
 abbrev pub alike : Record → Record → Bool
 alike r q = eqb (r .equation) (q .equation) && same (r .monomial) (q .monomial)
 
 -- the first record that is wrong, or repeats an earlier one, decides: 3 before 4 within a record. Places count from 1
-unfoldable pub faultFrom : ℕ → List Record → List Record → Fault
-faultFrom n seen [] = Clean
-faultFrom n seen (r ∷ rs) =
-    let rest = faultFrom n (seen ++ (r ∷ [])) rs in
-    cond (termRight n r) (cond (any (alike r) seen) (Repeated (suc (length seen))) rest) (Wrong (suc (length seen)))
+unfoldable pub faultFrom : Panel → List Record → List Record → Fault
+faultFrom panel seen [] = Clean
+faultFrom panel seen (r ∷ rs) =
+    let rest = faultFrom panel (seen ++ (r ∷ [])) rs in
+    cond (termRight panel r) (cond (any (alike r) seen) (Repeated (suc (length seen))) rest) (Wrong (suc (length seen)))
 
-abbrev pub fault : ℕ → List Record → Fault
-fault n rs = faultFrom n [] rs
+abbrev pub fault : Panel → List Record → Fault
+fault panel rs = faultFrom panel [] rs
 
--- records that some panel takes: those of n variables are clean for all variables
+-- records that some panel of n variables takes: what is clean for any of them is clean for one without marks
+abbrev pub CleanFor : ℕ → List ℕ → Type 0
+CleanFor n bytes = fault (panelOf n 0) (records bytes) ≡ Clean
+
+-- records that some panel takes
 abbrev pub CleanTerms : List ℕ → Type 0
-CleanTerms bytes = fault width (records bytes) ≡ Clean
+CleanTerms = CleanFor width
 
--- the terms of equation number i, from 0, in the records' order; an equation without records is zero
+-- the terms of equation number i, from 0, in the records' order; an equation without records is zero, and that of a signal, which has none, is
+-- asked for by nothing
 unfoldable pub equation : List Record → ℕ → Poly Mono
 equation rs i = map (λ r. (r .coefficient, r .monomial)) (keep (λ r. eqb (r .equation) (suc i)) rs)
 

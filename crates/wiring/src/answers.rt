@@ -1,33 +1,25 @@
-// Wiring: verdict and list of a set in one operation on n, term records and a set record. It assumes nothing of its input.
+// Wiring: verdict and list of a set in one operation on n, marks, term records and a set record. It assumes nothing of its input.
 use super::buffer;
+use super::panel::Panel;
 use super::panel::SET_BYTES;
 use super::reply::Reply;
 use super::sets;
 use super::sets::Set;
 use super::signals;
+use super::sockets;
 use super::terms;
 use super::terms::Fault;
 use super::wires;
 use super::wires::Pass;
-use monomial::width::WIDTH;
 ghost use mathlib.Core.Path.{_≡_};
 ghost use mathlib.Core.Bool.{false};
 ghost use lib.ListN.{length, replicate};
 ghost use Rattle.wiring.specs.Panel.{setBytes};
+ghost use Rattle.wiring.specs.Sockets.{panelOf};
 ghost use Rattle.wiring.specs.Reply.{outcome};
 ghost use Rattle.wiring.specs.Terms.{records, system};
 ghost use Rattle.wiring.specs.Sets.{monomialsOf};
-ghost use Rattle.wiring.specs.Answers.{countRight, judged, told, wires, wired, Judgeable, Reads, Gives};
-
-// Whether n is a number of variables that the panel has.
-pub fn count_right(n: u64) -> bool
-    ensures { λ r. ⌜ r ≡ countRight n ⌝ }
-{
-    if n < 1 {
-        return false;
-    }
-    n <= WIDTH as u64
-}
+ghost use Rattle.wiring.specs.Answers.{judged, told, wires, wired, Judgeable, Reads, Gives};
 
 // What was given: the set of the record where good is true, and else why it is refused before it is judged.
 pub struct Given {
@@ -47,11 +39,11 @@ fn refused(said: Reply) -> Given
 }
 
 // Once the rest is in order, the record decides.
-fn read_given(n: usize, set: &[u8]) -> Given
+fn read_given(panel: Panel, set: &[u8]) -> Given
     requires { ⌜ length (now set) ≡ setBytes ⌝ }
-    ensures { λ r. ⌜ Reads n (now (set .entry)) r ⌝ }
+    ensures { λ r. ⌜ Reads panel (now (set .entry)) r ⌝ }
 {
-    let read = sets::read_set(n, set);
+    let read = sets::read_set(panel, set);
     let held = read.set;
     Given {
         good: read.good,
@@ -61,10 +53,10 @@ fn read_given(n: usize, set: &[u8]) -> Given
 }
 
 // Reads what is given, with the refusals that come before a set is judged. What does something with a given set begins with it.
-pub fn accept(n: u64, terms: &[u8], set: &[u8]) -> Given
-    ensures { λ r. ⌜ Gives n (now (terms .entry)) (now (set .entry)) r ⌝ }
+pub fn accept(n: u64, marks: u64, terms: &[u8], set: &[u8]) -> Given
+    ensures { λ r. ⌜ Gives (panelOf n marks) (now (terms .entry)) (now (set .entry)) r ⌝ }
 {
-    if !count_right(n) {
+    if !sockets::panel_right(n, marks) {
         return refused(Reply::Setting);
     }
     if !terms::length_right(terms) {
@@ -73,8 +65,12 @@ pub fn accept(n: u64, terms: &[u8], set: &[u8]) -> Given
     if set.len() != SET_BYTES {
         return refused(Reply::Length);
     }
-    match terms::fault_of(n as usize, terms) {
-        Fault::Clean => read_given(n as usize, set),
+    let panel = Panel {
+        n: n as usize,
+        marks,
+    };
+    match terms::fault_of(panel, terms) {
+        Fault::Clean => read_given(panel, set),
         Fault::Wrong(place) => refused(Reply::Term { place }),
         Fault::Repeated(place) => refused(Reply::Twice { place }),
     }
@@ -110,11 +106,11 @@ pub fn wire_set(n: usize, terms: &[u8], set: Set, out: &mut [u8]) -> Reply
 }
 
 // Wires a given set: the verdict, and the list in the buffer, then zeros; after a refusal only zeros.
-pub fn wire(n: u64, terms: &[u8], set: &[u8], out: &mut [u8]) -> Reply
-    ensures { λ r. ⌜ outcome r (now (out .exit)) ≡ wired n (now (terms .entry)) (now (set .entry)) (length (now (out .entry))) ⌝ }
+pub fn wire(n: u64, marks: u64, terms: &[u8], set: &[u8], out: &mut [u8]) -> Reply
+    ensures { λ r. ⌜ outcome r (now (out .exit)) ≡ wired (panelOf n marks) (now (terms .entry)) (now (set .entry)) (length (now (out .entry))) ⌝ }
 {
     buffer::clear(out);
-    let g = accept(n, terms, set);
+    let g = accept(n, marks, terms, set);
     if !g.good {
         return g.said;
     }

@@ -12,5 +12,6 @@ pub mod quadratic;
 pub mod reply;
 pub mod sets;
 pub mod signals;
+pub mod sockets;
 pub mod terms;
 pub mod wires;

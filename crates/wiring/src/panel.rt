@@ -1,4 +1,4 @@
-// The numbers of the panel, each once: what follows from another is computed from it.
+// The numbers of the panel, each once: what follows from another is computed from it. And the settings that it is asked with.
 use monomial::width::CONSTANTS;
 use monomial::width::WIDTH;
 
@@ -44,3 +44,9 @@ pub const WIRES_BYTES: usize = WIRE_BYTES * MOST_WIRES;
 
 // The highest limit of steps.
 pub const MOST_STEPS: u64 = 1000000000;
+
+// The settings travel together: how many variables there are, and which of them are signals fed from outside, bit i - 1 for xi.
+pub struct Panel {
+    pub n: usize,
+    pub marks: u64,
+}

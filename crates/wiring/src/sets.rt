@@ -1,6 +1,8 @@
 // Sets of new monomials, held by value, and set records.
 use super::panel::CARDS;
+use super::panel::Panel;
 use super::panel::SET_EXPONENT;
+use super::sockets;
 use super::terms;
 use monomial::Monomial;
 use monomial::width::CONSTANTS;
@@ -48,13 +50,16 @@ fn is_constant(m: Monomial) -> bool
     false
 }
 
-fn monomial_right(n: usize, m: Monomial) -> bool
-    ensures { λ r. ⌜ r ≡ monomialRight n (m .e) ⌝ }
+fn monomial_right(panel: Panel, m: Monomial) -> bool
+    ensures { λ r. ⌜ r ≡ monomialRight panel (m .e) ⌝ }
 {
     if is_constant(m) {
         return false;
     }
-    terms::exponents_right(SET_EXPONENT, n, m)
+    if !terms::exponents_right(SET_EXPONENT, panel.n, m) {
+        return false;
+    }
+    sockets::may_be(panel, m)
 }
 
 // How many places of a record are used: up to the first that is all zero.
@@ -103,13 +108,13 @@ fn ascends(s: &[u8], len: usize) -> bool
 }
 
 // Whether the first len places hold monomials that a set may have.
-fn monomials_right(n: usize, s: &[u8], len: usize) -> bool
+fn monomials_right(panel: Panel, s: &[u8], len: usize) -> bool
     requires { ⌜ (length (now s) ≡ setBytes) × (len ≤ cards) ⌝ }
-    ensures { λ r. ⌜ r ≡ all (monomialRight n) (take len (places (now (s .entry)))) ⌝ }
+    ensures { λ r. ⌜ r ≡ all (monomialRight panel) (take len (places (now (s .entry)))) ⌝ }
 {
     let mut i: usize = 0;
     while i < len {
-        if !monomial_right(n, Monomial::read(s, WIDTH * i)) {
+        if !monomial_right(panel, Monomial::read(s, WIDTH * i)) {
             return false;
         }
         i += 1;
@@ -132,9 +137,9 @@ fn set_of(s: &[u8], len: usize) -> Set
 }
 
 // Reads a set record.
-pub(crate) fn read_set(n: usize, s: &[u8]) -> SetRead
+pub(crate) fn read_set(panel: Panel, s: &[u8]) -> SetRead
     requires { ⌜ length (now s) ≡ setBytes ⌝ }
-    ensures { λ r. ⌜ SetReads n (now (s .entry)) r ⌝ }
+    ensures { λ r. ⌜ SetReads panel (now (s .entry)) r ⌝ }
 {
     let len = size_of(s);
     if !zero_from(s, WIDTH * len) {
@@ -149,7 +154,7 @@ pub(crate) fn read_set(n: usize, s: &[u8]) -> SetRead
             set: Set::EMPTY,
         };
     }
-    if !monomials_right(n, s, len) {
+    if !monomials_right(panel, s, len) {
         return SetRead {
             good: false,
             set: Set::EMPTY,

@@ -4,9 +4,11 @@ use super::panel::COEFFICIENT_AT;
 use super::panel::LEAST_COEFFICIENT;
 use super::panel::MONOMIAL_AT;
 use super::panel::MOST_COEFFICIENT;
+use super::panel::Panel;
 use super::panel::TERM_BYTES;
 use super::panel::TERM_EXPONENT;
 use super::panel::TERMS_BYTES;
+use super::sockets;
 use monomial::Monomial;
 use monomial::width::WIDTH;
 ghost use mathlib.Core.Path.{_≡_};
@@ -70,16 +72,20 @@ fn coefficient_right(c: i32) -> bool
 }
 
 // Every field of record number t keeps its rule.
-fn term_right(n: usize, terms: &[u8], t: usize) -> bool
+fn term_right(panel: Panel, terms: &[u8], t: usize) -> bool
     requires { ⌜ termBytes * t + termBytes ≤ length (now terms) ⌝ }
-    ensures { λ r. ⌜ r ≡ termRight n (recordAt (now (terms .entry)) t) ⌝ }
+    ensures { λ r. ⌜ r ≡ termRight panel (recordAt (now (terms .entry)) t) ⌝ }
 {
     let at = TERM_BYTES * t;
     let equation = wide(terms[at]);
     if equation < 1 {
         return false;
     }
+    let n = panel.n;
     if n < equation {
+        return false;
+    }
+    if sockets::is_marked(panel.marks, equation - 1) {
         return false;
     }
     if terms[at + 1] != 0 {
@@ -126,13 +132,13 @@ fn repeats(terms: &[u8], t: usize) -> bool
     false
 }
 
-pub fn fault_of(n: usize, terms: &[u8]) -> Fault
-    ensures { λ r. ⌜ r ≡ fault n (records (now (terms .entry))) ⌝ }
+pub fn fault_of(panel: Panel, terms: &[u8]) -> Fault
+    ensures { λ r. ⌜ r ≡ fault panel (records (now (terms .entry))) ⌝ }
 {
     let count = terms.len() / TERM_BYTES;
     let mut t: usize = 0;
     while t < count {
-        if !term_right(n, terms, t) {
+        if !term_right(panel, terms, t) {
             return Fault::Wrong(t as u64 + 1);
         }
         if repeats(terms, t) {

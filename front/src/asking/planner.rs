@@ -16,8 +16,9 @@ pub const RUNNER: &str = "SIRAGUMON_RUNNER";
 
 pub struct Planner {
     pub runner: String,
-    /// Variables and term records of the system.
+    /// Variables of the system, a bit for each that is fed from outside, and the term records.
     pub n: usize,
+    pub marks: u64,
     pub terms: Vec<u8>,
 }
 
@@ -25,22 +26,33 @@ impl Planner {
     /// Asks once, and calls `tick` every second while the program runs.
     pub fn ask(&self, settings: &Settings, tick: impl FnMut()) -> Result<Answer, String> {
         let Settings { cards, steps, sets, which } = settings;
-        let (n, which) = (self.n.to_string(), which.to_string());
-        let words = [&n, cards.digits(), steps.digits(), sets.digits(), &which];
-        let text = self.run(&words, &self.terms, tick)?;
-        answer::planned(self.n, &text).map_err(unreadable)
+        let which = which.to_string();
+        let text = self.run(&[cards.digits(), steps.digits(), sets.digits(), &which], &self.terms, tick)?;
+        answer::planned(self.n, &text).and_then(|answer| self.keeps_outside(answer)).map_err(unreadable)
     }
 
     /// Asks for the smallest subsets of a set that will do, and for the wiring of subset `which`.
     pub fn thin(&self, set: &[Exponents], which: u64) -> Result<Answer, String> {
-        let text = self.run_on_set(&[&self.n.to_string(), &which.to_string()], set)?;
-        answer::thinned(self.n, set, &text).map_err(unreadable)
+        let text = self.run_on_set(&[&which.to_string()], set)?;
+        answer::thinned(self.n, set, &text).and_then(|answer| self.keeps_outside(answer)).map_err(unreadable)
     }
 
     /// Asks whether a set will do as it is, and for its wiring.
     pub fn wire(&self, set: &[Exponents]) -> Result<Answer, String> {
-        let text = self.run_on_set(&[&self.n.to_string()], set)?;
-        answer::wired(self.n, set, &text).map_err(unreadable)
+        let text = self.run_on_set(&[], set)?;
+        answer::wired(self.n, set, &text).and_then(|answer| self.keeps_outside(answer)).map_err(unreadable)
+    }
+
+    /// An answer that holds a signal from outside in a new one, or wires one, is none.
+    fn keeps_outside(&self, answer: Answer) -> Result<Answer, String> {
+        let marked = |i: usize| self.marks >> i & 1 == 1;
+        let held = answer.sets.iter().flatten().any(|new| (0..self.n).any(|i| marked(i) && new[i] != 0));
+        let wired = answer.wires.iter().any(|wire| wire.left <= self.n && marked(wire.left - 1));
+        match (held, wired) {
+            (true, _) => Err("a new signal holds one from outside".into()),
+            (_, true) => Err("a signal from outside is wired".into()),
+            _ => Ok(answer),
+        }
     }
 
     /// The record of a set goes before the terms. A set has so few subsets that it is over at once.
@@ -49,9 +61,11 @@ impl Planner {
         self.run(arguments, &input, || ())
     }
 
+    /// Runs the program. Its first words are those of the system; the others are given.
     fn run(&self, arguments: &[&str], input: &[u8], mut tick: impl FnMut()) -> Result<String, String> {
+        let system = [self.n.to_string(), self.marks.to_string()];
         let mut command = Command::new(&self.runner);
-        command.arg("asked").args(arguments).stdin(Stdio::piped()).stdout(Stdio::piped());
+        command.arg("asked").args(system).args(arguments).stdin(Stdio::piped()).stdout(Stdio::piped());
         leash(&mut command);
         let mut child = command.spawn().map_err(|why| format!("{} cannot be run: {why}", self.runner))?;
         // The program stops reading once it knows that there are too many terms, so a failed write says nothing.
@@ -113,10 +127,26 @@ mod tests {
 
     /// Why there is neither a plan nor a thinned or a wired set.
     fn faults(runner: &str) -> [String; 3] {
-        let planner = Planner { runner: runner.into(), n: 1, terms: vec![0; TERM_BYTES * 9000] };
+        let planner = Planner { runner: runner.into(), n: 1, marks: 0, terms: vec![0; TERM_BYTES * 9000] };
         let set = [[2, 0, 0, 0, 0, 0]];
         let answers = [planner.ask(&Settings::default(), || ()), planner.thin(&set, 1), planner.wire(&set)];
         answers.map(|answer| answer.unwrap_err())
+    }
+
+    #[test]
+    fn a_signal_from_outside_is_neither_held_nor_wired() {
+        let asked = |marks: u64, text: &str| {
+            let planner = Planner { runner: String::new(), n: 2, marks, terms: vec![] };
+            planner.keeps_outside(answer::planned(2, text).unwrap())
+        };
+        let held = "0 1 1 8 0\n1.1.0.0.0.0\n1 1 3 1\n3 3 3 1\n";
+        assert!(asked(0, held).is_ok(), "a knob may be held");
+        assert!(asked(2, held).unwrap_err().contains("holds one from outside"));
+        let wired = "0 0 1 1 0\n\n1 0 2 1\n2 0 1 1\n";
+        assert!(asked(0, wired).is_ok());
+        assert!(asked(2, wired).unwrap_err().contains("is wired"));
+        assert!(asked(2, "0 1 1 6 0\n2.0.0.0.0.0\n1 1 3 1\n3 2 3 2\n").is_ok());
+        assert!(asked(2, "5 7 0 126 0\n").is_ok());
     }
 
     #[test]

@@ -27,7 +27,7 @@ pub fn runs(plain: &str) -> Vec<Run> {
         height = match c {
             '^' => Height::Raised,
             c if !c.is_ascii_digit() => Height::Plain,
-            _ if before.is_ascii_alphabetic() => Height::Lowered,
+            _ if before.is_alphabetic() => Height::Lowered,
             _ => height,
         };
         before = c;
@@ -53,7 +53,9 @@ fn part(c: char) -> f64 {
         'm' | 'w' | 'M' | 'W' => 1.0,
         '=' | '+' | '−' | '×' | 'Σ' => 0.85,
         c if c.is_uppercase() => 0.8,
-        _ => 0.66,
+        c if c.is_ascii() => 0.66,
+        // A letter of any script.
+        _ => 1.1,
     }
 }
 

@@ -47,9 +47,12 @@ pub enum Shape {
     Integrator(Rect),
     /// A variable that never changes.
     Knob(Rect),
+    /// A signal that is fed from outside.
+    Socket(Rect),
 }
 
-/// Shapes that belong together, under a name: `multiplier`, `integrator`, `knob`, `input` or `words`.
+/// Shapes that belong together, under a name: `multiplier`, `integrator`, `knob`, `socket`, `input` or
+/// `words`.
 #[derive(Debug, Clone, PartialEq)]
 pub struct Part {
     pub name: &'static str,
@@ -73,7 +76,8 @@ impl Shape {
             | Shape::Multiplier(rect)
             | Shape::Sum(rect)
             | Shape::Integrator(rect)
-            | Shape::Knob(rect) => {
+            | Shape::Knob(rect)
+            | Shape::Socket(rect) => {
                 rect.x += dx;
                 rect.y += dy;
             }

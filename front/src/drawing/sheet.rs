@@ -3,7 +3,7 @@
 use crate::drawing::label::{lines, width};
 use crate::drawing::shapes::{words, Part, SIZE};
 use crate::drawing::units::{integrators, multipliers, Unit, SMALL};
-use crate::patch::Patch;
+use crate::patch::{Feed, Patch};
 
 const TITLE: i32 = 18;
 const MARGIN: i32 = 24;
@@ -119,10 +119,12 @@ fn sheet(patch: &Patch, heading: &Heading, tall: i32) -> Drawing {
     let top = top + LINE;
 
     let (multipliers, integrators) = (multipliers(patch), integrators(patch));
-    let knobs = patch.rows.iter().filter(|row| patch.is_knob(row)).count();
-    let mut counts = format!("Integrators: {}", integrators.len() - knobs);
-    if 0 < knobs {
-        counts += &format!(", knobs: {knobs}");
+    let mut counts = format!("Integrators: {}", patch.fed_by(Feed::Integrator).count());
+    for (feed, name) in [(Feed::Knob, "knobs"), (Feed::Socket, "sockets")] {
+        let count = patch.fed_by(feed).count();
+        if 0 < count {
+            counts += &format!(", {name}: {count}");
+        }
     }
     let mut left = MARGIN;
     let mut low = top;
@@ -156,7 +158,11 @@ pub mod tests {
                 | Shape::In { rect, .. }
                 | Shape::Out { rect, .. }
                 | Shape::Gain { rect, .. } => Some(*rect),
-                Shape::Multiplier(rect) | Shape::Sum(rect) | Shape::Integrator(rect) | Shape::Knob(rect) => Some(*rect),
+                Shape::Multiplier(rect)
+                | Shape::Sum(rect)
+                | Shape::Integrator(rect)
+                | Shape::Knob(rect)
+                | Shape::Socket(rect) => Some(*rect),
             }
         }
     }
@@ -221,8 +227,9 @@ pub mod tests {
     fn every_product_has_one_multiplier_and_every_signal_one_unit() {
         for (patch, drawing) in drawings() {
             assert_eq!(titles(&drawing, "multiplier").len(), patch.multipliers().len());
-            let units = titles(&drawing, "integrator").len() + titles(&drawing, "knob").len();
-            assert_eq!(units, patch.rows.len());
+            let units = ["integrator", "knob", "socket"].map(|name| titles(&drawing, name).len());
+            let feeds = [Feed::Integrator, Feed::Knob, Feed::Socket].map(|feed| patch.fed_by(feed).count());
+            assert_eq!((units, units.iter().sum()), (feeds, patch.rows.len()));
         }
     }
 
@@ -294,14 +301,18 @@ pub mod tests {
 
     #[test]
     fn a_signal_without_inputs_says_so() {
-        let (patch, drawing) = drawings().into_iter().find(|(p, _)| p.rows.iter().any(|r| p.is_knob(r))).unwrap();
-        let knobs = patch.rows.iter().filter(|row| patch.is_knob(row)).count();
-        assert_eq!(titles(&drawing, "knob").len(), knobs);
-        let silent = shapes(&drawing)
-            .into_iter()
-            .filter(|s| matches!(s, Shape::Words { text, .. } if text == "never changes"))
-            .count();
-        assert_eq!(silent, patch.rows.iter().filter(|row| row.wires.is_empty()).count());
+        let mut seen = [0, 0];
+        for (patch, drawing) in drawings() {
+            let said = |words: &str| {
+                let shapes = shapes(&drawing).into_iter();
+                shapes.filter(|s| matches!(s, Shape::Words { text, .. } if text == words)).count()
+            };
+            let (silent, fed) = (said("never changes"), said("from outside"));
+            assert_eq!(silent + fed, patch.rows.iter().filter(|row| row.wires.is_empty()).count());
+            assert_eq!(fed, patch.outside.len());
+            seen = [seen[0] + silent, seen[1] + fed];
+        }
+        assert!(0 < seen[0] && 0 < seen[1], "{seen:?}");
     }
 
     #[test]

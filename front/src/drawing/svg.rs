@@ -58,6 +58,15 @@ fn drawn(shape: &Shape) -> String {
                  <path d=\"M{x} {y}l10 -14\" stroke=\"black\" stroke-width=\"2\"/>\n"
             )
         }
+        Shape::Socket(rect) => {
+            let (x, y, r) = (rect.x + rect.w / 2, middle(rect), rect.w / 2);
+            let (ring, hole) = (r * 2 / 3, r / 3);
+            format!(
+                "<circle cx=\"{x}\" cy=\"{y}\" r=\"{r}\" fill=\"white\" stroke=\"black\" stroke-width=\"1.5\"/>\n\
+                 <circle cx=\"{x}\" cy=\"{y}\" r=\"{ring}\" fill=\"#e4e4e4\" stroke=\"black\"/>\n\
+                 <circle cx=\"{x}\" cy=\"{y}\" r=\"{hole}\"/>\n"
+            )
+        }
     }
 }
 

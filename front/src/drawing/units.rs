@@ -5,7 +5,7 @@
 use crate::algebra;
 use crate::drawing::label::width;
 use crate::drawing::shapes::{words, Part, Rect, Shape, SIZE};
-use crate::patch::{Patch, Row};
+use crate::patch::{Feed, Patch, Row};
 
 /// The size of remarks.
 pub const SMALL: i32 = 12;
@@ -82,7 +82,8 @@ pub fn integrators(patch: &Patch) -> Vec<Unit> {
     patch.rows.iter().map(|row| integrator(patch, row, &widths)).collect()
 }
 
-/// Named inputs, each with its number, summed, integrated; one name out.
+/// Named inputs, each with its number, summed, integrated; one name out. A knob or a socket stands where nothing is
+/// integrated.
 fn integrator(patch: &Patch, row: &Row, widths: &Widths) -> Unit {
     const SUM: i32 = 30;
     const POINTED: i32 = 44;
@@ -110,8 +111,9 @@ fn integrator(patch: &Patch, row: &Row, widths: &Widths) -> Unit {
     let out = pointed + POINTED + STUB;
     let mut shapes = Vec::new();
     let body = Rect { x: pointed, y: middle - 26, w: POINTED, h: 52 };
+    let feed = patch.feed(row);
     if row.wires.is_empty() {
-        let silent = "never changes";
+        let silent = if feed == Feed::Socket { "from outside" } else { "never changes" };
         let mut silent = words(pointed - STUB - width(silent, SMALL, false), middle, silent, SMALL, false);
         if let Shape::Words { to_the_right, .. } = &mut silent {
             *to_the_right = true;
@@ -121,8 +123,12 @@ fn integrator(patch: &Patch, row: &Row, widths: &Widths) -> Unit {
         shapes.push(Shape::Sum(Rect { x: summed, y: 2, w: SUM, h: height - 4 }));
         shapes.push(wire(summed + SUM, middle, STUB));
     }
-    let knob = patch.is_knob(row);
-    shapes.push(if knob { Shape::Knob(body) } else { Shape::Integrator(body) });
+    let (kind, title, unit) = match feed {
+        Feed::Knob => ("knob", format!("{name} never changes"), Shape::Knob(body)),
+        Feed::Socket => ("socket", format!("{name} is fed from outside"), Shape::Socket(body)),
+        Feed::Integrator => ("integrator", format!("the integrator of {name}"), Shape::Integrator(body)),
+    };
+    shapes.push(unit);
     shapes.push(wire(pointed + POINTED, middle, STUB));
     shapes.push(Shape::Out { rect: tag(out, middle, widths.given), text: name.into() });
     let mut right = out + widths.given;
@@ -131,11 +137,6 @@ fn integrator(patch: &Patch, row: &Row, widths: &Widths) -> Unit {
         right = right.max(out + width(&start, SMALL, false));
         shapes.push(words(out, middle + TAG / 2 + 10, &start, SMALL, false));
     }
-    let (kind, title) = if knob {
-        ("knob", format!("{name} never changes"))
-    } else {
-        ("integrator", format!("the integrator of {name}"))
-    };
     parts.push(Part { name: kind, title, shapes });
     Unit { width: right, height, parts }
 }

@@ -7,7 +7,7 @@ use crate::saying::report::Report;
 use crate::saying::{given, wired};
 use crate::typed::given::{Aim, Given};
 use crate::typed::settings::Count;
-use crate::typed::system::Record;
+use crate::typed::system::{Record, System};
 use crate::typed::text::{place, Fault, Source, Span};
 
 /// All that is said to a person, and what was sent and received.
@@ -61,7 +61,7 @@ fn operation(report: &Report) -> &'static str {
 /// Those that were sent: of a given set all that is asked is judged, and nothing is limited.
 fn settings(report: &Report) -> Json {
     let count = |c: &Count| c.value().map_or(Json::from(c.digits()), whole);
-    let mut fields = vec![("n", whole(report.system.names.len() as u64))];
+    let mut fields = vec![("n", whole(report.system.names.len() as u64)), ("marks", whole(report.system.marks()))];
     if report.system.given.is_none() {
         fields.extend([
             ("cards", count(&report.settings.cards)),
@@ -70,6 +70,19 @@ fn settings(report: &Report) -> Json {
         ]);
     }
     Json::Object(fields)
+}
+
+/// The names that were typed: each is the number of its variable, and of the bit that marks it.
+fn names(system: &System) -> Json {
+    let stands = |&i: &usize| system.used[i] || system.only_given().contains(&system.names[i].as_str());
+    let name = |i: usize| {
+        Json::Object(vec![
+            ("number", whole(i as u64 + 1)),
+            ("name", system.names[i].as_str().into()),
+            ("kind", system.kind(i).word().into()),
+        ])
+    };
+    Json::List((0..system.names.len()).filter(stands).map(name).collect())
 }
 
 fn system(report: &Report) -> Json {
@@ -82,6 +95,7 @@ fn system(report: &Report) -> Json {
     };
     Json::Object(vec![
         ("variables", Json::list(report.system.names.iter().cloned())),
+        ("names", names(report.system)),
         ("unfed", Json::list(report.system.unfed())),
         ("equations", Json::list(report.equations())),
         ("records", Json::List(report.system.records().unwrap_or_default().iter().map(record).collect())),

@@ -33,7 +33,7 @@ fn refused(given: &Given, system: &System, sources: &[Source]) -> Said {
     }
     for (i, signal) in given.signals.iter().enumerate() {
         let earlier = given.signals[..i].iter().find(|other| other.powers == signal.powers);
-        let broken = rule::broken_signal(signal, &system.names)
+        let broken = rule::broken_signal(signal, system)
             .or_else(|| earlier.map(|_| "the set has this product already; leave one out".into()));
         if let Some(broken) = broken {
             let text = short(text_of(sources, signal.span));
@@ -80,7 +80,7 @@ fn why(reply: &Reply, given: &Given, system: &System) -> Option<String> {
 pub mod tests {
     use super::*;
     use crate::typed::settings::Settings;
-    use crate::typed::system::tests::{given, sources_with_set};
+    use crate::typed::system::tests::{given, typed_with_set};
     use crate::typed::text::point;
 
     const AIMS: [Aim; 2] = [Aim::Thinning, Aim::Wiring];
@@ -89,7 +89,7 @@ pub mod tests {
     pub fn said_of(aim: Aim, reply: [u64; 5], text: &str, set: &str) -> Said {
         let [code, order, count, steps, place] = reply;
         let reply = Reply { code, order, count, steps, place };
-        let sources = sources_with_set(text, set);
+        let sources = typed_with_set(aim, text, set);
         crate::saying::words::said(&reply, &Settings::default(), &given(aim, text, set), &sources)
     }
 
@@ -103,7 +103,8 @@ pub mod tests {
     /// The words of a refused set, and all that is pointed at.
     fn refused(set: &str) -> (String, String) {
         let said = said_of_both([8, 0, 0, 0, 0], "x' = y", set);
-        let pointed = |(words, span): &(&str, _)| format!("{words}{}", point(&sources_with_set("", set), *span));
+        let sources = typed_with_set(Aim::Wiring, "", set);
+        let pointed = |(words, span): &(&str, _)| format!("{words}{}", point(&sources, *span));
         (said.words, said.places.iter().map(pointed).collect())
     }
 

@@ -16,12 +16,17 @@ a given set: tells which of its signals can go. Or tells whether a given set wil
   ./plan system.txt --cards 3 --steps 1000000000
   ./plan \"x' = x^4 + x^3\" --thin \"x^2, x^3, x^4\"
   ./plan \"x' = x^4 + x^3\" --given \"x^3, x^4\"
+  ./plan \"theta' = omega, omega' = -k*theta^3 + push\" --knob k --signal push
 
 An argument with = in it is one equation or several, separated by commas, semicolons or lines; any other is the name
 of a file that holds them (- is standard input). In a file, # hides the rest of its line.
 
-Variables are x, y, z or x1 to x{VARIABLES}, coefficients whole numbers, powers ^ or ** with a whole number, products * or a
-space; sums are written multiplied out. A variable without an equation never changes. A system has up to {TERMS} terms.
+A name is a letter and then letters, digits and underscores, as in S, theta or x_1. A system has up to {VARIABLES}, numbered as
+their equations come; x1 to x{VARIABLES} keep their numbers, and x, y, z are the first three. Coefficients are whole numbers,
+powers ^ or ** with a whole number, products * or a space; sums are written multiplied out. A system has up to {TERMS} terms.
+
+A name without an equation is a knob, which never moves during a run, or a signal fed from outside. Only x, y, z and x1
+to x{VARIABLES} are knobs without being said to be; any other name is pointed at, so that a slip of the pen is caught.
 
   --cards K      new signals of a set, at most: 0 to {CARDS} ({CARDS})
   --steps N      steps of the search, at most: 1 to {steps} ({usual_steps})
@@ -29,6 +34,8 @@ space; sums are written multiplied out. A variable without an equation never cha
   --set N        wires the N-th set of the list (1)
   --thin SET     thins a set: up to {CARDS} products of powers, with commas between them (\"\" is the empty set)
   --given SET    judges such a set as it is, and wires it where it will do
+  --knob NAMES   says that names without equations are knobs; commas stand between names
+  --signal NAMES says that names are signals fed from outside
   --svg FILE     draws the patch of that set
   --json         writes all of it for other programs
   --file FILE    reads equations from a file, whatever its name
@@ -37,6 +44,9 @@ space; sums are written multiplied out. A variable without an equation never cha
 A new signal is a product of powers of the variables. The word \"smallest\" is printed only after the whole search has
 ended; short of that the words say how far it got. A search of more than a second tells on standard error what it has
 shown so far; it may be stopped at any time.
+
+A signal fed from outside has a slope that nobody knows, so no new signal holds one; \"smallest\" is then said of the sets
+that leave it out. --knob and --signal may be given several times, and go with all other options.
 
 With --thin every subset of the given set is judged and no other set is searched, so \"smallest\" is said of its subsets
 alone; --cards, --steps and --sets do not go with it.

@@ -3,8 +3,9 @@
 use crate::asking::answer::{Answer, DONE, SET, TWICE};
 use crate::patch::Patch;
 use crate::saying::numbers::{counted, grouped};
-use crate::saying::words::{said, Said};
+use crate::saying::words::{among, said, Said};
 use crate::typed::given::Aim;
+use crate::typed::names::Kind;
 use crate::typed::settings::Settings;
 use crate::typed::system::System;
 use crate::typed::text::{point, Fault, Source};
@@ -53,13 +54,16 @@ impl Report<'_> {
 
     /// What is taken for granted about the typed text.
     pub fn notes(&self) -> Vec<String> {
+        // What is said of a name is not taken for granted.
+        let said = [self.system.said_to_be(Kind::Knob), self.system.outside()].concat();
         let mut notes = Vec::new();
-        notes.extend(constant(&self.system.unfed(), "has no equation", "have no equations"));
-        notes.extend(constant(
-            &self.system.only_given(),
-            "stands in the given set alone",
-            "stand in the given set alone",
-        ));
+        for (mut names, has, have) in [
+            (self.system.unfed(), "has no equation", "have no equations"),
+            (self.system.only_given(), "stands in the given set alone", "stand in the given set alone"),
+        ] {
+            names.retain(|name| !said.contains(name));
+            notes.extend(constant(&names, has, have));
+        }
         if !self.system.namings.is_empty() {
             let names = self.system.namings.join(", ");
             notes.push(format!("{names}: taken as variables of their own; the lines that name them are not used."));
@@ -70,6 +74,17 @@ impl Report<'_> {
     /// The equations as read; nothing where a term fits no record.
     pub fn equations(&self) -> Vec<String> {
         self.system.records().map_or(Vec::new(), |records| self.system.equations(&records))
+    }
+
+    /// What options say of names.
+    fn kinds(&self) -> Vec<String> {
+        let kinds = [(Kind::Knob, "knob", "knobs"), (Kind::Signal, "signal from outside", "signals from outside")];
+        let line = |(kind, one, several)| match self.system.said_to_be(kind)[..] {
+            [] => None,
+            [name] => Some(format!("{one}: {name}")),
+            ref names => Some(format!("{several}: {}", names.join(", "))),
+        };
+        kinds.into_iter().filter_map(line).collect()
     }
 
     /// The signals of a set, from 0.
@@ -101,8 +116,10 @@ impl Report<'_> {
         };
         let (which, count) = (self.settings.which, self.answer.reply.count);
         let set = match (self.system.aim(), count) {
-            (None, 1) => "The smallest set".to_string(),
-            (None, count) => format!("Set {which} of the {} smallest sets", grouped(count)),
+            (None, 1) => format!("The smallest set{}", among(&self.system.outside())),
+            (None, count) => {
+                format!("Set {which} of the {} smallest sets{}", grouped(count), among(&self.system.outside()))
+            }
             (Some(Aim::Thinning), 1) => "The smallest subset of the given set that will do".to_string(),
             (Some(Aim::Thinning), count) => {
                 format!("Subset {which} of the {} smallest subsets of the given set that will do", grouped(count))
@@ -140,7 +157,7 @@ impl Report<'_> {
             return String::new();
         }
         let given = self.given_text().map(|text| format!("given set: {text}"));
-        let read = self.equations().into_iter().chain(given).map(|line| format!("  {line}\n"));
+        let read = self.equations().into_iter().chain(self.kinds()).chain(given).map(|line| format!("  {line}\n"));
         let notes = self.notes().into_iter().map(|note| format!("{note}\n"));
         read.chain(notes).chain(std::iter::once("\n".into())).collect()
     }
@@ -221,7 +238,7 @@ mod tests {
     use crate::asking::answer::{planned, wired, Reply, FULL, NOT_QUADRATIC, OF_A_SET};
     use crate::recorded;
     use crate::saying::export;
-    use crate::typed::system::tests::{given, sources_with_set, system, with_set};
+    use crate::typed::system::tests::{given, system, typed, typed_with_set, with_set};
 
     /// What is said of an answer about a system, where set `which` is asked to be wired.
     fn report<T>(
@@ -239,19 +256,18 @@ mod tests {
 
     /// What is printed for a text and an answer, and whether set `which` is wired.
     fn printed(text: &str, answer: &Answer, which: u64) -> String {
-        let sources = [Source { file: None, text: text.into() }];
-        report(&sources, &system(text), answer, which, |report| report.for_a_person())
+        report(&typed(text), &system(text), answer, which, |report| report.for_a_person())
     }
 
     /// The same where a set is thinned.
     fn printed_of_set(text: &str, set: &str, answer: &Answer, which: u64) -> String {
-        let sources = sources_with_set(text, set);
+        let sources = typed_with_set(Aim::Thinning, text, set);
         report(&sources, &with_set(text, set), answer, which, |report| report.for_a_person())
     }
 
     /// The same where it is only wired; and all else that is said of it.
     fn said_of_wiring(text: &str, set: &str, answer: &Answer) -> [String; 3] {
-        let (sources, system) = (sources_with_set(text, set), given(Aim::Wiring, text, set));
+        let (sources, system) = (typed_with_set(Aim::Wiring, text, set), given(Aim::Wiring, text, set));
         report(&sources, &system, answer, 1, |r| [r.for_a_person(), export::answer(r), r.which_set()])
     }
 
@@ -324,7 +340,7 @@ mod tests {
     fn smallest_is_said_of_subsets_of_the_given_set_alone() {
         let mut heard = 0;
         for (text, set) in THINNED {
-            let (sources, system) = (sources_with_set(text, set), with_set(text, set));
+            let (sources, system) = (typed_with_set(Aim::Thinning, text, set), with_set(text, set));
             let answer = recorded::thinning(&system, 1);
             let all = |report: &Report| [report.for_a_person(), export::answer(report), report.which_set()];
             for said in report(&sources, &system, &answer, 1, all) {

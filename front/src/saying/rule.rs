@@ -2,8 +2,10 @@
 
 use crate::panel::{COEFFICIENT, POWER, SET_POWER};
 use crate::saying::numbers::grouped;
+use crate::saying::words::listed;
 use crate::typed::given::Signal;
-use crate::typed::system::{Powers, Term};
+use crate::typed::names::Kind;
+use crate::typed::system::{Powers, System, Term};
 
 /// Which rule of a record the term breaks. `names` are the variables of its system.
 pub fn broken(term: &Term, names: &[String]) -> Option<String> {
@@ -22,12 +24,18 @@ pub fn broken(term: &Term, names: &[String]) -> Option<String> {
 }
 
 /// Which rule of a set record the signal breaks by itself.
-pub fn broken_signal(signal: &Signal, names: &[String]) -> Option<String> {
-    power(&signal.powers, names, SET_POWER).or_else(|| match signal.powers.iter().sum() {
+pub fn broken_signal(signal: &Signal, system: &System) -> Option<String> {
+    power(&signal.powers, &system.names, SET_POWER).or_else(|| match signal.powers.iter().sum() {
         0u128 => Some("it is 1, and no new signal; leave it out".into()),
         1 => Some("it is a variable, and no new signal; leave it out".into()),
-        _ => None,
+        _ => from_outside(&signal.powers, system),
     })
+}
+
+fn from_outside(powers: &Powers, system: &System) -> Option<String> {
+    let held = system.those(|i| powers[i] != 0 && system.kind(i) == Kind::Signal);
+    let words = || format!("it holds {}, fed from outside, which no new signal may hold; leave it out", listed(&held));
+    (!held.is_empty()).then(words)
 }
 
 fn power(powers: &Powers, names: &[String], most: u128) -> Option<String> {
@@ -46,7 +54,8 @@ fn shown(number: u128) -> String {
 #[cfg(test)]
 mod tests {
     use super::*;
-    use crate::typed::system::tests::{system, with_set};
+    use crate::typed::given::Aim;
+    use crate::typed::system::tests::{said, system, system_of, typed_with_set, with_set};
 
     #[test]
     fn the_broken_rule() {
@@ -66,10 +75,26 @@ mod tests {
     }
 
     #[test]
+    fn a_signal_that_holds_another_from_outside() {
+        let rule = |set: &str| {
+            let sources = [&typed_with_set(Aim::Wiring, "x' = u v a", set)[..], &said(&[(Kind::Signal, "u, v")])];
+            let system = system_of(&[&sources.concat()[..], &said(&[(Kind::Knob, "a")])].concat());
+            broken_signal(&system.given.as_ref().unwrap().signals[0], &system)
+        };
+        let held =
+            |names: &str| format!("it holds {names}, fed from outside, which no new signal may hold; leave it out");
+        assert_eq!(rule("x*u"), Some(held("u")));
+        assert_eq!(rule("v^2"), Some(held("v")));
+        assert_eq!(rule("u*a*v"), Some(held("u and v")));
+        assert_eq!(rule("x*a"), None);
+        assert_eq!(rule("u").unwrap(), "it is a variable, and no new signal; leave it out");
+    }
+
+    #[test]
     fn the_broken_rule_of_a_signal() {
         let rule = |text: &str| {
             let system = with_set("x' = y", text);
-            broken_signal(&system.given.as_ref().unwrap().signals[0], &system.names)
+            broken_signal(&system.given.as_ref().unwrap().signals[0], &system)
         };
         assert_eq!(rule("x^54*y^54"), None);
         assert_eq!(rule("x*y"), None);

@@ -4,7 +4,6 @@ use std::io::Write;
 use std::time::Duration;
 
 use crate::saying::numbers::{counted, grouped};
-use crate::saying::words::excluded;
 
 /// A search that is over sooner than this says nothing but its answer.
 const PATIENCE: Duration = Duration::from_secs(1);
@@ -25,9 +24,9 @@ impl<W: Write> Watch<W> {
         Watch { out, terminal, unsaid: None, level: 0, open: false }
     }
 
-    /// There is no set of up to `cards` signals.
-    pub fn shown(&mut self, cards: u64, steps: u64, elapsed: Duration) {
-        self.unsaid = Some(format!("So far: {} ({}).\n", excluded(cards), counted(steps, "step")));
+    /// There is no set of up to `cards` signals, which the words `excluded` say.
+    pub fn shown(&mut self, cards: u64, excluded: &str, steps: u64, elapsed: Duration) {
+        self.unsaid = Some(format!("So far: {excluded} ({}).\n", counted(steps, "step")));
         self.level = cards + 1;
         self.say(elapsed);
     }
@@ -71,6 +70,7 @@ impl<W: Write> Watch<W> {
 #[cfg(test)]
 mod tests {
     use super::*;
+    use crate::saying::words::excluded;
 
     fn seconds(s: u64) -> Duration {
         Duration::from_secs(s)
@@ -85,8 +85,8 @@ mod tests {
     #[test]
     fn a_short_search_is_silent() {
         let said = heard(true, |w| {
-            w.shown(0, 1, Duration::from_millis(3));
-            w.shown(1, 4, Duration::from_millis(900));
+            w.shown(0, "nothing", 1, Duration::from_millis(3));
+            w.shown(1, "nothing", 4, Duration::from_millis(900));
             w.end();
         });
         assert_eq!(said, "");
@@ -95,27 +95,27 @@ mod tests {
     #[test]
     fn a_long_search_says_what_it_has_shown() {
         let said = heard(false, |w| {
-            w.shown(0, 1, seconds(0));
-            w.shown(1, 4, seconds(0));
+            w.shown(0, &excluded(0, &[]), 1, seconds(0));
+            w.shown(1, &excluded(1, &[]), 4, seconds(0));
             w.tick(seconds(1));
             w.tick(seconds(2));
-            w.shown(2, 4711, seconds(5));
+            w.shown(2, &excluded(2, &["u"]), 4711, seconds(5));
             w.end();
         });
         assert_eq!(
             said,
             "So far: no set of up to 1 new signal exists (4 steps).\n\
-             So far: no set of up to 2 new signals exists (4,711 steps).\n"
+             So far: no patch of up to 2 new signals exists that leaves u outside the new signals (4,711 steps).\n"
         );
     }
 
     #[test]
     fn a_terminal_sees_the_time_pass() {
         let said = heard(true, |w| {
-            w.shown(2, 9, seconds(1));
+            w.shown(2, &excluded(2, &[]), 9, seconds(1));
             w.tick(seconds(2));
             w.tick(seconds(3));
-            w.shown(3, 99, seconds(4));
+            w.shown(3, &excluded(3, &[]), 99, seconds(4));
             w.end();
         });
         let line = |s| format!("\r\x1b[KLooking through sets of up to 3 new signals, {s} s ");

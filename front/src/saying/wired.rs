@@ -36,7 +36,7 @@ fn full() -> String {
 
 fn not_quadratic(reply: &Reply) -> String {
     match reply.order {
-        0 => format!("Not quadratic: {}.", excluded(0)),
+        0 => format!("Not quadratic: {}.", excluded(0, &[])),
         _ => "Not quadratic: the given set will not do.".into(),
     }
 }

@@ -32,21 +32,40 @@ pub fn signals(number: u64) -> String {
     counted(number, "new signal")
 }
 
-/// What is known once level k has ended without a find.
-pub fn excluded(k: u64) -> String {
-    if k == 0 {
-        "without new signals it cannot be wired".into()
-    } else {
-        format!("no set of up to {} exists", signals(k))
+/// "u", "u and v", "u, v and w".
+pub fn listed(names: &[&str]) -> String {
+    match names {
+        [] => String::new(),
+        [name] => name.to_string(),
+        [first @ .., last] => format!("{} and {last}", first.join(", ")),
+    }
+}
+
+/// What is known once level k has ended without a find. Only sets without the signals from outside were searched.
+pub fn excluded(k: u64, outside: &[&str]) -> String {
+    match (k, outside) {
+        (0, _) => "without new signals it cannot be wired".into(),
+        (_, []) => format!("no set of up to {} exists", signals(k)),
+        (_, names) => {
+            format!("no patch of up to {} exists that leaves {} outside the new signals", signals(k), listed(names))
+        }
+    }
+}
+
+/// Among which sets those that were found are the smallest, where these are not all.
+pub fn among(outside: &[&str]) -> String {
+    match outside {
+        [] => String::new(),
+        names => format!(" among those that leave {} outside the new signals", listed(names)),
     }
 }
 
 /// What is known where the walk stopped in a level.
-fn stopped(reply: &Reply) -> String {
+fn stopped(reply: &Reply, outside: &[&str]) -> String {
     let place = format!("stopped in level {} after {}", reply.order, counted(reply.steps, "step"));
     match reply.order {
         0 => place,
-        level => format!("{}; {place}", excluded(level - 1)),
+        level => format!("{}; {place}", excluded(level - 1, outside)),
     }
 }
 
@@ -89,31 +108,30 @@ pub fn said(reply: &Reply, settings: &Settings, system: &System, sources: &[Sour
         }
         _ => match &system.given {
             Some(set) => return given::said(reply, set, system, sources),
-            None => planned(reply, settings),
+            None => planned(reply, settings, &system.outside()),
         },
     };
     Said { words, places }
 }
 
-fn planned(reply: &Reply, settings: &Settings) -> String {
+fn planned(reply: &Reply, settings: &Settings, outside: &[&str]) -> String {
     match reply.code {
-        DONE => done(reply),
-        NONE => none(reply),
-        FULL => full(reply, settings),
-        SPENT => spent(reply),
+        DONE => done(reply, outside),
+        NONE => none(reply, outside),
+        FULL => full(reply, settings, outside),
+        SPENT => spent(reply, outside),
         code => format!("Code {code}, which planning never gives."),
     }
 }
 
-fn done(reply: &Reply) -> String {
-    let ended = format!("The whole search has ended, after {}.", counted(reply.steps, "step"));
-    match (reply.order, reply.count) {
-        (0, _) => format!("Nothing needs to be added: {QUADRATIC}.\n{ended}"),
-        (order, 1) => format!("Found: 1 smallest set, of {}, and it is the only one.\n{ended}", signals(order)),
-        (order, count) => {
-            format!("Found: {} smallest sets, of {} each, and these are all.\n{ended}", grouped(count), signals(order))
-        }
-    }
+fn done(reply: &Reply, outside: &[&str]) -> String {
+    let (size, among) = (signals(reply.order), among(outside));
+    let found = match (reply.order, reply.count) {
+        (0, _) => format!("Nothing needs to be added: {QUADRATIC}."),
+        (_, 1) => format!("Found: 1 smallest set{among}, of {size}, and it is the only one."),
+        (_, count) => format!("Found: {} smallest sets{among}, of {size} each, and these are all.", grouped(count)),
+    };
+    format!("{found}\nThe whole search has ended, after {}.", counted(reply.steps, "step"))
 }
 
 fn setting(settings: &Settings) -> String {
@@ -130,46 +148,57 @@ fn setting(settings: &Settings) -> String {
     format!("Refused: {}.", faults.join("; "))
 }
 
-fn none(reply: &Reply) -> String {
+fn none(reply: &Reply, outside: &[&str]) -> String {
     let cap = reply.order.saturating_sub(1);
     let further = match cap {
         CARDS => "The box has no more cards than that.".to_string(),
         cap => format!("--cards {} looks further.", cap + 1),
     };
     format!(
-        "None: {}.\nThe search up to there has ended, after {}. {further}",
-        excluded(cap),
-        counted(reply.steps, "step")
+        "None: {}.\nThe search up to there has ended, after {}. {further}{}",
+        excluded(cap, outside),
+        counted(reply.steps, "step"),
+        if cap == 0 { String::new() } else { or_a_knob(outside) }
     )
 }
 
-fn spent(reply: &Reply) -> String {
+/// What may help where signals from outside stand in the way of new ones.
+fn or_a_knob(outside: &[&str]) -> String {
+    let (one, option) = match outside {
+        [] => return String::new(),
+        [name] => (name.to_string(), format!("--knob {name}")),
+        names => (format!("one of {}", listed(names)), "--knob".to_string()),
+    };
+    format!(
+        "\nIf {one} never moves during a run, it is a knob, which new signals may hold: {option} enters it without \
+         the mark."
+    )
+}
+
+fn spent(reply: &Reply, outside: &[&str]) -> String {
     let further = match reply.steps {
         STEPS => "No higher limit is taken.",
         _ => "--steps sets another limit.",
     };
     format!(
         "Spent: {}, the limit.\nSets of {} have not been searched to the end, so nothing is said of them. {further}",
-        stopped(reply),
+        stopped(reply, outside),
         signals(reply.order)
     )
 }
 
-fn full(reply: &Reply, settings: &Settings) -> String {
+fn full(reply: &Reply, settings: &Settings, outside: &[&str]) -> String {
+    let stopped = stopped(reply, outside);
     if reply.order == 0 {
-        return format!(
-            "Full: nothing needs to be added, and there is no room to list the empty set; {}.",
-            stopped(reply)
-        );
+        return format!("Full: nothing needs to be added, and there is no room to list the empty set; {stopped}.");
     }
     let further = match settings.sets.value() {
         Some(SETS) => "There is no more room than that.",
         _ => "--sets makes more room.",
     };
     format!(
-        "Full: {}.\nThere are more sets of {} than there is room for ({}); none is listed, since they would not be all. \
-         {further}",
-        stopped(reply),
+        "Full: {stopped}.\nThere are more sets of {} than there is room for ({}); none is listed, since they would not \
+         be all. {further}",
         signals(reply.order),
         grouped(settings.sets.digits())
     )
@@ -178,15 +207,24 @@ fn full(reply: &Reply, settings: &Settings) -> String {
 #[cfg(test)]
 mod tests {
     use super::*;
-    use crate::typed::system::tests::system;
+    use crate::typed::system::tests::{system, typed, with_signals};
     use crate::typed::text::point;
 
     const TEXT: &str = "x' = x^4 + x^3";
 
-    fn words_with(reply: [u64; 5], settings: &Settings, text: &str) -> Said {
+    fn words_of(reply: [u64; 5], settings: &Settings, text: &str, system: &System) -> Said {
         let [code, order, count, steps, place] = reply;
-        let sources = [Source { file: None, text: text.into() }];
-        said(&Reply { code, order, count, steps, place }, settings, &system(text), &sources)
+        said(&Reply { code, order, count, steps, place }, settings, system, &typed(text))
+    }
+
+    fn words_with(reply: [u64; 5], settings: &Settings, text: &str) -> Said {
+        words_of(reply, settings, text, &system(text))
+    }
+
+    /// The same where signals are fed from outside.
+    fn words_fed(reply: [u64; 5], signals: &str) -> String {
+        let text = format!("x' = x^3*{}", signals.replace(',', "*"));
+        words_of(reply, &Settings::default(), &text, &with_signals(&text, signals)).words
     }
 
     fn words(reply: [u64; 5]) -> String {
@@ -233,8 +271,7 @@ mod tests {
         let text = "x' = x + x^10";
         let said = words_with([3, 0, 0, 0, 2], &Settings::default(), text);
         assert_eq!(said.words, "Refused: term 2, x^10: the power of x is 10, and the box takes 0 to 9.");
-        let sources = [Source { file: None, text: text.into() }];
-        assert_eq!(point(&sources, said.places[0].1), "  x' = x + x^10\n           ^^^^\n");
+        assert_eq!(point(&typed(text), said.places[0].1), "  x' = x + x^10\n           ^^^^\n");
     }
 
     #[test]
@@ -289,14 +326,71 @@ mod tests {
     }
 
     #[test]
+    fn names_in_a_row() {
+        assert_eq!(
+            ["u", "u v", "u v w"].map(|s| listed(&s.split(' ').collect::<Vec<_>>())),
+            ["u", "u and v", "u, v and w"]
+        );
+    }
+
+    #[test]
+    fn what_is_found_leaves_signals_outside() {
+        assert_eq!(
+            words_fed([0, 1, 1, 6, 0], "u"),
+            "Found: 1 smallest set among those that leave u outside the new signals, of 1 new signal, and it is the \
+             only one.\nThe whole search has ended, after 6 steps."
+        );
+        assert_eq!(
+            words_fed([0, 2, 3, 60, 0], "u,v"),
+            "Found: 3 smallest sets among those that leave u and v outside the new signals, of 2 new signals each, and \
+             these are all.\nThe whole search has ended, after 60 steps."
+        );
+        assert!(words_fed([0, 0, 1, 1, 0], "u").starts_with("Nothing needs to be added: each term"));
+    }
+
+    #[test]
+    fn what_is_not_found_left_signals_outside() {
+        assert_eq!(
+            words_fed([5, 7, 0, 126, 0], "u"),
+            "None: no patch of up to 6 new signals exists that leaves u outside the new signals.\n\
+             The search up to there has ended, after 126 steps. The box has no more cards than that.\n\
+             If u never moves during a run, it is a knob, which new signals may hold: --knob u enters it without the \
+             mark."
+        );
+        let three = words_fed([5, 2, 0, 6, 0], "u,v,w");
+        assert!(
+            three.starts_with("None: no patch of up to 1 new signal exists that leaves u, v and w outside"),
+            "{three}"
+        );
+        assert!(three.ends_with(
+            "If one of u, v and w never moves during a run, it is a knob, which new signals may \
+                                 hold: --knob enters it without the mark."
+        ));
+        let level_0 = words_fed([5, 1, 0, 1, 0], "u");
+        assert!(level_0.starts_with("None: without new signals it cannot be wired.") && !level_0.contains("knob"));
+        for (code, begins) in [(6, "Full"), (7, "Spent")] {
+            let said = words_fed([code, 3, 0, 9, 0], "u");
+            let expected = format!(
+                "{begins}: no patch of up to 2 new signals exists that leaves u outside the new signals; stopped"
+            );
+            assert!(said.starts_with(&expected), "{said}");
+            assert!(!said.contains("knob"), "{said}");
+        }
+    }
+
+    #[test]
     fn smallest_is_said_of_a_whole_search_alone() {
         for code in 0..8 {
             for order in 0..8 {
-                let said = words([code, order, 1, 1, 1]).to_lowercase();
+                let reply = [code, order, 1, 1, 1];
                 let may = code == 0 && 0 < order;
-                assert_eq!(said.contains("smallest"), may, "{said}");
-                for boast in ["minimal", "optimal", "best", "fewest", "found:"] {
-                    assert!(may || !said.contains(boast), "{said}");
+                for (said, fed) in [(words(reply), false), (words_fed(reply, "u"), true)] {
+                    let said = said.to_lowercase();
+                    assert_eq!(said.contains("smallest"), may, "{said}");
+                    assert_eq!(said.contains("among those that leave u outside"), may && fed, "{said}");
+                    for boast in ["minimal", "optimal", "best", "fewest", "found:"] {
+                        assert!(may || !said.contains(boast), "{said}");
+                    }
                 }
             }
         }

@@ -75,9 +75,10 @@ fn run(text: &str, belongs: impl Fn(char) -> bool) -> usize {
 #[cfg(test)]
 mod tests {
     use super::*;
+    use crate::typed::text::Holds;
 
     fn words(text: &str) -> Vec<Word> {
-        let source = Source { file: None, text: text.into() };
+        let source = Source::argument(Holds::Equations, text);
         tokens(0, &source).into_iter().map(|t| t.word).collect()
     }
 

@@ -1,7 +1,9 @@
-//! What was typed: the command line, the equations with the system that they are, and the set that is given.
+//! What was typed: the command line, the equations with their names and the system that they are, and the set that is
+//! given.
 
 pub mod given;
 pub mod lexer;
+pub mod names;
 pub mod options;
 pub mod parser;
 pub mod settings;

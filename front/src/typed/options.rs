@@ -3,14 +3,17 @@
 use std::io::Read;
 
 use crate::typed::given::Aim;
+use crate::typed::names::Kind;
 use crate::typed::settings::{Count, Settings};
-use crate::typed::text::{short, Source};
+use crate::typed::text::{short, Holds, Source};
 
 #[derive(Debug, PartialEq, Default)]
 pub struct Options {
     pub settings: Settings,
     /// What is asked of a given set, and its text.
     pub given: Option<(Aim, String)>,
+    /// What names are said to be, in the order of the options.
+    pub said: Vec<(Kind, String)>,
     pub svg: Option<String>,
     pub json: bool,
     pub help: bool,
@@ -63,6 +66,8 @@ pub fn options(arguments: impl IntoIterator<Item = String>) -> Result<Options, S
             }
             THIN => options.given = Some((Aim::Thinning, value)),
             GIVEN => options.given = Some((Aim::Wiring, value)),
+            KNOB => options.said.push((Kind::Knob, value)),
+            SIGNAL => options.said.push((Kind::Signal, value)),
             "--svg" => options.svg = Some(value),
             _ => options.inputs.push(Input::File(value)),
         }
@@ -74,9 +79,11 @@ pub fn options(arguments: impl IntoIterator<Item = String>) -> Result<Options, S
 
 const THIN: &str = "--thin";
 const GIVEN: &str = "--given";
+const KNOB: &str = "--knob";
+const SIGNAL: &str = "--signal";
 
 /// The options that have a value.
-const VALUED: [&str; 8] = ["--cards", "--steps", "--sets", "--set", THIN, GIVEN, "--svg", "--file"];
+const VALUED: [&str; 10] = ["--cards", "--steps", "--sets", "--set", THIN, GIVEN, KNOB, SIGNAL, "--svg", "--file"];
 
 /// Those that limit a search.
 const LIMITS: [&str; 3] = ["--cards", "--steps", "--sets"];
@@ -108,7 +115,7 @@ const LONGEST: u64 = 1 << 20;
 
 pub fn source(input: Input) -> Result<Source, String> {
     let file = match input {
-        Input::Text(text) => return Ok(Source { file: None, text }),
+        Input::Text(text) => return Ok(Source::argument(Holds::Equations, text)),
         Input::File(file) => file,
     };
     let shown = if file == "-" { "standard input".into() } else { format!("the file {:?}", short(&file)) };
@@ -129,7 +136,8 @@ pub fn source(input: Input) -> Result<Source, String> {
         return Err(format!("{shown} is longer than any system"));
     }
     let text = String::from_utf8(bytes).map_err(|_| format!("{shown} is no text"))?;
-    Ok(Source { file: Some(if file == "-" { "standard input".into() } else { file }), text })
+    let name = if file == "-" { "standard input".into() } else { file };
+    Ok(Source { file: Some(name), holds: Holds::Equations, text })
 }
 
 #[cfg(test)]
@@ -184,6 +192,14 @@ mod tests {
     }
 
     #[test]
+    fn names_are_said_in_any_number() {
+        let said = read(&["--signal", "u, v", "x' = u", "--knob=a", "--signal", "w", "--thin", ""]).unwrap().said;
+        let expected = [(Kind::Signal, "u, v"), (Kind::Knob, "a"), (Kind::Signal, "w")];
+        assert_eq!(said, expected.map(|(kind, names)| (kind, names.to_string())));
+        assert_eq!(read(&["x' = x"]).unwrap().said, []);
+    }
+
+    #[test]
     fn numbers_out_of_range_are_for_the_planner() {
         assert!(read(&["--cards", "99"]).is_ok());
         assert!(read(&["--steps", "99999999999999999999999"]).is_ok());
@@ -201,6 +217,9 @@ mod tests {
             (vec!["--set", "0"], "from 1"),
             (vec!["--json=yes"], "takes no value"),
             (vec!["--thin"], "needs a value"),
+            (vec!["--signal"], "needs a value"),
+            (vec!["--knob"], "needs a value"),
+            (vec!["--signals", "u"], "--signals is no option"),
             (vec!["--thin", "x^2", "--cards", "2"], "--cards does not go with --thin"),
             (vec!["--steps=9", "--sets", "1", "--thin", "x^2"], "--steps does not go with --thin"),
             (vec!["--sets", "1", "--thin="], "--sets does not go with --thin"),

@@ -1,39 +1,11 @@
 //! Equations and sets from text. Terms and signals are kept as typed, unmerged, each with its place: what is wrong with
 //! a system or a set is for the planner to say, and what is none at all is said here.
 
-use crate::panel::{CARDS, VARIABLES};
+use crate::panel::VARIABLES;
 use crate::typed::given::Aim;
 use crate::typed::lexer::{tokens, Token, Word};
-use crate::typed::text::{short, text_of, Fault, Source, Span};
-
-/// A name of the text. Numbers count from 1.
-#[derive(Debug, Clone, Copy, PartialEq)]
-pub enum Variable {
-    /// x, y, z
-    Letter(usize),
-    /// x1, x2, .., as many as the box takes
-    Numbered(usize),
-    /// w1, w2, .., one for each card: a new signal of an earlier plan, pasted back
-    Wired(usize),
-}
-
-/// The variables that have names without numbers.
-pub const LETTERS: [&str; 3] = ["x", "y", "z"];
-
-impl Variable {
-    pub fn of(name: &str) -> Option<Variable> {
-        let letter = LETTERS.iter().position(|&letter| letter == name).map(|i| Variable::Letter(i + 1));
-        letter
-            .or_else(|| number(name, 'x', VARIABLES).map(Variable::Numbered))
-            .or_else(|| number(name, 'w', CARDS as usize).map(Variable::Wired))
-    }
-}
-
-/// The number of a name like x1: 1 to `most`, without zeros before it.
-fn number(name: &str, letter: char, most: usize) -> Option<usize> {
-    let digits = name.strip_prefix(letter)?;
-    (1..=most).find(|i| i.to_string() == digits)
-}
+use crate::typed::names::{wired, Names, Variable};
+use crate::typed::text::{short, Fault, Holds, Source, Span};
 
 /// One term as typed. Numbers too large to hold stand at the largest that fits; no rule of the box lets them pass.
 #[derive(Debug, Clone, PartialEq)]
@@ -64,6 +36,7 @@ pub struct Typed {
     pub names: Vec<(Variable, Span)>,
     /// The set that is given.
     pub given: Option<Given>,
+    pub known: Names,
 }
 
 /// A set of new signals.
@@ -83,37 +56,26 @@ impl Typed {
 }
 
 pub fn parse(sources: &[Source]) -> Result<Typed, Fault> {
+    let known = Names::of(sources)?;
     let mut typed = Typed::default();
-    for (number, source) in sources.iter().enumerate() {
-        let mut parser = Parser { tokens: tokens(number, source), at: 0, text: &source.text, typed: &mut typed };
-        parser.text()?;
+    for (number, source) in sources.iter().enumerate().filter(|(_, source)| source.holds == Holds::Equations) {
+        Parser { tokens: tokens(number, source), at: 0, known: &known, typed: &mut typed }.text()?;
     }
     if typed.equations.is_empty() {
         return Err(Fault::nowhere("there is no equation here; one reads x' = x^4 + x^3"));
     }
-    one_style(&typed)?;
-    for &(name, span) in &typed.namings {
-        if !typed.equations.iter().any(|e| e.left == name) {
-            let name = text_of(sources, span);
-            return Err(Fault::at(span, format!("{name} is named here, and its equation, {name}' = .., is missing")));
+    for (number, source) in sources.iter().enumerate() {
+        if let Holds::Set(aim) = source.holds {
+            // The names of a set are kept apart from those that stand in equations.
+            let mut own = Typed::default();
+            let mut parser = Parser { tokens: tokens(number, source), at: 0, known: &known, typed: &mut own };
+            let signals = parser.set()?;
+            typed.given = Some(Given { aim, signals, names: own.names });
         }
     }
-    Ok(typed)
-}
-
-/// The same where a set is given: its text is the last source, the others hold the equations.
-pub fn parse_with_set(sources: &[Source], aim: Aim) -> Result<Typed, Fault> {
-    let Some((set, equations)) = sources.split_last() else {
-        return parse(sources);
-    };
-    let mut typed = parse(equations)?;
-    // The names of a set are kept apart from those that stand in equations.
-    let mut own = Typed::default();
-    let mut parser = Parser { tokens: tokens(equations.len(), set), at: 0, text: &set.text, typed: &mut own };
-    let signals = parser.set()?;
-    typed.given = Some(Given { aim, signals, names: own.names });
     one_style(&typed)?;
-    Ok(typed)
+    known.fit(&typed)?;
+    Ok(Typed { known, ..typed })
 }
 
 fn one_style(typed: &Typed) -> Result<(), Fault> {
@@ -137,7 +99,7 @@ fn one_style(typed: &Typed) -> Result<(), Fault> {
 struct Parser<'a> {
     tokens: Vec<Token>,
     at: usize,
-    text: &'a str,
+    known: &'a Names,
     typed: &'a mut Typed,
 }
 
@@ -150,9 +112,10 @@ impl Parser<'_> {
         self.tokens[self.at].span
     }
 
-    fn following(&self) -> &Word {
-        let next = (self.at + 1).min(self.tokens.len() - 1);
-        &self.tokens[next].word
+    /// The word that comes so many after this one.
+    fn ahead(&self, by: usize) -> &Word {
+        let there = (self.at + by).min(self.tokens.len() - 1);
+        &self.tokens[there].word
     }
 
     /// Takes a word. The end is never taken.
@@ -189,27 +152,27 @@ impl Parser<'_> {
     }
 
     fn line(&mut self) -> Result<(), Fault> {
-        let left = match self.word() {
-            Word::Name(_) => self.variable()?,
+        let (name, span) = match self.word() {
+            Word::Name(name) => (short(name), self.span()),
             Word::Other(_) => return self.stranger(),
             _ => return self.fault("an equation begins with the name of its variable, as in x' = x^2"),
         };
-        let span = self.tokens[self.at - 1].span;
-        let name = self.text[span.from..span.to].to_string();
-        let naming = match self.word() {
-            Word::Prime => {
+        match self.ahead(1) {
+            Word::Equals => self.naming(&name)?,
+            Word::Prime | Word::Other(_) => {}
+            _ => {
                 self.take();
-                if *self.word() == Word::Prime {
-                    return self
-                        .fault("a second derivative: give the first a variable of its own, as in x' = y, y' = -x");
-                }
-                false
+                return self.fault(format!("an equation begins with {name}' and ="));
             }
-            Word::Equals if matches!(left, Variable::Wired(_)) => true,
-            Word::Equals => return Err(Fault::at(span, format!("the left side is a derivative, written {name}'"))),
-            Word::Other(_) => return self.stranger(),
-            _ => return self.fault(format!("an equation begins with {name}' and =")),
-        };
+        }
+        let left = self.variable()?;
+        let naming = *self.word() == Word::Equals;
+        if !naming && !self.takes(Word::Prime) {
+            return self.stranger();
+        }
+        if *self.word() == Word::Prime {
+            return self.fault("a second derivative: give the first a variable of its own, as in x' = y, y' = -x");
+        }
         if !self.takes(Word::Equals) {
             if let Word::Other(_) = self.word() {
                 return self.stranger();
@@ -240,6 +203,17 @@ impl Parser<'_> {
         }
         self.typed.names.insert(names, (left, span));
         self.typed.equations.push(Equation { left, span, terms });
+        Ok(())
+    }
+
+    /// A line that begins with a name and = says what a pasted signal is, and is taken only beside its equation.
+    fn naming(&self, name: &str) -> Result<(), Fault> {
+        if wired(name).is_none() {
+            return self.fault(format!("the left side is a derivative, written {name}'"));
+        }
+        if self.known.look(name).is_none() {
+            return self.fault(format!("{name} is named here, and its equation, {name}' = .., is missing"));
+        }
         Ok(())
     }
 
@@ -333,8 +307,12 @@ impl Parser<'_> {
 
     /// A factor of a new signal, which is no number.
     fn power_of_a_name(&mut self, signal: &mut Term) -> Result<(), Fault> {
-        match self.word() {
-            Word::Name(_) => self.factor(signal),
+        match (self.word(), self.ahead(1)) {
+            (Word::Name(_), Word::Prime | Word::Equals) => {
+                self.take();
+                self.no_signal()
+            }
+            (Word::Name(_), _) => self.factor(signal),
             _ => self.no_signal(),
         }
     }
@@ -372,27 +350,33 @@ impl Parser<'_> {
         let Word::Name(name) = self.word().clone() else {
             return self.fault("a name is missing here");
         };
-        if let Some(variable) = Variable::of(&name) {
+        if let Some(variable) = self.known.look(&name) {
             self.take();
             return Ok(variable);
         }
-        let name = short(&name);
-        let derivative = name.strip_prefix('d').filter(|rest| Variable::of(rest).is_some());
-        match (self.following(), derivative) {
-            (Word::Other('('), _) => {
-                self.fault(format!("{name}(..) is a function: the box takes sums of products of powers alone"))
+        let shown = short(&name);
+        match (self.ahead(1), self.derivative(&shown), self.known.factors(&name)) {
+            (Word::Other('('), ..) => {
+                self.fault(format!("{shown}(..) is a function: the box takes sums of products of powers alone"))
             }
-            (Word::Other('/'), Some(rest)) => self.fault(format!("write the derivative of {rest} as {rest}'")),
-            _ if name.chars().all(|c| "xyz".contains(c)) => {
-                let product: Vec<String> = name.chars().map(String::from).collect();
-                self.fault(format!(
-                    "the name {name} is not known: a product is written {} or {}",
-                    product.join("*"),
-                    product.join(" ")
-                ))
-            }
-            _ => self.fault(format!("the name {name} is not known: variables are x, y, z or x1 to x{VARIABLES}")),
+            (_, Some(of), _) => self.fault(format!("write the derivative of {of} as {of}'")),
+            (_, _, Some(factors)) => self.fault(format!(
+                "the name {shown} is not known: a product is written {} or {}",
+                short(&factors.join("*")),
+                short(&factors.join(" "))
+            )),
+            _ => self.fault(format!(
+                "the name {shown} is not known: known are {}, and what --knob or --signal names",
+                self.known.listed()
+            )),
         }
+    }
+
+    /// What stands behind the d of a derivative that is written dx/dt.
+    fn derivative<'a>(&self, name: &'a str) -> Option<&'a str> {
+        let divided = matches!((self.ahead(1), self.ahead(2)),
+            (Word::Other('/'), Word::Name(below)) if below.starts_with('d'));
+        name.strip_prefix('d').filter(|of| divided && !of.is_empty())
     }
 
     /// Says what is wrong with a character that no equation has.
@@ -418,10 +402,15 @@ fn whole(digits: &str) -> u128 {
 #[cfg(test)]
 mod tests {
     use super::*;
-    use crate::typed::text::point;
+    use crate::typed::text::{point, text_of};
 
     fn sources(texts: &[&str]) -> Vec<Source> {
-        texts.iter().map(|text| Source { file: None, text: text.to_string() }).collect()
+        texts.iter().map(|&text| Source::argument(Holds::Equations, text)).collect()
+    }
+
+    /// Equations with a set that is given.
+    fn with_set(set: &str) -> Vec<Source> {
+        vec![Source::argument(Holds::Equations, "x' = y"), Source::argument(Holds::Set(Aim::Thinning), set)]
     }
 
     fn good(text: &str) -> Typed {
@@ -515,6 +504,7 @@ mod tests {
         let (words, at) = bad("w1 = x^2\nx' = x*w1");
         assert!(words.contains("w1' = .., is missing"), "{words}");
         assert_eq!(at, "w1");
+        assert_eq!(good("w7 = x^2\nx' = x*w7\nw7' = 2*w7^2").namings.len(), 1);
     }
 
     #[test]
@@ -530,14 +520,46 @@ mod tests {
 
     #[test]
     fn unknown_names() {
-        for (text, name) in
-            [("x' = u", "u"), ("x' = x7", "x7"), ("x0' = 1", "x0"), ("X' = 1", "X"), ("x1' = x12", "x12")]
-        {
+        for (text, name) in [
+            ("x' = u", "u"),
+            ("x' = x7", "x7"),
+            ("x' = x0", "x0"),
+            ("x' = X", "X"),
+            ("x1' = x12", "x12"),
+            ("x' = w1", "w1"),
+            ("S' = -2 S I, I' = 2 S l", "l"),
+        ] {
             let (words, at) = bad(text);
-            assert!(words.contains("is not known"), "{text}: {words}");
+            assert!(words.contains(&format!("the name {name} is not known: known are ")), "{text}: {words}");
             assert_eq!(at, name);
         }
-        assert!(bad("x' = xy").0.contains("x*y or x y"));
+        let (words, _) = bad("S' = -2 S I, I' = 2 S J");
+        assert_eq!(
+            words,
+            "the name J is not known: known are S, I, x, y, z, x1 to x6, and what --knob or --signal names"
+        );
+    }
+
+    #[test]
+    fn a_product_has_something_between_its_names() {
+        for (text, product) in [
+            ("x' = xy", "x*y or x y"),
+            ("x1' = x1x2", "x1*x2 or x1 x2"),
+            ("S' = -2SI, I' = 2SI", "S*I or S I"),
+            ("theta' = theta + thetax", "theta*x or theta x"),
+        ] {
+            let (words, _) = bad(text);
+            assert!(words.ends_with(&format!("is not known: a product is written {product}")), "{text}: {words}");
+        }
+        assert_eq!(terms("SI' = 2SI")[0].2, vec![(Variable::Other(0), 1)], "a name that has an equation is one");
+    }
+
+    #[test]
+    fn names_that_have_equations() {
+        let (s, i) = (Variable::Other(0), Variable::Other(1));
+        assert_eq!(terms("S' = -2 S I, I' = 2*S*I")[0], (true, 2, vec![(s, 1), (i, 1)], "2 S I".into()));
+        assert_eq!(terms("theta' = theta^3 x_1, x_1' = 0")[0].2, vec![(s, 3), (i, 1)]);
+        assert_eq!(terms("x' = S, S' = x")[0].2, vec![(s, 1)], "known before its equation comes");
     }
 
     #[test]
@@ -551,6 +573,7 @@ mod tests {
             ("x' = x^-1", "negative power", "-"),
             ("x' = x^y", "whole number", "y"),
             ("x' = x*(y + 1)", "multiplied out", "("),
+            ("S' = S(1 + S)", "multiplied out", "("),
             ("x' = x²", "with ^", "²"),
             ("x' = 2^3", "multiply it out", "^"),
             ("x' = x^2^3", "multiply it out", "^"),
@@ -566,10 +589,14 @@ mod tests {
     fn what_is_no_equation() {
         for (text, words) in [
             ("x^3", "begins with x'"),
+            ("hello", "begins with hello'"),
+            ("hello world = 1", "begins with hello'"),
             ("x = x^3", "written x'"),
             ("x' x^3", "= is missing after x'"),
             ("x'' = x", "second derivative"),
             ("dx/dt = x", "as x'"),
+            ("dtheta/dt = 1", "as theta'"),
+            ("S = x^3", "written S'"),
             ("= x", "begins with the name"),
             ("x' = x y' = y", "another equation begins"),
             ("x' = x = y", "second ="),
@@ -602,16 +629,16 @@ mod tests {
 
     /// The powers and the text of each signal of a set.
     fn signals(set: &str) -> Vec<(Vec<(Variable, u128)>, String)> {
-        let sources = sources(&["x' = y", set]);
-        let typed = parse_with_set(&sources, Aim::Thinning).unwrap_or_else(|fault| panic!("{set}: {fault:?}"));
+        let sources = with_set(set);
+        let typed = parse(&sources).unwrap_or_else(|fault| panic!("{set}: {fault:?}"));
         let signals = typed.given.unwrap().signals.into_iter();
         signals.map(|s| (s.powers, text_of(&sources, s.span).to_string())).collect()
     }
 
     /// The words of a refusal of a set, and what they point at, which is in the set.
     fn bad_set(set: &str) -> (String, String) {
-        let sources = sources(&["x' = y", set]);
-        let fault = parse_with_set(&sources, Aim::Thinning).expect_err(set);
+        let sources = with_set(set);
+        let fault = parse(&sources).expect_err(set);
         let span = fault.span.unwrap();
         assert_eq!(span.source, 1, "{set}");
         (fault.words, text_of(&sources, span).to_string())
@@ -647,6 +674,7 @@ mod tests {
             ("sin(x)", "function", "sin"),
             ("w1 = x^2", "an equation", "="),
             ("x' = x", "an equation", "'"),
+            ("S' = x", "an equation", "'"),
             ("{x^2}", "written without them", "{"),
             ("x^2)", "written without them", ")"),
             ("x^2/y", "fraction", "/"),
@@ -674,7 +702,7 @@ mod tests {
         let (words, at) = bad_set("y^2, x2^2, x1");
         assert!(words.contains("not both"), "{words}");
         assert_eq!(at, "x2");
-        let faulty = parse_with_set(&sources(&["x' = x +", "1"]), Aim::Thinning).unwrap_err();
-        assert_eq!(faulty.span.unwrap().source, 0, "the equations come first");
+        let faulty = [with_set("1"), sources(&["y' = x +"])].concat();
+        assert_eq!(parse(&faulty).unwrap_err().span.unwrap().source, 2, "the equations come first");
     }
 }

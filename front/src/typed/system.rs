@@ -3,7 +3,8 @@
 use crate::algebra::{self, Exponents};
 use crate::panel::{COEFFICIENT_AT, EXPONENTS_AT, TERM_BYTES, VARIABLES};
 use crate::typed::given::{Aim, Given, Signal};
-use crate::typed::parser::{self, Typed, Variable, LETTERS};
+use crate::typed::names::{too_many, wired, Kind, Variable};
+use crate::typed::parser::{self, Typed};
 use crate::typed::text::{Fault, Span};
 
 /// A term record.
@@ -57,6 +58,12 @@ impl Term {
     }
 }
 
+/// The numbers of the names that have none of their own: those that are left, in order.
+fn numbers_left(typed: &Typed) -> Vec<usize> {
+    let taken: Vec<usize> = typed.all_names().filter_map(|(v, _)| v.own_number()).collect();
+    (1..).filter(|i| !taken.contains(i)).take(typed.known.others.len()).collect()
+}
+
 /// A system that can be asked about.
 #[derive(Debug, PartialEq)]
 pub struct System {
@@ -66,10 +73,12 @@ pub struct System {
     pub used: Vec<bool>,
     /// Whether the variable has an equation.
     pub fed: Vec<bool>,
+    /// What an option says of the variable.
+    pub said: Vec<Option<Kind>>,
     /// All terms in the order of the text: term p is record p.
     pub terms: Vec<Term>,
     /// New signals are named on from here, w1 where it is 0.
-    pub wired: usize,
+    pub wired: u32,
     /// The names that lines like `w1 = x^2` gave.
     pub namings: Vec<String>,
     /// The set that is given; nothing where a plan is asked for.
@@ -78,23 +87,13 @@ pub struct System {
 
 impl System {
     pub fn of(typed: &Typed) -> Result<System, Fault> {
-        let largest = |of: fn(Variable) -> usize| typed.all_names().map(|(v, _)| of(v)).max().unwrap_or(0);
-        let plain = largest(|v| match v {
-            Variable::Letter(i) | Variable::Numbered(i) => i,
-            Variable::Wired(_) => 0,
-        });
-        let wired = largest(|v| match v {
-            Variable::Wired(i) => i,
-            _ => 0,
-        });
-        // A pasted signal comes after all variables.
+        let others = numbers_left(typed);
         let number = |v| match v {
             Variable::Letter(i) | Variable::Numbered(i) => i,
-            Variable::Wired(i) => plain + i,
+            Variable::Other(i) => others[i],
         };
         if let Some((_, span)) = typed.all_names().find(|&(v, _)| VARIABLES < number(v)) {
-            let count = plain + wired;
-            return Err(Fault::at(span, format!("{count} variables, and the box takes up to {VARIABLES}")));
+            return Err(too_many(span));
         }
         let powers = |factors: &[(Variable, u128)]| {
             let mut powers: Powers = [0; VARIABLES];
@@ -104,21 +103,22 @@ impl System {
             }
             powers
         };
+        let n = typed.all_names().map(|(v, _)| number(v)).max().unwrap_or(0);
         let letters = typed.all_names().any(|(v, _)| matches!(v, Variable::Letter(_)));
-        let name = |i: usize| match i {
-            i if plain <= i => format!("w{}", i - plain + 1),
-            i if letters => LETTERS[i].into(),
-            i => format!("x{}", i + 1),
-        };
-        let n = plain + wired;
+        // A number that no name has is named as its neighbours are.
+        let plain = |i| if letters { Variable::Letter(i) } else { Variable::Numbered(i) };
+        let variable = |i| others.iter().position(|&other| other == i).map_or(plain(i), Variable::Other);
+        let variables: Vec<Variable> = (1..=n).map(variable).collect();
+        let names: Vec<String> = variables.iter().map(|&v| typed.known.text(v)).collect();
         let mut system = System {
-            names: (0..n).map(name).collect(),
             used: vec![false; n],
             fed: vec![false; n],
+            said: variables.iter().map(|&v| typed.known.said_of(v)).collect(),
             terms: Vec::new(),
-            wired,
+            wired: names.iter().filter_map(|name| wired(name)).max().unwrap_or(0),
             namings: Vec::new(),
             given: None,
+            names,
         };
         for &(v, _) in &typed.names {
             system.used[number(v) - 1] = true;
@@ -140,15 +140,40 @@ impl System {
         Ok(system)
     }
 
+    /// What a variable is, by its number from 0.
+    pub fn kind(&self, i: usize) -> Kind {
+        self.said[i].unwrap_or(if self.fed[i] { Kind::Variable } else { Kind::Knob })
+    }
+
+    /// The names of those variables, by their numbers from 0.
+    pub fn those(&self, which: impl Fn(usize) -> bool) -> Vec<&str> {
+        let all = self.names.iter().enumerate();
+        all.filter(|&(i, _)| which(i)).map(|(_, name)| name.as_str()).collect()
+    }
+
+    /// The names that options say to be of a kind.
+    pub fn said_to_be(&self, kind: Kind) -> Vec<&str> {
+        self.those(|i| self.said[i] == Some(kind))
+    }
+
+    /// The signals fed from outside.
+    pub fn outside(&self) -> Vec<&str> {
+        self.said_to_be(Kind::Signal)
+    }
+
+    /// The same as the planner takes them: bit i marks variable i, from 0.
+    pub fn marks(&self) -> u64 {
+        (0..self.names.len()).filter(|&i| self.kind(i) == Kind::Signal).map(|i| 1 << i).sum()
+    }
+
     /// The records, or the number of the first term that fits none, from 1.
     pub fn records(&self) -> Result<Vec<Record>, usize> {
         self.terms.iter().enumerate().map(|(i, t)| t.record().ok_or(i + 1)).collect()
     }
 
-    /// Variables that stand in a term and have no equation.
+    /// Variables that stand in a term and are fed neither by an equation nor from outside.
     pub fn unfed(&self) -> Vec<&str> {
-        let all = self.names.iter().zip(&self.used).zip(&self.fed);
-        all.filter(|((_, &used), &fed)| used && !fed).map(|((name, _), _)| name.as_str()).collect()
+        self.those(|i| self.used[i] && !self.fed[i] && self.kind(i) == Kind::Knob)
     }
 
     /// What is asked of the given set; nothing where a plan is asked for.
@@ -159,8 +184,7 @@ impl System {
     /// Variables that stand in no equation, and in the set that is given.
     pub fn only_given(&self) -> Vec<&str> {
         let stands = |i: usize| self.given.iter().flat_map(|given| &given.signals).any(|s| s.powers[i] != 0);
-        let all = self.names.iter().enumerate();
-        all.filter(|&(i, _)| !self.used[i] && stands(i)).map(|(_, name)| name.as_str()).collect()
+        self.those(|i| !self.used[i] && stands(i))
     }
 
     /// The signals of the patch that a set makes, by number: 1, the variables, the new ones.
@@ -180,9 +204,11 @@ impl System {
         set.iter().map(|m| algebra::monomial(&self.names, m)).collect()
     }
 
-    /// The name of new signal number `i` of a set, from 1.
+    /// The name of new signal number `i` of a set, from 1. It is none of the typed names, however long those are.
     pub fn new_name(&self, i: usize) -> String {
-        format!("w{}", self.wired + i)
+        let numbers = u64::from(self.wired) + 1..;
+        let names = numbers.map(|number| format!("w{number}")).filter(|name| !self.names.contains(name));
+        names.take(i).last().unwrap_or_default()
     }
 
     /// The equations as they were read, variable by variable.
@@ -201,22 +227,44 @@ impl System {
 #[cfg(test)]
 pub mod tests {
     use super::*;
-    use crate::typed::parser::{parse, parse_with_set};
-    use crate::typed::text::Source;
+    use crate::typed::parser::parse;
+    use crate::typed::text::{Holds, Source};
 
-    pub fn system(text: &str) -> System {
-        let sources = [Source { file: None, text: text.into() }];
-        System::of(&parse(&sources).unwrap()).unwrap()
+    /// Equations as a source.
+    pub fn typed(text: &str) -> [Source; 1] {
+        [Source::argument(Holds::Equations, text)]
     }
 
     /// The equations and the set that is given, as sources.
-    pub fn sources_with_set(text: &str, set: &str) -> [Source; 2] {
-        [text, set].map(|text| Source { file: None, text: text.into() })
+    pub fn typed_with_set(aim: Aim, text: &str, set: &str) -> [Source; 2] {
+        [Source::argument(Holds::Equations, text), Source::argument(Holds::Set(aim), set)]
+    }
+
+    /// Names that are said to be of a kind, as sources.
+    pub fn said(names: &[(Kind, &str)]) -> Vec<Source> {
+        names.iter().map(|&(kind, names)| Source::argument(Holds::Names(kind), names)).collect()
+    }
+
+    fn taken(sources: &[Source]) -> Result<System, Fault> {
+        parse(sources).and_then(|typed| System::of(&typed))
+    }
+
+    pub fn system_of(sources: &[Source]) -> System {
+        taken(sources).unwrap()
+    }
+
+    pub fn system(text: &str) -> System {
+        system_of(&typed(text))
+    }
+
+    /// A system with signals fed from outside.
+    pub fn with_signals(text: &str, signals: &str) -> System {
+        system_of(&[&typed(text)[..], &said(&[(Kind::Signal, signals)])].concat())
     }
 
     /// A system with a set that is given for something.
     pub fn given(aim: Aim, text: &str, set: &str) -> System {
-        System::of(&parse_with_set(&sources_with_set(text, set), aim).unwrap()).unwrap()
+        system_of(&typed_with_set(aim, text, set))
     }
 
     /// The same where it does not matter for what, and where it is to be thinned.
@@ -273,10 +321,52 @@ pub mod tests {
     }
 
     #[test]
-    fn more_than_six_variables() {
-        let sources = [Source { file: None, text: "x4' = w3, w3' = 1".into() }];
-        let fault = System::of(&parse(&sources).unwrap()).unwrap_err();
-        assert_eq!(fault.words, "7 variables, and the box takes up to 6");
+    fn names_take_the_numbers_that_are_left() {
+        assert_eq!(system("S' = -2 S I, I' = 2 S I").names, ["S", "I"]);
+        assert_eq!(system("I' = 2 S I, S' = -2 S I").names, ["I", "S"], "as their equations come");
+        assert_eq!(system("S' = x, x' = S").names, ["x", "S"], "x is number 1");
+        assert_eq!(system("S' = x3, T' = S, U' = T").names, ["S", "T", "x3", "U"], "x3 is number 3");
+        assert_eq!(system("S' = y").names, ["S", "y"]);
+        assert_eq!(system("S' = z").names, ["S", "y", "z"], "y stands nowhere");
+        assert_eq!(system("S' = x3").names, ["S", "x2", "x3"]);
+        let sources = [&typed("theta' = u a, x_1' = theta")[..], &said(&[(Kind::Signal, "u"), (Kind::Knob, "a")])];
+        let system = system_of(&sources.concat());
+        assert_eq!(system.names, ["theta", "x_1", "u", "a"]);
+        assert_eq!([0, 1, 2, 3].map(|i| system.kind(i)), [Kind::Variable, Kind::Variable, Kind::Signal, Kind::Knob]);
+        assert_eq!((system.marks(), system.outside()), (4, vec!["u"]));
+        assert_eq!(system.records().unwrap()[0].exponents, [0, 0, 1, 1, 0, 0]);
+    }
+
+    #[test]
+    fn a_signal_keeps_its_number() {
+        let first = with_signals("x2' = x1*x2", "x1");
+        assert_eq!((first.names.as_slice(), first.marks()), (["x1".to_string(), "x2".to_string()].as_slice(), 1));
+        let both = with_signals("x1' = x2*x3", "x3, x2");
+        assert_eq!((both.marks(), both.outside()), (6, vec!["x2", "x3"]));
+        assert_eq!(system("x1' = x2").marks(), 0, "a knob has no mark");
+        assert_eq!(system("x1' = x2").kind(1), Kind::Knob);
+    }
+
+    #[test]
+    fn more_than_six_names() {
+        let fault = |text: &str, names: &[(Kind, &str)]| {
+            let sources = [&typed(text)[..], &said(names)].concat();
+            let fault = taken(&sources).unwrap_err();
+            assert!(fault.words.starts_with("one name too many: the box takes up to 6"), "{}", fault.words);
+            crate::typed::text::text_of(&sources, fault.span.unwrap()).to_string()
+        };
+        assert_eq!(fault("x1' = x2 x3 x4 x5 x6, S' = x1", &[]), "S");
+        assert_eq!(fault("a' = x1 x2 x3 x4 u v", &[(Kind::Signal, "u, v")]), "v");
+        assert_eq!(system("x1' = x2 x3 x5 x6, S' = x1").names[3], "S");
+    }
+
+    #[test]
+    fn new_signals_have_names_of_their_own() {
+        let new = |text: &str| [1, 2].map(|i| system(text).new_name(i));
+        assert_eq!(new("x' = 1"), ["w1", "w2"]);
+        assert_eq!(new("w' = 1, w0' = 1, w01' = 1"), ["w1", "w2"]);
+        assert_eq!(new("w2' = 1"), ["w3", "w4"]);
+        assert_eq!(new("w4294967295' = 1, w4294967296' = 1"), ["w4294967297", "w4294967298"]);
     }
 
     #[test]
@@ -290,10 +380,8 @@ pub mod tests {
         let plain = super::tests::system("x1' = x2^3");
         assert_eq!((plain.only_given(), plain.aim()), (Vec::<&str>::new(), None));
         assert_eq!(given(Aim::Wiring, "x' = y", "").aim(), Some(Aim::Wiring));
-        let sources = sources_with_set("x4' = w2", "x4^2, w2*w3");
-        let fault = System::of(&parse_with_set(&sources, Aim::Wiring).unwrap()).unwrap_err();
-        assert_eq!(fault.words, "7 variables, and the box takes up to 6");
-        assert_eq!(fault.span.map(|span| (span.source, span.from)), Some((1, 9)));
+        let fault = taken(&typed_with_set(Aim::Wiring, "S' = x1 x2 x3 x4", "x1*x2, x5*x6")).unwrap_err();
+        assert!(fault.words.starts_with("one name too many"), "{}", fault.words);
     }
 
     #[test]
@@ -314,9 +402,14 @@ pub mod tests {
     /// Texts of all sorts: pieces of equations and sets in any order, in every other text such as may stand there after
     /// `start`.
     fn babble(seed: &mut u64, start: &'static str) -> String {
-        const GOOD: [&str; 14] =
-            ["x", "y", "z^2", "x^3", "**2", "2", "10", "*", " ", " + ", " - ", "+", ", y' = -", "\nz' = "];
-        const ALL: [&str; 32] = [
+        const GOOD: [&str; 16] = [
+            "x", "y", "z^2", "x^3", "**2", "2", "10", "*", " ", " + ", " - ", "+", ", y' = -", "\nz' = ", ", S' = ",
+            "*S",
+        ];
+        const ALL: [&str; 35] = [
+            "S' = ",
+            "S",
+            "S_2",
             "x1' = ",
             "w1' = ",
             "w1 = ",
@@ -365,8 +458,8 @@ pub mod tests {
         let (mut seed, mut read) = (1, 0);
         for _ in 0..20_000 {
             let text = babble(&mut seed, "x' = x");
-            let sources = [Source { file: None, text }];
-            let system = match parse(&sources).and_then(|typed| System::of(&typed)) {
+            let sources = typed(&text);
+            let system = match taken(&sources) {
                 Ok(system) => system,
                 Err(fault) => {
                     // Every fault can be pointed at.
@@ -392,8 +485,8 @@ pub mod tests {
     fn no_set_is_too_odd_and_what_is_shown_is_what_was_read() {
         let (mut seed, mut read) = (1, 0);
         for _ in 0..20_000 {
-            let sources = sources_with_set("x' = y, z' = 1", &babble(&mut seed, "x*y, x"));
-            let system = match parse_with_set(&sources, Aim::Wiring).and_then(|typed| System::of(&typed)) {
+            let sources = typed_with_set(Aim::Wiring, "x' = y, z' = 1", &babble(&mut seed, "x*y, x"));
+            let system = match taken(&sources) {
                 Ok(system) => system,
                 Err(fault) => {
                     fault.span.map(|span| crate::typed::text::point(&sources, span));

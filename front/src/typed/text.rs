@@ -1,11 +1,31 @@
 //! What was typed, and pointing at a place in it.
 
-/// A text that equations or a set are read from: an argument, a file or standard input.
+use crate::typed::given::Aim;
+use crate::typed::names::Kind;
+
+/// A text that was typed: an argument, a file or standard input.
 #[derive(Debug, Clone, PartialEq)]
 pub struct Source {
     /// The file's name, or nothing for an argument.
     pub file: Option<String>,
+    pub holds: Holds,
     pub text: String,
+}
+
+/// What a text is read for.
+#[derive(Debug, Clone, Copy, PartialEq)]
+pub enum Holds {
+    Equations,
+    /// The set that is given, and what is asked of it.
+    Set(Aim),
+    /// Names that are said to be of a kind.
+    Names(Kind),
+}
+
+impl Source {
+    pub fn argument(holds: Holds, text: impl Into<String>) -> Source {
+        Source { file: None, holds, text: text.into() }
+    }
 }
 
 /// Bytes `from` to `to` of one source.
@@ -113,7 +133,7 @@ mod tests {
     use super::*;
 
     fn argument(text: &str) -> Vec<Source> {
-        vec![Source { file: None, text: text.into() }]
+        vec![Source::argument(Holds::Equations, text)]
     }
 
     #[test]
@@ -124,7 +144,8 @@ mod tests {
 
     #[test]
     fn a_line_of_a_file_is_named() {
-        let sources = vec![Source { file: Some("two.txt".into()), text: "x' = x\n\ty' = y/2\n".into() }];
+        let sources =
+            vec![Source { file: Some("two.txt".into()), holds: Holds::Equations, text: "x' = x\n\ty' = y/2\n".into() }];
         let span = Span { source: 0, from: 14, to: 15 };
         assert_eq!(point(&sources, span), "  two.txt, line 2:\n  \ty' = y/2\n  \t      ^\n");
     }

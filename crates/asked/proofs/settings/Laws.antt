@@ -2,7 +2,7 @@
 use Prim.Native.Nat.{ℕ}
 use lib.Dec.{leb, leb→le}
 use Rattle.monomial.proofs.Tests.{cond-cases}
-use Rattle.asked.specs.Settings.{mostSets, Roomy, numbered, within, asked, askedThin, askedWire}
+use Rattle.asked.specs.Settings.{mostSets, Roomy, numbered, panelled, within, asked, askedThin, askedWire}
 use Rattle.lines.specs.declared.number.Number.{Number}
 use Rattle.lines.specs.declared.number.Number.the-variants.{Of, Nothing}
 use Rattle.report.specs.declared.prepare.Settings.{Settings}
@@ -13,20 +13,23 @@ numbered-roomy : (x : Number) (f : ℕ → Asked) → ((v : ℕ) → Roomy (f v)
 numbered-roomy (Of v) f h = h v
 numbered-roomy Nothing f h = tt
 
-within-roomy : (n cap limit sets which : ℕ) → Roomy (within n cap limit sets which)
-within-roomy n cap limit sets which =
-    let s : Settings = record { n = n; cap = cap; limit = limit; room = sets; which = which } in
+panelled-roomy : (x y : Number) (f : ℕ → ℕ → Asked) → ((n marks : ℕ) → Roomy (f n marks)) → Roomy (panelled x y f)
+panelled-roomy x y f h = numbered-roomy x _ (λ n. numbered-roomy y (f n) (h n))
+
+within-roomy : (n marks cap limit sets which : ℕ) → Roomy (within n marks cap limit sets which)
+within-roomy n marks cap limit sets which =
+    let s : Settings = record { n = n; marks = marks; cap = cap; limit = limit; room = sets; which = which } in
     cond-cases Roomy (leb sets mostSets) (Plan s) Wrong (leb→le sets mostSets) (λ _. tt)
 
-pub asked-roomy : (a b c d e : Number) → Roomy (asked a b c d e)
+pub asked-roomy : (a b c d e f : Number) → Roomy (asked a b c d e f)
 unfolding asked
-asked-roomy a b c d e =
-    numbered-roomy a _ (λ n. numbered-roomy b _ (λ cap. numbered-roomy c _ (λ limit. numbered-roomy d _ (λ sets. numbered-roomy e _ (within-roomy n cap limit sets)))))
+asked-roomy a b c d e f =
+    panelled-roomy a b _ (λ n marks. numbered-roomy c _ (λ cap. numbered-roomy d _ (λ limit. numbered-roomy e _ (λ sets. numbered-roomy f _ (within-roomy n marks cap limit sets)))))
 
-pub thin-roomy : (a b : Number) → Roomy (askedThin a b)
+pub thin-roomy : (a b c : Number) → Roomy (askedThin a b c)
 unfolding askedThin
-thin-roomy a b = numbered-roomy a _ (λ n. numbered-roomy b (Thin n) (λ which. tt))
+thin-roomy a b c = panelled-roomy a b _ (λ n marks. numbered-roomy c (Thin n marks) (λ which. tt))
 
-pub wire-roomy : (a : Number) → Roomy (askedWire a)
+pub wire-roomy : (a b : Number) → Roomy (askedWire a b)
 unfolding askedWire
-wire-roomy a = numbered-roomy a Wire (λ n. tt)
+wire-roomy a b = panelled-roomy a b Wire (λ n marks. tt)

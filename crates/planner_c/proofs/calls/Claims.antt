@@ -10,13 +10,14 @@ use Rattle.wiring.specs.Quadratic.{Quadratic}
 use Rattle.wiring.specs.Reply.{numbers, inOrder, Outcome, outcome}
 use Rattle.wiring.specs.Terms.{records, system}
 use Rattle.wiring.specs.Answers.{wired}
+use Rattle.wiring.specs.declared.panel.Panel.{Panel}
 use Rattle.wiring.specs.declared.reply.Reply.{Reply}
 use Rattle.wiring.specs.declared.reply.Reply.the-variants.{Done, Setting, Length, Term, Twice, Nothing, Full, Spent, BadSet, NotQuadratic}
 use Rattle.wiring.specs.Claims.{signalsIn, derivativeIn, Patch, TellsVerdict, VerdictAlone}
 use Rattle.wiring.proofs.reply.Laws.{same-reply}
 use Rattle.wiring.proofs.answers.Wired.{wire-exact, wire-replies, wire-done}
 use Rattle.wiring.proofs.answers.Alone.{wire-verdict, verdict-alone}
-use Rattle.walk.specs.Walk.{bare}
+use Rattle.walk.specs.Walk.{rulesOf}
 use Rattle.walk.specs.Plan.{planned}
 use Rattle.walk.specs.Claims.{Lacks, Fills, Spends, Planned, PlanSays, planLeaves}
 use Rattle.walk.proofs.plan.Exact.{plan-exact, plan-replies, plan-finds, plan-lacks, plan-fills, plan-spends}
@@ -41,119 +42,120 @@ heard o r left is Means means five bytes e =
     record { reply = r; numbered = numbered; means = means r bytes (given-exact r bytes o .0 same) }
 
 -- ---- planning
-module _ (n cap limit : ℕ) (terms : List ℕ) (size : ℕ) where
-  plan-means : (r : Reply) (bytes : List ℕ) → outcome r bytes ≡ planned n cap limit terms size → PlanMeans n cap limit terms size r bytes
-  plan-means (Done o c k) bytes e = plan-finds n cap limit terms size o c k bytes e
+module _ (panel : Panel) (cap limit : ℕ) (terms : List ℕ) (size : ℕ) where
+  plan-means : (r : Reply) (bytes : List ℕ) → outcome r bytes ≡ planned panel cap limit terms size → PlanMeans panel cap limit terms size r bytes
+  plan-means (Done o c k) bytes e = plan-finds panel cap limit terms size o c k bytes e
   plan-means (Nothing o k) bytes e =
-      let x = plan-exact n cap limit terms size (Nothing o k) bytes .0 e in
-      record { accepted = x .0 .0; none-below = plan-lacks n cap limit terms size o k bytes e .1; exact = x .0 .1; zeros = x .1 }
+      let x = plan-exact panel cap limit terms size (Nothing o k) bytes .0 e in
+      record { accepted = x .0 .0; none-below = plan-lacks panel cap limit terms size o k bytes e .1; exact = x .0 .1; zeros = x .1 }
   plan-means (Full o k) bytes e =
-      let x = plan-exact n cap limit terms size (Full o k) bytes .0 e in
-      record { accepted = x .0 .0; none-below = plan-fills n cap limit terms size o k bytes e; exact = x .0 .1; zeros = x .1 }
+      let x = plan-exact panel cap limit terms size (Full o k) bytes .0 e in
+      record { accepted = x .0 .0; none-below = plan-fills panel cap limit terms size o k bytes e; exact = x .0 .1; zeros = x .1 }
   plan-means (Spent o k) bytes e =
-      let x = plan-exact n cap limit terms size (Spent o k) bytes .0 e in
-      record { accepted = x .0 .0; none-below = plan-spends n cap limit terms size o k bytes e; exact = x .0 .1; zeros = x .1 }
-  plan-means Setting bytes e = plan-exact n cap limit terms size Setting bytes .0 e
-  plan-means Length bytes e = plan-exact n cap limit terms size Length bytes .0 e
-  plan-means (Term p) bytes e = plan-exact n cap limit terms size (Term p) bytes .0 e
-  plan-means (Twice p) bytes e = plan-exact n cap limit terms size (Twice p) bytes .0 e
-  plan-means BadSet bytes e = plan-exact n cap limit terms size BadSet bytes .0 e .0
-  plan-means (NotQuadratic o p) bytes e = plan-exact n cap limit terms size (NotQuadratic o p) bytes .0 e .0
+      let x = plan-exact panel cap limit terms size (Spent o k) bytes .0 e in
+      record { accepted = x .0 .0; none-below = plan-spends panel cap limit terms size o k bytes e; exact = x .0 .1; zeros = x .1 }
+  plan-means Setting bytes e = plan-exact panel cap limit terms size Setting bytes .0 e
+  plan-means Length bytes e = plan-exact panel cap limit terms size Length bytes .0 e
+  plan-means (Term p) bytes e = plan-exact panel cap limit terms size (Term p) bytes .0 e
+  plan-means (Twice p) bytes e = plan-exact panel cap limit terms size (Twice p) bytes .0 e
+  plan-means BadSet bytes e = plan-exact panel cap limit terms size BadSet bytes .0 e .0
+  plan-means (NotQuadratic o p) bytes e = plan-exact panel cap limit terms size (NotQuadratic o p) bytes .0 e .0
 
   -- a meaning that brings back what the reply says and leaves is had exactly where C gets the reply's numbers
   exactly : (r : Reply) (bytes : List ℕ)
-      → (PlanMeans n cap limit terms size r bytes → PlanSays n cap limit terms size r × (bytes ≡ planLeaves n terms size r))
-      → (answer (inOrder (numbers r)) bytes ≡ given (planned n cap limit terms size)) ↔ PlanMeans n cap limit terms size r bytes
+      → (PlanMeans panel cap limit terms size r bytes → PlanSays panel cap limit terms size r × (bytes ≡ planLeaves panel terms size r))
+      → (answer (inOrder (numbers r)) bytes ≡ given (planned panel cap limit terms size)) ↔ PlanMeans panel cap limit terms size r bytes
   exactly r bytes back = (
-    (λ e. plan-means r bytes (given-exact r bytes (planned n cap limit terms size) .0 e)),
-    λ m. given-exact r bytes (planned n cap limit terms size) .1 (plan-exact n cap limit terms size r bytes .1 (back m)),
+    (λ e. plan-means r bytes (given-exact r bytes (planned panel cap limit terms size) .0 e)),
+    λ m. given-exact r bytes (planned panel cap limit terms size) .1 (plan-exact panel cap limit terms size r bytes .1 (back m)),
   )
 
   -- whatever C gets is of one reply, and means what that reply says
-  pub siragumon-plan-means : (five bytes : List ℕ) → answer five bytes ≡ given (planned n cap limit terms size)
-      → Heard (λ r. PlanMeans n cap limit terms size r bytes) five
+  pub siragumon-plan-means : (five bytes : List ℕ) → answer five bytes ≡ given (planned panel cap limit terms size)
+      → Heard (λ r. PlanMeans panel cap limit terms size r bytes) five
   siragumon-plan-means five bytes e =
-      let some = plan-replies n cap limit terms size in
-      heard (planned n cap limit terms size) (some .0) _ (some .1) (PlanMeans n cap limit terms size) plan-means five bytes e
+      let some = plan-replies panel cap limit terms size in
+      heard (planned panel cap limit terms size) (some .0) _ (some .1) (PlanMeans panel cap limit terms size) plan-means five bytes e
 
-  -- 0, order, count, steps, 0: the buffer holds every smallest quadratic set, each once, ascending, then zeros; none is smaller, of any powers
-  pub siragumon-plan-done : (o c k : ℕ) (bytes : List ℕ) → answer (0 ∷ o ∷ c ∷ k ∷ 0 ∷ []) bytes ≡ given (planned n cap limit terms size)
-      → Planned n cap limit terms size o c k bytes
-  siragumon-plan-done o c k bytes e = plan-finds n cap limit terms size o c k bytes (given-exact (Done o c k) bytes (planned n cap limit terms size) .0 e)
+  -- 0, order, count, steps, 0: the buffer holds every smallest quadratic set, each once, ascending, then zeros; none without signals
+  -- is smaller, of any powers
+  pub siragumon-plan-done : (o c k : ℕ) (bytes : List ℕ) → answer (0 ∷ o ∷ c ∷ k ∷ 0 ∷ []) bytes ≡ given (planned panel cap limit terms size)
+      → Planned panel cap limit terms size o c k bytes
+  siragumon-plan-done o c k bytes e = plan-finds panel cap limit terms size o c k bytes (given-exact (Done o c k) bytes (planned panel cap limit terms size) .0 e)
 
   -- 5, order, 0, steps, 0: exactly where no level up to the cap has a find; then no quadratic set has at most the cap's monomials
-  pub siragumon-plan-none : (o k : ℕ) (bytes : List ℕ) → (answer (5 ∷ o ∷ 0 ∷ k ∷ 0 ∷ []) bytes ≡ given (planned n cap limit terms size))
-      ↔ Stopped n cap limit terms size (Lacks bare n (system (records terms)) limit (size / setBytes) cap) o k bytes
+  pub siragumon-plan-none : (o k : ℕ) (bytes : List ℕ) → (answer (5 ∷ o ∷ 0 ∷ k ∷ 0 ∷ []) bytes ≡ given (planned panel cap limit terms size))
+      ↔ Stopped panel cap limit terms size (Lacks (rulesOf panel) (panel .n) (system (records terms)) limit (size / setBytes) cap) o k bytes
   siragumon-plan-none o k bytes = exactly (Nothing o k) bytes (λ s. ((s .accepted, s .exact), s .zeros))
 
   -- 6, order, 0, steps, 0: exactly where the step of that number finds a set for which there is no room
-  pub siragumon-plan-full : (o k : ℕ) (bytes : List ℕ) → (answer (6 ∷ o ∷ 0 ∷ k ∷ 0 ∷ []) bytes ≡ given (planned n cap limit terms size))
-      ↔ Stopped n cap limit terms size (Fills bare n (system (records terms)) limit (size / setBytes) cap) o k bytes
+  pub siragumon-plan-full : (o k : ℕ) (bytes : List ℕ) → (answer (6 ∷ o ∷ 0 ∷ k ∷ 0 ∷ []) bytes ≡ given (planned panel cap limit terms size))
+      ↔ Stopped panel cap limit terms size (Fills (rulesOf panel) (panel .n) (system (records terms)) limit (size / setBytes) cap) o k bytes
   siragumon-plan-full o k bytes = exactly (Full o k) bytes (λ s. ((s .accepted, s .exact), s .zeros))
 
   -- 7, order, 0, limit, 0: exactly where the next step, one of that level, would pass the limit
-  pub siragumon-plan-spent : (o k : ℕ) (bytes : List ℕ) → (answer (7 ∷ o ∷ 0 ∷ k ∷ 0 ∷ []) bytes ≡ given (planned n cap limit terms size))
-      ↔ Stopped n cap limit terms size (Spends bare n (system (records terms)) limit (size / setBytes) cap) o k bytes
+  pub siragumon-plan-spent : (o k : ℕ) (bytes : List ℕ) → (answer (7 ∷ o ∷ 0 ∷ k ∷ 0 ∷ []) bytes ≡ given (planned panel cap limit terms size))
+      ↔ Stopped panel cap limit terms size (Spends (rulesOf panel) (panel .n) (system (records terms)) limit (size / setBytes) cap) o k bytes
   siragumon-plan-spent o k bytes = exactly (Spent o k) bytes (λ s. ((s .accepted, s .exact), s .zeros))
 
 -- ---- wiring
-module _ (n : ℕ) (terms set : List ℕ) (size : ℕ) where
-  wire-means : (r : Reply) (bytes : List ℕ) → outcome r bytes ≡ wired n terms set size → WireMeans n terms set size r bytes
-  wire-means (Done o c k) bytes e = (wire-exact n terms set size (Done o c k) bytes .0 e .0, wire-done n terms set size o c k bytes e)
-  wire-means (Full o k) bytes e = wire-exact n terms set size (Full o k) bytes .0 e
-  wire-means Setting bytes e = wire-exact n terms set size Setting bytes .0 e
-  wire-means Length bytes e = wire-exact n terms set size Length bytes .0 e
-  wire-means (Term p) bytes e = wire-exact n terms set size (Term p) bytes .0 e
-  wire-means (Twice p) bytes e = wire-exact n terms set size (Twice p) bytes .0 e
-  wire-means BadSet bytes e = wire-exact n terms set size BadSet bytes .0 e
-  wire-means (NotQuadratic o p) bytes e = wire-exact n terms set size (NotQuadratic o p) bytes .0 e
-  wire-means (Nothing o k) bytes e = wire-exact n terms set size (Nothing o k) bytes .0 e .0
-  wire-means (Spent o k) bytes e = wire-exact n terms set size (Spent o k) bytes .0 e .0
+module _ (panel : Panel) (terms set : List ℕ) (size : ℕ) where
+  wire-means : (r : Reply) (bytes : List ℕ) → outcome r bytes ≡ wired panel terms set size → WireMeans panel terms set size r bytes
+  wire-means (Done o c k) bytes e = (wire-exact panel terms set size (Done o c k) bytes .0 e .0, wire-done panel terms set size o c k bytes e)
+  wire-means (Full o k) bytes e = wire-exact panel terms set size (Full o k) bytes .0 e
+  wire-means Setting bytes e = wire-exact panel terms set size Setting bytes .0 e
+  wire-means Length bytes e = wire-exact panel terms set size Length bytes .0 e
+  wire-means (Term p) bytes e = wire-exact panel terms set size (Term p) bytes .0 e
+  wire-means (Twice p) bytes e = wire-exact panel terms set size (Twice p) bytes .0 e
+  wire-means BadSet bytes e = wire-exact panel terms set size BadSet bytes .0 e
+  wire-means (NotQuadratic o p) bytes e = wire-exact panel terms set size (NotQuadratic o p) bytes .0 e
+  wire-means (Nothing o k) bytes e = wire-exact panel terms set size (Nothing o k) bytes .0 e .0
+  wire-means (Spent o k) bytes e = wire-exact panel terms set size (Spent o k) bytes .0 e .0
 
-  heard-wire : (Means : Reply → List ℕ → Type 0) → ((r : Reply) (bytes : List ℕ) → outcome r bytes ≡ wired n terms set size → Means r bytes)
-      → (five bytes : List ℕ) → answer five bytes ≡ given (wired n terms set size) → Heard (λ r. Means r bytes) five
-  heard-wire = let some = wire-replies n terms set size in heard (wired n terms set size) (some .0) _ (some .1)
+  heard-wire : (Means : Reply → List ℕ → Type 0) → ((r : Reply) (bytes : List ℕ) → outcome r bytes ≡ wired panel terms set size → Means r bytes)
+      → (five bytes : List ℕ) → answer five bytes ≡ given (wired panel terms set size) → Heard (λ r. Means r bytes) five
+  heard-wire = let some = wire-replies panel terms set size in heard (wired panel terms set size) (some .0) _ (some .1)
 
-  pub siragumon-wire-means : (five bytes : List ℕ) → answer five bytes ≡ given (wired n terms set size) → Heard (λ r. WireMeans n terms set size r bytes) five
-  siragumon-wire-means = heard-wire (WireMeans n terms set size) wire-means
+  pub siragumon-wire-means : (five bytes : List ℕ) → answer five bytes ≡ given (wired panel terms set size) → Heard (λ r. WireMeans panel terms set size r bytes) five
+  siragumon-wire-means = heard-wire (WireMeans panel terms set size) wire-means
 
   -- 0, order, count, 0, 0: Definition 1 holds of the given set, and the buffer holds its list, which is correct, then zeros
-  pub siragumon-wire-done : (o c k : ℕ) (bytes : List ℕ) → answer (0 ∷ o ∷ c ∷ k ∷ 0 ∷ []) bytes ≡ given (wired n terms set size)
-      → Quadratic plain (signalsIn n set) (derivativeIn terms) × Patch n terms set c bytes
-  siragumon-wire-done o c k bytes e = let m = wire-means (Done o c k) bytes (given-exact (Done o c k) bytes (wired n terms set size) .0 e) in (m .0 .1, m .1)
+  pub siragumon-wire-done : (o c k : ℕ) (bytes : List ℕ) → answer (0 ∷ o ∷ c ∷ k ∷ 0 ∷ []) bytes ≡ given (wired panel terms set size)
+      → Quadratic plain (signalsIn panel set) (derivativeIn panel terms) × Patch panel terms set c bytes
+  siragumon-wire-done o c k bytes e = let m = wire-means (Done o c k) bytes (given-exact (Done o c k) bytes (wired panel terms set size) .0 e) in (m .0 .1, m .1)
 
   -- the code, whatever the buffer: 0 or 6 exactly where Definition 1 holds of the given set, 9 exactly where it does not
-  pub siragumon-wire-verdict : (five bytes : List ℕ) → answer five bytes ≡ given (wired n terms set size) → Heard (TellsVerdict n terms set) five
-  siragumon-wire-verdict = heard-wire (λ r bytes. TellsVerdict n terms set r) (wire-verdict n terms set size)
+  pub siragumon-wire-verdict : (five bytes : List ℕ) → answer five bytes ≡ given (wired panel terms set size) → Heard (TellsVerdict panel terms set) five
+  siragumon-wire-verdict = heard-wire (λ r bytes. TellsVerdict panel terms set r) (wire-verdict panel terms set size)
 
   -- and into a buffer that holds no record, the empty one among them: 0 exactly where the list is empty besides, 6 exactly where it is not
-  pub siragumon-verdict-alone : size < wireBytes → (five bytes : List ℕ) → answer five bytes ≡ given (wired n terms set size)
-      → Heard (VerdictAlone n terms set) five
-  siragumon-verdict-alone short = heard-wire (λ r bytes. VerdictAlone n terms set r) (λ r bytes e. verdict-alone n terms set size r bytes e short)
+  pub siragumon-verdict-alone : size < wireBytes → (five bytes : List ℕ) → answer five bytes ≡ given (wired panel terms set size)
+      → Heard (VerdictAlone panel terms set) five
+  siragumon-verdict-alone short = heard-wire (λ r bytes. VerdictAlone panel terms set r) (λ r bytes e. verdict-alone panel terms set size r bytes e short)
 
 -- ---- thinning
-module _ (n : ℕ) (terms set : List ℕ) (size : ℕ) where
-  thin-means : (r : Reply) (bytes : List ℕ) → outcome r bytes ≡ thinned n terms set size → ThinMeans n terms set size r bytes
-  thin-means (Done o c k) bytes e = thin-finds n terms set size o c k bytes e
-  thin-means (Full o k) bytes e = thin-overfull n terms set size o k bytes e
-  thin-means Setting bytes e = thin-exact n terms set size Setting bytes .0 e
-  thin-means Length bytes e = thin-exact n terms set size Length bytes .0 e
-  thin-means (Term p) bytes e = thin-exact n terms set size (Term p) bytes .0 e
-  thin-means (Twice p) bytes e = thin-exact n terms set size (Twice p) bytes .0 e
-  thin-means BadSet bytes e = thin-exact n terms set size BadSet bytes .0 e
-  thin-means (NotQuadratic o p) bytes e = thin-exact n terms set size (NotQuadratic o p) bytes .0 e
-  thin-means (Nothing o k) bytes e = thin-exact n terms set size (Nothing o k) bytes .0 e .0
-  thin-means (Spent o k) bytes e = thin-exact n terms set size (Spent o k) bytes .0 e .0
+module _ (panel : Panel) (terms set : List ℕ) (size : ℕ) where
+  thin-means : (r : Reply) (bytes : List ℕ) → outcome r bytes ≡ thinned panel terms set size → ThinMeans panel terms set size r bytes
+  thin-means (Done o c k) bytes e = thin-finds panel terms set size o c k bytes e
+  thin-means (Full o k) bytes e = thin-overfull panel terms set size o k bytes e
+  thin-means Setting bytes e = thin-exact panel terms set size Setting bytes .0 e
+  thin-means Length bytes e = thin-exact panel terms set size Length bytes .0 e
+  thin-means (Term p) bytes e = thin-exact panel terms set size (Term p) bytes .0 e
+  thin-means (Twice p) bytes e = thin-exact panel terms set size (Twice p) bytes .0 e
+  thin-means BadSet bytes e = thin-exact panel terms set size BadSet bytes .0 e
+  thin-means (NotQuadratic o p) bytes e = thin-exact panel terms set size (NotQuadratic o p) bytes .0 e
+  thin-means (Nothing o k) bytes e = thin-exact panel terms set size (Nothing o k) bytes .0 e .0
+  thin-means (Spent o k) bytes e = thin-exact panel terms set size (Spent o k) bytes .0 e .0
 
-  pub siragumon-thin-means : (five bytes : List ℕ) → answer five bytes ≡ given (thinned n terms set size) → Heard (λ r. ThinMeans n terms set size r bytes) five
+  pub siragumon-thin-means : (five bytes : List ℕ) → answer five bytes ≡ given (thinned panel terms set size) → Heard (λ r. ThinMeans panel terms set size r bytes) five
   siragumon-thin-means five bytes e =
-      let some = thin-replies n terms set size in
-      heard (thinned n terms set size) (some .0) _ (some .1) (ThinMeans n terms set size) thin-means five bytes e
+      let some = thin-replies panel terms set size in
+      heard (thinned panel terms set size) (some .0) _ (some .1) (ThinMeans panel terms set size) thin-means five bytes e
 
   -- 0, order, count, steps, 0: the buffer holds every smallest quadratic subset of the given set, each once, ascending, then zeros
-  pub siragumon-thin-done : (o c k : ℕ) (bytes : List ℕ) → answer (0 ∷ o ∷ c ∷ k ∷ 0 ∷ []) bytes ≡ given (thinned n terms set size) → Thinned n terms set size o c k bytes
-  siragumon-thin-done o c k bytes e = thin-means (Done o c k) bytes (given-exact (Done o c k) bytes (thinned n terms set size) .0 e)
+  pub siragumon-thin-done : (o c k : ℕ) (bytes : List ℕ) → answer (0 ∷ o ∷ c ∷ k ∷ 0 ∷ []) bytes ≡ given (thinned panel terms set size) → Thinned panel terms set size o c k bytes
+  siragumon-thin-done o c k bytes e = thin-means (Done o c k) bytes (given-exact (Done o c k) bytes (thinned panel terms set size) .0 e)
 
   -- 6, order, 0, steps, 0: those subsets are more than there is room for
-  pub siragumon-thin-full : (o k : ℕ) (bytes : List ℕ) → answer (6 ∷ o ∷ 0 ∷ k ∷ 0 ∷ []) bytes ≡ given (thinned n terms set size) → Overfull n terms set size o k bytes
-  siragumon-thin-full o k bytes e = thin-means (Full o k) bytes (given-exact (Full o k) bytes (thinned n terms set size) .0 e)
+  pub siragumon-thin-full : (o k : ℕ) (bytes : List ℕ) → answer (6 ∷ o ∷ 0 ∷ k ∷ 0 ∷ []) bytes ≡ given (thinned panel terms set size) → Overfull panel terms set size o k bytes
+  siragumon-thin-full o k bytes e = thin-means (Full o k) bytes (given-exact (Full o k) bytes (thinned panel terms set size) .0 e)

@@ -6,6 +6,7 @@ use Prim.Native.Nat.{ℕ}
 use lib.ListN.{getD}
 use Rattle.wiring.specs.Reply.{Numbers, numbers, five, inOrder, Outcome, outcome}
 use Rattle.wiring.specs.Answers.{wired}
+use Rattle.wiring.specs.declared.panel.Panel.{Panel}
 use Rattle.wiring.specs.declared.reply.Reply.{Reply}
 use Rattle.walk.specs.Plan.{planned}
 use Rattle.thin.specs.Thin.{thinned}
@@ -17,17 +18,17 @@ determined o a a' b b' e e' =
     let both : answer a b ≡ answer a' b' = e ∙ sym e' in
     (ap (λ (x : Answer). x .five) both, ap (λ (x : Answer). x .bytes) both)
 
-pub siragumon-plan-determined : (n cap limit : ℕ) (terms : List ℕ) (size : ℕ) (a a' b b' : List ℕ)
-    → answer a b ≡ given (planned n cap limit terms size) → answer a' b' ≡ given (planned n cap limit terms size) → (a ≡ a') × (b ≡ b')
-siragumon-plan-determined n cap limit terms size = determined (planned n cap limit terms size)
+pub siragumon-plan-determined : (panel : Panel) (cap limit : ℕ) (terms : List ℕ) (size : ℕ) (a a' b b' : List ℕ)
+    → answer a b ≡ given (planned panel cap limit terms size) → answer a' b' ≡ given (planned panel cap limit terms size) → (a ≡ a') × (b ≡ b')
+siragumon-plan-determined panel cap limit terms size = determined (planned panel cap limit terms size)
 
-pub siragumon-wire-determined : (n : ℕ) (terms set : List ℕ) (size : ℕ) (a a' b b' : List ℕ)
-    → answer a b ≡ given (wired n terms set size) → answer a' b' ≡ given (wired n terms set size) → (a ≡ a') × (b ≡ b')
-siragumon-wire-determined n terms set size = determined (wired n terms set size)
+pub siragumon-wire-determined : (panel : Panel) (terms set : List ℕ) (size : ℕ) (a a' b b' : List ℕ)
+    → answer a b ≡ given (wired panel terms set size) → answer a' b' ≡ given (wired panel terms set size) → (a ≡ a') × (b ≡ b')
+siragumon-wire-determined panel terms set size = determined (wired panel terms set size)
 
-pub siragumon-thin-determined : (n : ℕ) (terms set : List ℕ) (size : ℕ) (a a' b b' : List ℕ)
-    → answer a b ≡ given (thinned n terms set size) → answer a' b' ≡ given (thinned n terms set size) → (a ≡ a') × (b ≡ b')
-siragumon-thin-determined n terms set size = determined (thinned n terms set size)
+pub siragumon-thin-determined : (panel : Panel) (terms set : List ℕ) (size : ℕ) (a a' b b' : List ℕ)
+    → answer a b ≡ given (thinned panel terms set size) → answer a' b' ≡ given (thinned panel terms set size) → (a ≡ a') × (b ≡ b')
+siragumon-thin-determined panel terms set size = determined (thinned panel terms set size)
 
 -- the numbers that stand in this order
 back : List ℕ → Numbers

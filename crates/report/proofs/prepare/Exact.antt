@@ -4,6 +4,7 @@ use mathlib.Core.List.{List, [], _∷_}
 use Prim.Native.Nat.{ℕ}
 use lib.ListN.{length, take, drop, take-append-drop}
 use Rattle.wiring.specs.Reply.{numbers, inOrder}
+use Rattle.wiring.specs.declared.panel.Panel.{Panel}
 use Rattle.wiring.specs.declared.reply.Reply.{Reply}
 use Rattle.wiring.specs.declared.reply.Reply.the-variants.{Setting}
 use Rattle.wiring.proofs.reply.Laws.{same-reply}
@@ -25,15 +26,15 @@ module _ {p : Prepared} {sets after wires : List ℕ} where
   unfolding report
   prepared-lines s terms a = ap linesOf (a .left)
 
-  pub thin-prepared-lines : (n which : ℕ) (terms set : List ℕ) → PreparesThin n which terms set p sets after wires
-      → linesOf (resultsIn p after wires) ≡ thinReport n which terms set (length sets)
+  pub thin-prepared-lines : (panel : Panel) (which : ℕ) (terms set : List ℕ) → PreparesThin panel which terms set p sets after wires
+      → linesOf (resultsIn p after wires) ≡ thinReport panel which terms set (length sets)
   unfolding thinReport
-  thin-prepared-lines n which terms set a = ap linesOf (a .left)
+  thin-prepared-lines panel which terms set a = ap linesOf (a .left)
 
-  pub wire-prepared-lines : (n : ℕ) (terms set : List ℕ) → PreparesWire n terms set p sets after wires
-      → linesOf (resultsIn p after wires) ≡ wireReport n terms set
+  pub wire-prepared-lines : (panel : Panel) (terms set : List ℕ) → PreparesWire panel terms set p sets after wires
+      → linesOf (resultsIn p after wires) ≡ wireReport panel terms set
   unfolding wireReport
-  wire-prepared-lines n terms set a = ap linesOf (a .left)
+  wire-prepared-lines panel terms set a = ap linesOf (a .left)
 
   -- two outcomes that a promise allows are equal: what is given, and every byte that was lent
   pub prepare-determined : {size : ℕ} {r : Results} {q : Prepared} {b w : List ℕ} → Leaves size r p sets after wires → Leaves size r q sets b w
@@ -51,9 +52,9 @@ module _ {p : Prepared} {sets after wires : List ℕ} where
       )
 
 -- so too of wiring, which no buffer is lent for sets
-pub wire-prepare-determined : (n : ℕ) (terms set : List ℕ) {p q : Prepared} {w v : List ℕ} → ((sets : List ℕ) → PreparesWire n terms set p sets sets w)
-    → ((sets : List ℕ) → PreparesWire n terms set q sets sets v) → (p ≡ q) × (w ≡ v)
-wire-prepare-determined n terms set a c = let both = prepare-determined (a []) (c []) in (both .0, both .2)
+pub wire-prepare-determined : (panel : Panel) (terms set : List ℕ) {p q : Prepared} {w v : List ℕ} → ((sets : List ℕ) → PreparesWire panel terms set p sets sets w)
+    → ((sets : List ℕ) → PreparesWire panel terms set q sets sets v) → (p ≡ q) × (w ≡ v)
+wire-prepare-determined panel terms set a c = let both = prepare-determined (a []) (c []) in (both .0, both .2)
 
 -- of a refused setting only the reply is told
 pub setting-line : (sets wires : List ℕ)

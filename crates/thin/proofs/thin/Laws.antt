@@ -14,6 +14,7 @@ use Rattle.wiring.specs.Reply.{numbers, outcome, refused}
 use Rattle.wiring.specs.Terms.{records, system}
 use Rattle.wiring.specs.Sets.{setOf, monomialsOf}
 use Rattle.wiring.specs.Answers.{verdict, judged, Judgeable, Takes}
+use Rattle.wiring.specs.declared.panel.Panel.{Panel}
 use Rattle.wiring.specs.declared.reply.Reply.{Reply}
 use Rattle.wiring.specs.declared.reply.Reply.the-variants.{Done, Full}
 use Rattle.wiring.specs.declared.sets.Set.{Set}
@@ -115,19 +116,19 @@ pub by-done : (o c k : ℕ) (ends : Ending) (size : ℕ) → thinnedBy (Done o c
 unfolding thinnedBy
 by-done o c k ends size = refl
 
-module _ (n : ℕ) (terms set : List ℕ) (size : ℕ) where
-  pub thinned-refused : (r : Reply) → verdict n terms set ≡ r → (numbers r .code ≡ 0 → ⊥) → thinned n terms set size ≡ refused r size
+module _ (panel : Panel) (terms set : List ℕ) (size : ℕ) where
+  pub thinned-refused : (r : Reply) → verdict panel terms set ≡ r → (numbers r .code ≡ 0 → ⊥) → thinned panel terms set size ≡ refused r size
   unfolding thinned
-  thinned-refused r e k = rw e (by-refused r (thinning n (system (records terms)) (setOf set) (size / setBytes)) size k)
+  thinned-refused r e k = rw e (by-refused r (thinning (panel .n) (system (records terms)) (setOf set) (size / setBytes)) size k)
 
-  pub thinned-done : (o c k : ℕ) → verdict n terms set ≡ Done o c k → thinned n terms set size ≡ said (thinning n (system (records terms)) (setOf set) (size / setBytes)) size
+  pub thinned-done : (o c k : ℕ) → verdict panel terms set ≡ Done o c k → thinned panel terms set size ≡ said (thinning (panel .n) (system (records terms)) (setOf set) (size / setBytes)) size
   unfolding thinned
-  thinned-done o c k e = rw e (by-done o c k (thinning n (system (records terms)) (setOf set) (size / setBytes)) size)
+  thinned-done o c k e = rw e (by-done o c k (thinning (panel .n) (system (records terms)) (setOf set) (size / setBytes)) size)
 
 -- the set that was read is the set that was given, and the verdict is about it
-pub thinned-given : (n : ℕ) (terms bytes : List ℕ) (size size' : ℕ) (set : Set) → Takes n terms bytes set → size' ≡ size
-    → thinnedBy (judged n (system (records terms)) (monomialsOf set)) (thinning n (system (records terms)) (monomialsOf set) (size' / setBytes)) size' ≡ thinned n terms bytes size
+pub thinned-given : (panel : Panel) (terms bytes : List ℕ) (size size' : ℕ) (set : Set) → Takes panel terms bytes set → size' ≡ size
+    → thinnedBy (judged (panel .n) (system (records terms)) (monomialsOf set)) (thinning (panel .n) (system (records terms)) (monomialsOf set) (size' / setBytes)) size' ≡ thinned panel terms bytes size
 unfolding thinned
-thinned-given n terms bytes size size' set t e =
-    ap₂ (λ (m : List Mono) (k : ℕ). thinnedBy (judged n (system (records terms)) m) (thinning n (system (records terms)) m (k / setBytes)) k) (t .holds) e
-    ∙ ap (λ (r : Reply). thinnedBy r (thinning n (system (records terms)) (setOf bytes) (size / setBytes)) size) (sym (t .says))
+thinned-given panel terms bytes size size' set t e =
+    ap₂ (λ (m : List Mono) (k : ℕ). thinnedBy (judged (panel .n) (system (records terms)) m) (thinning (panel .n) (system (records terms)) m (k / setBytes)) k) (t .holds) e
+    ∙ ap (λ (r : Reply). thinnedBy r (thinning (panel .n) (system (records terms)) (setOf bytes) (size / setBytes)) size) (sym (t .says))

@@ -1,6 +1,6 @@
 -- The subsets that are listed are the smallest quadratic ones, all of them, over Definition 1 itself. Assumes nothing.
 use mathlib.Core.Path.{_≡_, refl, sym, ap, subst}
-use mathlib.Core.Logic.{_⊎_, inl, inr}
+use mathlib.Core.Logic.{_⊎_, inl, inr, ⊎-elim}
 use mathlib.Core.Bool.{Bool}
 use mathlib.Core.List.{List, [], _∷_, List·Memᴰ·not-nil, List·Memᴰ·cases-cons}
 use Prim.Native.Nat.{ℕ, _^_, _≤_, min}
@@ -9,17 +9,20 @@ use borrow.Author.Tests.{eq-eqb, ltb-true, ltb-false}
 use lib.Dec.{T, eqb, ltb, eqb→eq, T-not}
 use lib.ListN.{length}
 use Rattle.monomial.specs.Lists.{some, keep, arrangeBy}
-use Rattle.monomial.specs.Monomial.{Mono}
+use Rattle.monomial.specs.Monomial.{Mono, width}
 use Rattle.monomial.specs.Order.{same, before, beforeSet}
 use Rattle.monomial.specs.Claims.{_∈_, _⊆_, Ascending}
 use Rattle.monomial.proofs.Tests.{Tested, passed, failed, test, is→T}
 use Rattle.monomial.proofs.Members.{here, there, some-none, keep-in, keep-out, keep-swap, keep-length}
 use Rattle.monomial.proofs.order.Laws.{mono-order}
 use Rattle.monomial.proofs.order.Ascending.{arrange-asc, arrange-out, arrange-length, keep-asc}
-use Rattle.wiring.specs.Poly.{Poly}
-use Rattle.wiring.specs.Terms.{records, system}
+use Rattle.wiring.specs.Poly.{Poly, plain}
+use Rattle.wiring.specs.Derivative.{derivative}
+use Rattle.wiring.specs.Signals.{signals}
 use Rattle.wiring.specs.Answers.{missing}
 use Rattle.wiring.specs.Claims.{Recordable}
+use Rattle.wiring.proofs.quadratic.Definition1.{quadratic-same}
+use Rattle.wiring.proofs.signals.Laws.{base-in, set-in, signals-cases}
 use Rattle.wiring.proofs.sets.Exact.{recordable-part}
 use Rattle.walk.specs.Walk.{Finds}
 use Rattle.walk.specs.Claims.{QuadraticList}
@@ -79,7 +82,7 @@ module _ (n : ℕ) (fs : List (Poly Mono)) where
     quadratic-in t a sub e = keep-in (isQuadratic n fs) (subsets s) (subset-all mono-order s t up a sub) (passes t e)
 
     -- any list of signals of s, by its members in order, each once
-    arranged-in : (t : List Mono) → t ⊆ s → QuadraticList n fs t → arrangeBy same before t ∈ quadraticOnes n fs s
+    arranged-in : (t : List Mono) → t ⊆ s → QuadraticList n (derivative plain fs) t → arrangeBy same before t ∈ quadraticOnes n fs s
     arranged-in t sub q = quadratic-in (arrangeBy same before t) (arrange-asc mono-order t) (λ x h. sub x (arrange-out mono-order t h)) (arranged-quadratic n fs t q)
 
     -- each has at least the least size, and those that have it are listed
@@ -91,10 +94,10 @@ module _ (n : ℕ) (fs : List (Poly Mono)) where
     unfolding thinnest
     listed-in t h e = keep-in (λ (x : List Mono). eqb (length x) (least n fs s)) (quadraticOnes n fs s) h (is→T _ (eq-eqb (length t) (least n fs s) e))
 
-    no-thinner : (t : List Mono) → t ⊆ s → QuadraticList n fs t → least n fs s ≤ length t
+    no-thinner : (t : List Mono) → t ⊆ s → QuadraticList n (derivative plain fs) t → least n fs s ≤ length t
     no-thinner t sub q = omega (arith, at-least (arrangeBy same before t) (arranged-in t sub q), arrange-length same before t)
 
-    all-listed : (t : List Mono) → t ⊆ s → QuadraticList n fs t → length t ≡ least n fs s → arrangeBy same before t ∈ thinnest n fs s
+    all-listed : (t : List Mono) → t ⊆ s → QuadraticList n (derivative plain fs) t → length t ≡ least n fs s → arrangeBy same before t ∈ thinnest n fs s
     all-listed t sub q e =
         let u : List Mono = arrangeBy same before t in
         let h : u ∈ quadraticOnes n fs s = arranged-in t sub q in
@@ -132,24 +135,41 @@ module _ (n : ℕ) (fs : List (Poly Mono)) where
         go (inl k) = listed s (quadratic-in s up (λ x h. h) e) (sym k)
         go (inr r) = listed (r .set) (r .member) (r .size)
 
-pub thin-smallest : (n : ℕ) (terms : List ℕ) (s : List Mono) → Recordable n s → QuadraticList n (system (records terms)) s
-    → Thinnest n terms s (least n (system (records terms)) s) (thinnest n (system (records terms)) s)
-thin-smallest n terms s r q = record {
-  none-thinner = no-thinner n fs s up;
-  all = all-listed n fs s up;
-  each = one;
-  ascending = listed-asc n fs s up;
-  some = some-listed n fs s up (no-gap n fs s q);
-}
-  where
-    fs : List (Poly Mono)
-    fs = system (records terms)
+module _ (n : ℕ) (fs : List (Poly Mono)) (s : List Mono) (r : Recordable n s) where
+  up : Ascending before s
+  up = r .permitted .ascends
 
-    up : Ascending before s
-    up = r .permitted .ascends
+  one : (t : List Mono) → t ∈ thinnest n fs s → ThinSet n (derivative plain fs) s (least n fs s) t
+  one t h =
+      let c = of-least n fs s up t h in
+      let part : t ⊆ s = subset-part s t (c .subset) in
+      record { part = part; recordable = recordable-part n s r t (subset-asc s t up (c .subset)) part; quadratic = gapless n fs t (c .none); size = c .size }
 
-    one : (t : List Mono) → t ∈ thinnest n (system (records terms)) s → ThinSet n terms s (least n (system (records terms)) s) t
-    one t h =
-        let c = of-least n fs s up t h in
-        let part : t ⊆ s = subset-part s t (c .subset) in
-        record { part = part; recordable = recordable-part n s r t (subset-asc s t up (c .subset)) part; quadratic = gapless n fs t (c .none); size = c .size }
+  pub thin-smallest : QuadraticList n (derivative plain fs) s → Thinnest n (derivative plain fs) s (least n fs s) (thinnest n fs s)
+  thin-smallest q = record {
+    none-thinner = no-thinner n fs s up;
+    all = all-listed n fs s up;
+    each = one;
+    ascending = listed-asc n fs s up;
+    some = some-listed n fs s up (no-gap n fs s q);
+  }
+
+-- the same is said by another derivation that agrees with it on V of the set, and so on V of each of its subsets
+module _ (n : ℕ) (d e : Mono → Poly Mono) (s : List Mono) (same-on : (z : Mono) → z ∈ signals width n s → d z ≡ e z) where
+  inside : (t : List Mono) → t ⊆ s → (z : Mono) → z ∈ signals width n t → z ∈ signals width n s
+  inside t part z h = ⊎-elim (λ b. base-in n s b) (λ k. set-in n s (part z k)) (signals-cases n t h)
+
+  forth : (t : List Mono) → t ⊆ s → QuadraticList n d t → QuadraticList n e t
+  forth t part = quadratic-same plain (signals width n t) d e (λ z h. same-on z (inside t part z h))
+
+  pub back : (t : List Mono) → t ⊆ s → QuadraticList n e t → QuadraticList n d t
+  back t part = quadratic-same plain (signals width n t) e d (λ z h. sym (same-on z (inside t part z h)))
+
+  pub thinnest-by : (order : ℕ) (l : Finds) → Thinnest n d s order l → Thinnest n e s order l
+  thinnest-by order l m = record {
+    none-thinner = λ t part q. m .none-thinner t part (back t part q);
+    all = λ t part q size. m .all t part (back t part q) size;
+    each = λ t h. let x = m .each t h in record { part = x .part; recordable = x .recordable; quadratic = forth t (x .part) (x .quadratic); size = x .size };
+    ascending = m .ascending;
+    some = m .some;
+  }

@@ -2,20 +2,20 @@
 -- are put in one after the other. Assumes nothing.
 use mathlib.Core.Path.{_≡_, refl, sym, ap, ap₂, _∙_, subst}
 use mathlib.Core.Logic.{⊎-elim}
-use mathlib.Core.Bool.{Bool, true, false, _||_}
+use mathlib.Core.Bool.{Bool, true, false, _&&_, _||_}
 use mathlib.Core.List.{List, [], _∷_, _++_, map, List·Memᴰ·cases-cons, List·Memᴰ·not-nil, Memᴰ·append-right, Memᴰ·cast}
 use Prim.Native.Nat.{ℕ, suc, _+_, _-_, _<_, _≤_}
 use native.Mathlib.Omega.{arith}
-use lib.Dec.{T}
+use lib.Dec.{T, leb, leb→le, le→leb}
 use lib.ListN.{length, getD, take, drop, set, length-set, take-append-drop, drop-of-length-le}
 use lib.Seq.{take-length, drop-length, drop-cons, take-take, getD-take, take-set-le, drop-set-lt, getD-set-same, set-split}
-use borrow.Author.Tests.{le-leb, lt-leb}
+use borrow.Author.Tests.{le-leb}
 use Rattle.monomial.specs.Lists.{any, insertBy}
 use Rattle.monomial.specs.Monomial.{Mono, width}
 use Rattle.monomial.specs.Order.{same, before}
 use Rattle.monomial.specs.declared.Monomial.{Monomial}
 use Rattle.monomial.specs.Claims.{_∈_, Ascending, Order}
-use Rattle.monomial.proofs.Tests.{Tested, passed, failed, test, T→is, is→T, nT→is, is→nT, or-l, or-r, or-e}
+use Rattle.monomial.proofs.Tests.{Tested, passed, failed, test, T→is, is→T, nT→is, is→nT, and-l, and-r, and-i, or-l, or-r, or-e, same-test}
 use Rattle.monomial.proofs.order.Laws.{behind, mono-order}
 use Rattle.monomial.proofs.order.Ascending.{insert-out, insert-new, insert-asc, insert-length, among-in, among-out}
 use Rattle.monomial.proofs.order.Inserting.{insert-between, insert-same, front-before}
@@ -25,7 +25,7 @@ use Rattle.wiring.specs.Sets.{monomialsOf}
 use Rattle.wiring.specs.declared.sets.Set.{Set}
 use Rattle.wiring.proofs.signals.Laws.{set-in, entry, front-length, front-at, front-set}
 use Rattle.walk.specs.declared.children.Tried.{Tried}
-use Rattle.walk.specs.Walk.{added, child}
+use Rattle.walk.specs.Walk.{Rules, added, child, opens}
 use Rattle.walk.specs.Turns.{Child}
 use Rattle.walk.proofs.children.Laws.{added-asc}
 
@@ -166,22 +166,23 @@ module _ {m : Mono} {len : ℕ} {u now : List Monomial} {i : ℕ} (w : Inserting
         let inside : i - 1 < length s = omega (arith, size, w .within) in
         placed (λ y k. front-before mono-order m s (i - 1) [] a inside last y (subst (λ (n : ℕ). y ∈ take n s) q k))
 
--- ---- the child that is tried: refused where it is too long, or made
-module _ (level : ℕ) (c : List Mono) (t : Tried) where
-  refused : t .go ≡ false → level < length c → Child level c t
+-- ---- the child that is tried: refused where the test fails, or made
+module _ (test : Bool) (c : List Mono) (t : Tried) where
+  refused : t .go ≡ false → (T test → ⊥) → Child test c t
   refused e h =
       let no : t .go ≡ true → ⊥ = λ d. is→nT (t .go) e (is→T (t .go) d) in
-      record { go = e ∙ sym (lt-leb (length c) level h); is = λ d. absurd (no d); size = λ d. absurd (no d) }
+      record { go = e ∙ sym (nT→is test h); is = λ d. absurd (no d); size = λ d. absurd (no d) }
 
-  made : t .go ≡ true → monomialsOf (t .set) ≡ c → t .set .len ≡ length c → t .set .len ≤ level → Child level c t
-  made e is size h = record { go = e ∙ sym (le-leb (length c) level (omega arith)); is = λ d. is; size = λ d. size }
+  made : t .go ≡ true → T test → monomialsOf (t .set) ≡ c → t .set .len ≡ length c → Child test c t
+  made e h is size = record { go = e ∙ sym (T→is test h); is = λ d. is; size = λ d. size }
 
-pub same-child : {level : ℕ} {c d : List Mono} {t : Tried} → d ≡ c → Child level c t → Child level d t
-same-child {level} {c} {d} {t} e w = subst (λ (l : List Mono). Child level l t) (sym e) w
+-- the same child by another test that says the same
+pub same-child : {x y : Bool} {c d : List Mono} {t : Tried} → y ≡ x → d ≡ c → Child x c t → Child y d t
+same-child {x} {y} {c} {d} {t} u e w = subst (λ (z : Bool). Child z d t) (sym u) (subst (λ (l : List Mono). Child x l t) (sym e) w)
 
 -- the set as it comes
-pub made-own : (level : ℕ) (t : Tried) → t .go ≡ true → t .set .len ≤ level → t .set .len ≤ length (t .set .m) → Child level (monomialsOf (t .set)) t
-made-own level t e h k = made level (monomialsOf (t .set)) t e refl (sym (front-length (t .set .len) (t .set .m) k)) h
+pub made-own : (t : Tried) → t .go ≡ true → t .set .len ≤ length (t .set .m) → Child true (monomialsOf (t .set)) t
+made-own t e k = made true (monomialsOf (t .set)) t e tt refl (sym (front-length (t .set .len) (t .set .m) k))
 
 -- r is `next` with m in its place, where `next` is ascending and lacks m
 abbrev pub Inserted : Mono → Set → Set → Type 0
@@ -193,35 +194,64 @@ Inserted m next r =
 insert-more : (m : Mono) (s : List Mono) → any (same m) s ≡ false → length (insertBy same before m s) ≡ suc (length s)
 insert-more m s f = insert-length mono-order m s (λ k. is→nT (any (same m) s) f (among-in mono-order k))
 
-module _ (level : ℕ) (set : Set) (room : set .len ≤ length (set .m)) (m : Mono) (t : Tried) where
+-- with m, where it may be and there is room
+module _ (may : Mono → Bool) (level : ℕ) (set : Set) (room : set .len ≤ length (set .m)) (m : Mono) (t : Tried) where
   abbrev s : List Mono
   s = monomialsOf set
 
   size-is : length s ≡ set .len
   size-is = front-length (set .len) (set .m) room
 
-  pub one-refused : t .go ≡ false → level ≤ set .len → any (same m) s ≡ false → Child level (insertBy same before m s) t
-  one-refused e h f = refused level (insertBy same before m s) t e (omega (arith, insert-more m s f, size-is))
+  abbrev one-test : Bool
+  one-test = may m && leb (length (insertBy same before m s)) level
 
-  pub one-made : t .go ≡ true → set .len < level → Inserted m set (t .set) → Ascending before s → any (same m) s ≡ false
-      → Child level (insertBy same before m s) t
-  one-made e h i a f = made level (insertBy same before m s) t e (i .0 a f) (omega (arith, i .1, insert-more m s f, size-is)) (omega (arith, i .1))
+  pub one-refused : t .go ≡ false → level ≤ set .len → any (same m) s ≡ false → Child one-test (insertBy same before m s) t
+  one-refused e h f =
+      refused one-test (insertBy same before m s) t e (λ k.
+      let l = leb→le (length (insertBy same before m s)) level (and-r (may m) (leb (length (insertBy same before m s)) level) k) in
+      omega (arith, insert-more m s f, size-is))
 
+  pub one-barred : t .go ≡ false → may m ≡ false → Child one-test (insertBy same before m s) t
+  one-barred e h = refused one-test (insertBy same before m s) t e (λ k. is→nT (may m) h (and-l (may m) (leb (length (insertBy same before m s)) level) k))
+
+  pub one-made : t .go ≡ true → set .len < level → may m ≡ true → Inserted m set (t .set) → Ascending before s → any (same m) s ≡ false
+      → Child one-test (insertBy same before m s) t
+  one-made e h q i a f =
+      let l : length (insertBy same before m s) ≤ level = omega (arith, insert-more m s f, size-is) in
+      made one-test (insertBy same before m s) t e
+      (and-i (may m) (leb (length (insertBy same before m s)) level) (is→T (may m) q) (le→leb (length (insertBy same before m s)) level l))
+      (i .0 a f) (omega (arith, i .1, insert-more m s f, size-is))
+
+  -- and with x
   module _ (x : Mono) (f : any (same m) s ≡ false) (g : any (same x) (insertBy same before m s) ≡ false) where
-    both-more : length (insertBy same before x (insertBy same before m s)) ≡ suc (suc (set .len))
+    abbrev both : List Mono
+    both = insertBy same before x (insertBy same before m s)
+
+    abbrev two-test : Bool
+    two-test = may x && may m && leb (length both) level
+
+    both-more : length both ≡ suc (suc (set .len))
     both-more = insert-more x (insertBy same before m s) g ∙ ap suc (insert-more m s f ∙ ap suc size-is)
 
-    pub two-refused : t .go ≡ false → level ≤ set .len + 1 → Child level (insertBy same before x (insertBy same before m s)) t
-    two-refused e h = refused level (insertBy same before x (insertBy same before m s)) t e (omega (arith, both-more))
+    pub two-refused : t .go ≡ false → level ≤ set .len + 1 → Child two-test both t
+    two-refused e h =
+        refused two-test both t e (λ k. let l = leb→le (length both) level (and-r (may x && may m) (leb (length both) level) k) in omega (arith, both-more))
 
-    pub two-made : t .go ≡ true → set .len + 1 < level → (next : Set) → Inserted m set next → Inserted x next (t .set) → Ascending before s
-        → Child level (insertBy same before x (insertBy same before m s)) t
-    two-made e h next i j a =
+    pub first-barred : t .go ≡ false → may x ≡ false → Child two-test both t
+    first-barred e h = refused two-test both t e (λ k. is→nT (may x) h (search (and-l, and-r, k)))
+
+    pub second-barred : t .go ≡ false → may m ≡ false → Child two-test both t
+    second-barred e h = refused two-test both t e (λ k. is→nT (may m) h (search (and-l, and-r, k)))
+
+    pub two-made : t .go ≡ true → set .len + 1 < level → may x ≡ true → may m ≡ true → (next : Set) → Inserted m set next → Inserted x next (t .set) → Ascending before s
+        → Child two-test both t
+    two-made e h p q next i j a =
         let half : monomialsOf next ≡ insertBy same before m s = i .0 a f in
         let up : Ascending before (monomialsOf next) = rw half (insert-asc mono-order m s a) in
         let lacks : any (same x) (monomialsOf next) ≡ false = rw half g in
         let whole = j .0 up lacks ∙ ap (insertBy same before x) half in
-        made level (insertBy same before x (insertBy same before m s)) t e whole (omega (arith, i .1, j .1, both-more)) (omega (arith, i .1, j .1))
+        let l : length both ≤ level = omega (arith, both-more) in
+        made two-test both t e (rw (p, q) (le→leb (length both) level l)) whole (omega (arith, i .1, j .1, both-more))
 
 -- ---- one monomial of a pair
 module _ (v : List Mono) (m : Mono) where
@@ -295,3 +325,55 @@ module _ (n : ℕ) (v s : List Mono) (signs : v ≡ signals width n s) (left rig
       ⊎-elim (λ q. apart (subst (λ (z : Mono). T (same left z)) q (mono-order .same-refl left)))
       (λ k. is→nT (any (same left) s) (first-lacks e) (among-in mono-order k))
       (insert-out mono-order right s (among-out mono-order left (insertBy same before right s) t)))
+
+  -- ---- whether the child is opened, by any rules
+  module _ (r : Rules) (k : ℕ) where
+    abbrev fine : Mono → Bool
+    fine m = r .may m || any (same m) v
+
+    fine-known : (m : Mono) → any (same m) v ≡ true → fine m ≡ true
+    fine-known m e = T→is (fine m) (or-r (r .may m) (any (same m) v) (is→T (any (same m) v) e))
+
+    fine-new : (m : Mono) → any (same m) v ≡ false → fine m ≡ r .may m
+    fine-new m e =
+        same-test (fine m) (r .may m) (λ t. ⊎-elim (λ y. y) (λ y. absurd (is→nT (any (same m) v) e y)) (or-e (r .may m) (any (same m) v) t)) (or-l (r .may m) (any (same m) v))
+
+    opens-as : (x y : Bool) (c : List Mono) → fine left ≡ x → fine right ≡ y → whole ≡ c → opens r n k s (left, right) ≡ x && y && leb (length c) k
+    unfolding opens
+    opens-as x y c p q e = rw (sym p, sym q, sym e, signs)
+
+    -- the first is fine where the second is
+    met-fine : met ≡ true → T (fine right) → T (fine left)
+    met-fine e t =
+        ⊎-elim (λ y. subst (λ (z : Mono). T (fine z)) (sym (mono-order .same-eq left right y)) t) (λ y. or-r (r .may left) (any (same left) v) y)
+        (or-e (same left right) (any (same left) v) (is→T met e))
+
+    pub opens-none : Ascending before s → length s ≤ k → any (same right) v ≡ true → met ≡ true → opens r n k s (left, right) ≡ true
+    opens-none a h q e =
+        let second : fine right ≡ true = fine-known right q in
+        let first : fine left ≡ true = T→is (fine left) (met-fine e (is→T (fine right) second)) in
+        opens-as true true s first second (child-none a q e) ∙ le-leb (length s) k h
+
+    pub opens-second : Ascending before s → any (same right) v ≡ false → met ≡ true
+        → opens r n k s (left, right) ≡ r .may right && leb (length (insertBy same before right s)) k
+    opens-second a q e =
+        let c : List Mono = insertBy same before right s in
+        let l : Bool = leb (length c) k in
+        let new = fine-new right q in
+        opens-as (fine left) (r .may right) c refl new (child-second a q e)
+        ∙ same-test (fine left && r .may right && l) (r .may right && l)
+        (λ t. and-i (r .may right) l (and-r (fine left) (r .may right) (and-l (fine left && r .may right) l t)) (and-r (fine left && r .may right) l t))
+        (λ t. and-i (fine left && r .may right) l (and-i (fine left) (r .may right) (met-fine e (subst T (sym new) (and-l (r .may right) l t))) (and-l (r .may right) l t)) (and-r (r .may right) l t))
+
+    pub opens-first : any (same right) v ≡ true → met ≡ false → opens r n k s (left, right) ≡ r .may left && leb (length (insertBy same before left s)) k
+    opens-first q e =
+        let c : List Mono = insertBy same before left s in
+        opens-as (r .may left) true c (fine-new left (unmet-fresh e)) (fine-known right q) (child-first q e)
+        ∙ same-test (r .may left && true && leb (length c) k) (r .may left && leb (length c) k)
+        (λ t. and-i (r .may left) (leb (length c) k) (search (and-l, and-r, t)) (search (and-l, and-r, t)))
+        (λ t. and-i (r .may left && true) (leb (length c) k) (and-i (r .may left) true (and-l (r .may left) (leb (length c) k) t) tt) (and-r (r .may left) (leb (length c) k) t))
+
+    pub opens-both : any (same right) v ≡ false → met ≡ false
+        → opens r n k s (left, right) ≡ r .may left && r .may right && leb (length (insertBy same before left (insertBy same before right s))) k
+    opens-both q e =
+        opens-as (r .may left) (r .may right) (insertBy same before left (insertBy same before right s)) (fine-new left (unmet-fresh e)) (fine-new right q) (child-both q e)

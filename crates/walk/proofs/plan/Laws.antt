@@ -15,16 +15,17 @@ use Rattle.wiring.specs.Panel.{cards, setBytes}
 use Rattle.wiring.specs.Reply.{Outcome, outcome, refused}
 use Rattle.wiring.specs.Poly.{Poly}
 use Rattle.wiring.specs.Terms.{records, lengthRight, fault, system, CleanTerms}
-use Rattle.wiring.specs.Answers.{countRight}
+use Rattle.wiring.specs.Sockets.{panelRight}
+use Rattle.wiring.specs.declared.panel.Panel.{Panel}
 use Rattle.wiring.specs.declared.reply.Reply.{Reply}
 use Rattle.wiring.specs.declared.reply.Reply.the-variants as reply
 use Rattle.wiring.specs.declared.terms.Fault.the-variants.{Clean, Wrong, Repeated}
-use Rattle.wiring.proofs.answers.Laws.{count-few}
-use Rattle.wiring.proofs.terms.Laws.{clean-widens}
+use Rattle.wiring.proofs.answers.Laws.{panel-few}
+use Rattle.wiring.proofs.terms.Laws.{clean-for}
 use Rattle.walk.specs.declared.walk.State.{State}
 use Rattle.walk.specs.declared.walk.Turn.{Turn}
 use Rattle.walk.specs.declared.walk.Turn.the-variants.{Going, Spent, Full}
-use Rattle.walk.specs.Walk.{Finds, Rules, bare, opened, level, Run, ended, spent, full, run}
+use Rattle.walk.specs.Walk.{Finds, Rules, rulesOf, opened, level, Run, ended, spent, full, run}
 use Rattle.walk.specs.Plan.{Ending, done, none, fullAt, settled, levels, plan, setsBytes, said, settingsRight, planned}
 use Rattle.walk.specs.Listing.{Shown}
 use Rattle.walk.specs.Turns.{Ended, Tells}
@@ -194,42 +195,42 @@ module _ {r : Rules} {n : ℕ} {fs : List (Poly Mono)} {limit cap size k steps :
       climb-full taken g = ap (outcome (reply.Full k taken)) cleared ∙ ap (λ (x : Ending). said x size) (whole (full taken) (told-as (Full taken) g))
 
 -- ---- the checks in their order
-module _ (n cap limit : ℕ) (e : settingsRight n cap limit ≡ true) where
-  pub settings-few : n ≤ width
+module _ (panel : Panel) (cap limit : ℕ) (e : settingsRight panel cap limit ≡ true) where
+  pub settings-few : panel .n ≤ width
   unfolding settingsRight
-  settings-few = let t = is→T (settingsRight n cap limit) e in count-few n (T→is (countRight n) (search (and-l, and-r, t)))
+  settings-few = let t = is→T (settingsRight panel cap limit) e in panel-few panel (T→is (panelRight panel) (search (and-l, and-r, t)))
 
   pub settings-low : cap ≤ cards
   unfolding settingsRight
-  settings-low = let t = is→T (settingsRight n cap limit) e in leb→le cap cards (search (and-l, and-r, t))
+  settings-low = let t = is→T (settingsRight panel cap limit) e in leb→le cap cards (search (and-l, and-r, t))
 
   -- what the climb asks of the records
-  pub settings-clean : (terms : List ℕ) → fault n (records terms) ≡ Clean → CleanTerms terms
-  settings-clean terms = clean-widens n (records terms) settings-few
+  pub settings-clean : (terms : List ℕ) → fault panel (records terms) ≡ Clean → CleanTerms terms
+  settings-clean terms = clean-for panel width terms settings-few
 
-module _ (n cap limit : ℕ) (terms : List ℕ) (size : ℕ) where
+module _ (panel : Panel) (cap limit : ℕ) (terms : List ℕ) (size : ℕ) where
   -- what is refused leaves zeros
   module _ (zeros : List ℕ) (z : zeros ≡ replicate size 0) where
-    pub said-setting : settingsRight n cap limit ≡ false → outcome reply.Setting zeros ≡ planned n cap limit terms size
+    pub said-setting : settingsRight panel cap limit ≡ false → outcome reply.Setting zeros ≡ planned panel cap limit terms size
     unfolding planned
     said-setting e = rw (e, z)
 
-    module _ (e : settingsRight n cap limit ≡ true) where
-      pub said-length : lengthRight terms ≡ false → outcome reply.Length zeros ≡ planned n cap limit terms size
+    module _ (e : settingsRight panel cap limit ≡ true) where
+      pub said-length : lengthRight terms ≡ false → outcome reply.Length zeros ≡ planned panel cap limit terms size
       unfolding planned
       said-length h = rw (e, h, z)
 
-      pub said-wrong : lengthRight terms ≡ true → (place : ℕ) → fault n (records terms) ≡ Wrong place → outcome (reply.Term place) zeros ≡ planned n cap limit terms size
+      pub said-wrong : lengthRight terms ≡ true → (place : ℕ) → fault panel (records terms) ≡ Wrong place → outcome (reply.Term place) zeros ≡ planned panel cap limit terms size
       unfolding planned
       said-wrong h place q = rw (e, h, q, z)
 
-      pub said-repeated : lengthRight terms ≡ true → (place : ℕ) → fault n (records terms) ≡ Repeated place → outcome (reply.Twice place) zeros ≡ planned n cap limit terms size
+      pub said-repeated : lengthRight terms ≡ true → (place : ℕ) → fault panel (records terms) ≡ Repeated place → outcome (reply.Twice place) zeros ≡ planned panel cap limit terms size
       unfolding planned
       said-repeated h place q = rw (e, h, q, z)
 
   -- what is not refused is walked, in the buffer that was cleared
-  pub said-walked : (answer : Outcome) (size' : ℕ) → answer ≡ said (plan bare n (system (records terms)) limit (size' / setBytes) cap) size' → size' ≡ size
-      → settingsRight n cap limit ≡ true → lengthRight terms ≡ true → fault n (records terms) ≡ Clean → answer ≡ planned n cap limit terms size
+  pub said-walked : (answer : Outcome) (size' : ℕ) → answer ≡ said (plan (rulesOf panel) (panel .n) (system (records terms)) limit (size' / setBytes) cap) size' → size' ≡ size
+      → settingsRight panel cap limit ≡ true → lengthRight terms ≡ true → fault panel (records terms) ≡ Clean → answer ≡ planned panel cap limit terms size
   unfolding planned
   said-walked answer size' a k e h q = rw (e, h, q, sym k) a
 

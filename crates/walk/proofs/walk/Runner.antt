@@ -5,9 +5,9 @@ use mathlib.Core.Bool.{true}
 use mathlib.Core.List.{List, _∷_}
 use Prim.Native.Nat.{ℕ, _+_, _-_, _/_, _<_, _≤_}
 use native.Mathlib.Omega.{arith}
-use borrow.Author.Tests.{leb-true}
 use lib.Dec.{T, T-not}
 use lib.ListN.{length}
+use Rattle.monomial.proofs.Tests.{is→T}
 use Rattle.monomial.specs.Monomial.{Mono, one, width}
 use Rattle.monomial.specs.Quotient.{quo, divides}
 use Rattle.monomial.specs.Divisors.{leads, next, pairs, divisors}
@@ -27,10 +27,10 @@ use Rattle.wiring.proofs.signals.Laws.{base-in}
 use Rattle.walk.specs.declared.children.Tried.{Tried}
 use Rattle.walk.specs.declared.walk.State.{State}
 use Rattle.walk.specs.declared.walk.Turn.{Turn}
-use Rattle.walk.specs.Walk.{Finds, Rules, child, Step, triedAll, opened, run}
+use Rattle.walk.specs.Walk.{Finds, Rules, child, opens, Step, triedAll, opened, run}
 use Rattle.walk.specs.Listing.{Shown}
 use Rattle.walk.specs.Turns.{Child, Tells, Showing, Ready, PairsFollow, Splits}
-use Rattle.walk.proofs.Rules.{below-its-level}
+use Rattle.walk.proofs.Rules.{opens-fits, below-its-level}
 use Rattle.walk.proofs.children.Laws.{not-both, split-longer, nonsquare-fits, child-walked}
 use Rattle.walk.proofs.walk.Laws.{open-tells, choice-member}
 
@@ -60,8 +60,8 @@ module _ (n : ℕ) (terms : List ℕ) (level : ℕ) (set : Set) (m : Mono) (coun
       not-both n (system (records terms)) (monomialsOf set) m (splits .member) (one width, one width) (mul-one (one width) ∙ sym is)
       (base-in n (monomialsOf set) here, base-in n (monomialsOf set) here)
 
-  module _ (a : Mono) (t : T (divides a m)) (l : T (leads m a)) (r : Tried)
-      (c : Child level (child n (monomialsOf set) (a, quo m a)) r) (go : r .go ≡ true) where
+  module _ (a : Mono) (t : T (divides a m)) (l : T (leads m a)) (rules : Rules) (r : Tried)
+      (c : Child (opens rules n level (monomialsOf set) (a, quo m a)) (child n (monomialsOf set) (a, quo m a)) r) (go : r .go ≡ true) where
     -- the child that is opened is larger, and again a set of the walk
     pub child-more : set .len < r .set .len
     child-more =
@@ -72,7 +72,7 @@ module _ (n : ℕ) (terms : List ℕ) (level : ℕ) (set : Set) (m : Mono) (coun
     pub child-within : r .set .len ≤ level
     child-within =
         let e : r .set .len ≡ length (child n (monomialsOf set) (a, quo m a)) = c .size go in
-        let h = leb-true (length (child n (monomialsOf set) (a, quo m a))) level (sym (c .go) ∙ go) in
+        let h = opens-fits rules n level (monomialsOf set) (a, quo m a) (is→T (opens rules n level (monomialsOf set) (a, quo m a)) (sym (c .go) ∙ go)) in
         omega arith
 
     pub child-ready : (count' : ℕ) (out : List ℕ) → Showing count' out → Ready n terms level (r .set) count' out

@@ -1,7 +1,7 @@
 -- Wiring, step by step: what each test of the code says of the reply. Assumes nothing.
 use mathlib.Core.Path.{_≡_, refl, sym, ap, ap₂, _∙_, subst}
 use mathlib.Core.Logic.{_⊎_, inl, inr, ⊎-elim}
-use mathlib.Core.Bool.{Bool, true, false, not, _&&_}
+use mathlib.Core.Bool.{Bool, true, false, not}
 use mathlib.Core.List.{List, [], _++_, List·Memᴰ·not-nil}
 use Prim.Native.Nat.{ℕ, _*_, _-_, _<_, _≤_}
 use native.Mathlib.Omega.{arith}
@@ -11,11 +11,13 @@ use lib.ListN.{length, replicate}
 use Rattle.monomial.specs.Lists.{any, some, place, gather}
 use Rattle.monomial.specs.Monomial.{Mono, width}
 use Rattle.monomial.specs.Claims.{_∈_}
-use Rattle.monomial.proofs.Tests.{and-r, T→is, nT→is, is→T, is→nT, Tested, passed, failed, test}
+use Rattle.monomial.proofs.Tests.{and-l, and-r, T→is, nT→is, is→T, is→nT, Tested, passed, failed, test}
 use Rattle.monomial.proofs.Counting.{place-lt, place-any}
 use Rattle.monomial.proofs.order.Laws.{mono-order}
 use Rattle.wiring.specs.Panel.{setBytes, setExponent, wireBytes}
+use Rattle.wiring.specs.Sockets.{countRight, panelRight}
 use Rattle.wiring.specs.declared.answers.Given.{Given}
+use Rattle.wiring.specs.declared.panel.Panel.{Panel}
 use Rattle.wiring.specs.declared.reply.Reply.{Reply}
 use Rattle.wiring.specs.declared.reply.Reply.the-variants.{Done, Setting, Length, Full, BadSet, NotQuadratic}
 use Rattle.wiring.specs.declared.terms.Fault.{Fault}
@@ -29,11 +31,11 @@ use Rattle.wiring.specs.Signals.{signals, Fitting}
 use Rattle.wiring.specs.Terms.{records, lengthRight, fault, system}
 use Rattle.wiring.specs.Sets.{setOf, setRight, monomialsOf}
 use Rattle.wiring.specs.Wires.{Wire, wireRecord, Sheet, Met}
-use Rattle.wiring.specs.Answers.{unlessFault, countRight, missing, firstUnmet, judged, recordJudged, verdict, listed, told, wires, wired, Reads, Takes, Gives}
+use Rattle.wiring.specs.Answers.{unlessFault, missing, firstUnmet, judged, recordJudged, verdict, listed, told, wires, wired, Reads, Takes, Gives}
 use Rattle.wiring.proofs.quadratic.Laws.{some-nonsquares, unmet-in, nonsquares-in}
 use Rattle.wiring.proofs.reply.Laws.{same-reply}
 use Rattle.wiring.proofs.sets.Laws.{right-fits}
-use Rattle.wiring.proofs.terms.Laws.{clean-widens}
+use Rattle.wiring.proofs.terms.Laws.{clean-for}
 
 -- ---- a set
 module _ (n : ℕ) (fs : List (Poly Mono)) (s : List Mono) where
@@ -77,36 +79,36 @@ module _ (n : ℕ) (fs : List (Poly Mono)) (s : List Mono) where
           absurd (List·Memᴰ·not-nil (subst (λ (r : List Mono). m ∈ r) e l))
 
 -- ---- the checks in their order
-pub count-few : (n : ℕ) → countRight n ≡ true → n ≤ width
-unfolding countRight
-count-few n e = leb→le n width (and-r (leb 1 n) (leb n width) (is→T (leb 1 n && leb n width) e))
+pub panel-few : (panel : Panel) → panelRight panel ≡ true → panel .n ≤ width
+unfolding panelRight countRight
+panel-few panel e = let t = is→T (panelRight panel) e in leb→le (panel .n) width (search (and-l, and-r, t))
 
-module _ (n : ℕ) (terms set : List ℕ) where
+module _ (panel : Panel) (terms set : List ℕ) where
   abbrev fs : List (Poly Mono)
   fs = system (records terms)
 
-  pub said-setting : countRight n ≡ false → verdict n terms set ≡ Setting
+  pub said-setting : panelRight panel ≡ false → verdict panel terms set ≡ Setting
   unfolding verdict
   said-setting e = rw e
 
-  module _ (e : countRight n ≡ true) where
-    pub said-terms-length : lengthRight terms ≡ false → verdict n terms set ≡ Length
+  module _ (e : panelRight panel ≡ true) where
+    pub said-terms-length : lengthRight terms ≡ false → verdict panel terms set ≡ Length
     unfolding verdict
     said-terms-length h = rw (e, h)
 
-    pub said-set-length : lengthRight terms ≡ true → (length set ≡ setBytes → ⊥) → verdict n terms set ≡ Length
+    pub said-set-length : lengthRight terms ≡ true → (length set ≡ setBytes → ⊥) → verdict panel terms set ≡ Length
     unfolding verdict
     said-set-length h k = rw (e, h, ne-eqb (length set) setBytes k)
 
-    pub said-rest : lengthRight terms ≡ true → length set ≡ setBytes → (f : Fault) → f ≡ fault n (records terms) → unlessFault (λ x. x) f (recordJudged n fs set) ≡ verdict n terms set
+    pub said-rest : lengthRight terms ≡ true → length set ≡ setBytes → (f : Fault) → f ≡ fault panel (records terms) → unlessFault (λ x. x) f (recordJudged panel fs set) ≡ verdict panel terms set
     unfolding verdict
     said-rest h k f q = rw (e, h, eq-eqb (length set) setBytes k, q)
 
-  pub record-bad : setRight n set ≡ false → recordJudged n fs set ≡ BadSet
+  pub record-bad : setRight panel set ≡ false → recordJudged panel fs set ≡ BadSet
   unfolding recordJudged
   record-bad e = rw e
 
-  pub record-right : setRight n set ≡ true → recordJudged n fs set ≡ judged n fs (setOf set)
+  pub record-right : setRight panel set ≡ true → recordJudged panel fs set ≡ judged (panel .n) fs (setOf set)
   unfolding recordJudged
   record-right e = rw e
 
@@ -194,50 +196,50 @@ module _ (n : ℕ) (fs : List (Poly Mono)) (s : List Mono) (size : ℕ) (r : Rep
       go (failed t) = (t, rw t)
 
 -- ---- wiring
-module _ (n : ℕ) (terms set : List ℕ) (size : ℕ) where
-  pub wired-refused : (r : Reply) → verdict n terms set ≡ r → (numbers r .code ≡ 0 → ⊥) → wired n terms set size ≡ refused r size
+module _ (panel : Panel) (terms set : List ℕ) (size : ℕ) where
+  pub wired-refused : (r : Reply) → verdict panel terms set ≡ r → (numbers r .code ≡ 0 → ⊥) → wired panel terms set size ≡ refused r size
   unfolding wired
-  wired-refused r e k = rw e (told-refused r (wires n (system (records terms)) (setOf set)) size k)
+  wired-refused r e k = rw e (told-refused r (wires (panel .n) (system (records terms)) (setOf set)) size k)
 
-  pub wired-listed : (o c k : ℕ) → verdict n terms set ≡ Done o c k → wired n terms set size ≡ listed o (wires n (system (records terms)) (setOf set)) size
+  pub wired-listed : (o c k : ℕ) → verdict panel terms set ≡ Done o c k → wired panel terms set size ≡ listed o (wires (panel .n) (system (records terms)) (setOf set)) size
   unfolding wired
-  wired-listed o c k e = rw e (told-listed o c k (wires n (system (records terms)) (setOf set)) size)
+  wired-listed o c k e = rw e (told-listed o c k (wires (panel .n) (system (records terms)) (setOf set)) size)
 
 -- ---- what was given, as the code reads it
-module _ (n : ℕ) (terms bytes : List ℕ) (g : Given) where
+module _ (panel : Panel) (terms bytes : List ℕ) (g : Given) where
   -- a refusal
-  pub given-refused : (r : Reply) → verdict n terms bytes ≡ r → (numbers r .code ≡ 0 → ⊥) → (g .good ≡ false) × (g .said ≡ r) → Gives n terms bytes g
+  pub given-refused : (r : Reply) → verdict panel terms bytes ≡ r → (numbers r .code ≡ 0 → ⊥) → (g .good ≡ false) × (g .said ≡ r) → Gives panel terms bytes g
   given-refused r e k h = record {
     taken = λ t. absurd (is→nT (g .good) (h .0) (is→T (g .good) t));
     refused = λ t. record { says = e ∙ sym (h .1); code = λ z. k (ap (λ (q : Reply). numbers q .code) (sym (h .1)) ∙ z) };
   }
 
   -- the record, once the rest is in order
-  pub given-read : countRight n ≡ true → length bytes ≡ setBytes → fault n (records terms) ≡ Clean → verdict n terms bytes ≡ recordJudged n (system (records terms)) bytes
-      → Reads n bytes g → Gives n terms bytes g
+  pub given-read : panelRight panel ≡ true → length bytes ≡ setBytes → fault panel (records terms) ≡ Clean → verdict panel terms bytes ≡ recordJudged panel (system (records terms)) bytes
+      → Reads panel bytes g → Gives panel terms bytes g
   given-read count long clean e r = record {
     taken = λ t.
-        let right : setRight n bytes ≡ true = sym (r .right) ∙ t in
+        let right : setRight panel bytes ≡ true = sym (r .right) ∙ t in
         record {
-          says = e ∙ record-right n terms bytes right;
+          says = e ∙ record-right panel terms bytes right;
           holds = r .holds t;
           judgeable = record {
-            few = count-few n count;
-            clean = clean-widens n (records terms) (count-few n count) clean;
+            few = panel-few panel count;
+            clean = clean-for panel width terms (panel-few panel count) clean;
             small = r .small;
-            fits = subst (Fitting setExponent) (sym (r .holds t)) (right-fits n bytes long (is→T (setRight n bytes) right));
+            fits = subst (Fitting setExponent) (sym (r .holds t)) (right-fits panel bytes long (is→T (setRight panel bytes) right));
           };
         };
     refused = λ t. record {
-      says = e ∙ record-bad n terms bytes (sym (r .right) ∙ t) ∙ sym (r .said);
+      says = e ∙ record-bad panel terms bytes (sym (r .right) ∙ t) ∙ sym (r .said);
       code = λ z. let q : _≡_ {A = ℕ} 8 0 = ap (λ (w : Reply). numbers w .code) (sym (r .said)) ∙ z in omega arith;
     };
   }
 
 -- the set that was read is the set that was given, and the verdict is about it
-pub wired-given : (n : ℕ) (terms bytes : List ℕ) (size size' : ℕ) (set : Set) → Takes n terms bytes set → size' ≡ size
-    → told (judged n (system (records terms)) (monomialsOf set)) (wires n (system (records terms)) (monomialsOf set)) size' ≡ wired n terms bytes size
+pub wired-given : (panel : Panel) (terms bytes : List ℕ) (size size' : ℕ) (set : Set) → Takes panel terms bytes set → size' ≡ size
+    → told (judged (panel .n) (system (records terms)) (monomialsOf set)) (wires (panel .n) (system (records terms)) (monomialsOf set)) size' ≡ wired panel terms bytes size
 unfolding wired
-wired-given n terms bytes size size' set t e =
-    ap₂ (λ (m : List Mono) (k : ℕ). told (judged n (system (records terms)) m) (wires n (system (records terms)) m) k) (t .holds) e
-    ∙ ap (λ (r : Reply). told r (wires n (system (records terms)) (setOf bytes)) size) (sym (t .says))
+wired-given panel terms bytes size size' set t e =
+    ap₂ (λ (m : List Mono) (k : ℕ). told (judged (panel .n) (system (records terms)) m) (wires (panel .n) (system (records terms)) m) k) (t .holds) e
+    ∙ ap (λ (r : Reply). told r (wires (panel .n) (system (records terms)) (setOf bytes)) size) (sym (t .says))

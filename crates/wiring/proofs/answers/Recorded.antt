@@ -1,4 +1,4 @@
--- A quadratic set that can stand in a record: its record is called quadratic whatever the buffer, and wired into one that is large enough.
+-- A quadratic set without signals that can stand in a record: its record is called quadratic whatever the buffer, and wired into one that is large enough.
 -- Assumes nothing.
 use mathlib.Core.Path.{_≡_, refl, sym, ap, _∙_, subst}
 use mathlib.Core.Logic.{_⊎_}
@@ -16,47 +16,48 @@ use Rattle.wiring.specs.Terms.{records}
 use Rattle.wiring.specs.Sets.{setOf, setRecord}
 use Rattle.wiring.specs.Wires.{wireList}
 use Rattle.wiring.specs.Answers.{wired}
+use Rattle.wiring.specs.declared.panel.Panel.{Panel}
 use Rattle.wiring.specs.declared.reply.Reply.{Reply}
 use Rattle.wiring.specs.declared.reply.Reply.the-variants.{Done}
-use Rattle.wiring.specs.Claims.{Measured, Flawless, beyond, Ranged, Recordable, WellFormed, signalsIn, derivativeIn, listIn}
+use Rattle.wiring.specs.Claims.{Measured, Flawless, beyond, Ranged, Free, Recordable, WellFormed, signalsIn, derivativeIn, listIn}
 use Rattle.wiring.proofs.sets.Exact.{record-length, record-set, record-right, right-iff}
 use Rattle.wiring.proofs.answers.Alone.{wire-verdict}
 use Rattle.wiring.proofs.answers.Wired.{list-most, wire-exact, wire-enough}
 
-module _ (n : ℕ) (terms : List ℕ) (ranged : Ranged n) (measured : Measured terms) (flawless : Flawless n (records terms) beyond) where
-  module _ (s : List Mono) (r : Recordable n s) (q : Quadratic plain (signals width n s) (derivativeIn terms)) where
-    recorded-formed : WellFormed n terms (setRecord s)
+module _ (panel : Panel) (terms : List ℕ) (ranged : Ranged panel) (measured : Measured terms) (flawless : Flawless panel (records terms) beyond) where
+  module _ (s : List Mono) (r : Recordable (panel .n) s) (f : Free (panel .marks) s) (q : Quadratic plain (signals width (panel .n) s) (derivativeIn panel terms)) where
+    recorded-formed : WellFormed panel terms (setRecord s)
     recorded-formed = record {
       ranged = ranged;
       lengths = record { measured = measured; long = record-length s (r .few) (r .wide) };
       flawless = flawless;
-      right = right-iff n (setRecord s) .0 (record-right n s r);
+      right = right-iff panel (setRecord s) .0 (record-right panel s r f);
     }
 
-    recorded-quadratic : Quadratic plain (signalsIn n (setRecord s)) (derivativeIn terms)
-    recorded-quadratic = subst (λ (x : List Mono). Quadratic plain (signals width n x) (derivativeIn terms)) (sym (record-set n s r)) q
+    recorded-quadratic : Quadratic plain (signalsIn panel (setRecord s)) (derivativeIn panel terms)
+    recorded-quadratic = subst (λ (x : List Mono). Quadratic plain (signals width (panel .n) x) (derivativeIn panel terms)) (sym (record-set (panel .n) s r)) q
 
     recorded-size : length (setOf (setRecord s)) ≡ length s
-    recorded-size = ap length (record-set n s r)
+    recorded-size = ap length (record-set (panel .n) s r)
 
     -- whatever the buffer, it is called quadratic: done or full
-    pub recorded-judged : (size : ℕ) (reply : Reply) (bytes : List ℕ) → outcome reply bytes ≡ wired n terms (setRecord s) size
+    pub recorded-judged : (size : ℕ) (reply : Reply) (bytes : List ℕ) → outcome reply bytes ≡ wired panel terms (setRecord s) size
         → (numbers reply .code ≡ 0) ⊎ (numbers reply .code ≡ 6)
     recorded-judged size reply bytes e =
-        wire-verdict n terms (setRecord s) size reply bytes e .quadratic .1 (record { formed = recorded-formed; quadratic = recorded-quadratic })
+        wire-verdict panel terms (setRecord s) size reply bytes e .quadratic .1 (record { formed = recorded-formed; quadratic = recorded-quadratic })
 
     module _ (room : ℕ) (enough : wiresBytes ≤ room) where
       -- the list, then zeros
-      pub recorded-wired : let list = listIn n terms (setRecord s) in
-          outcome (Done (length s) (length list) 0) (wireList list ++ replicate (room - wireBytes * length list) 0) ≡ wired n terms (setRecord s) room
+      pub recorded-wired : let list = listIn panel terms (setRecord s) in
+          outcome (Done (length s) (length list) 0) (wireList list ++ replicate (room - wireBytes * length list) 0) ≡ wired panel terms (setRecord s) room
       recorded-wired =
-          let done : Reply = Done (length s) (length (listIn n terms (setRecord s))) 0 in
-          let fits : wireBytes * length (listIn n terms (setRecord s)) ≤ room = omega (arith, list-most n terms (setRecord s) recorded-formed) in
-          wire-exact n terms (setRecord s) room done _ .1 ((recorded-formed, recorded-quadratic, sym recorded-size, refl, refl, fits), refl)
+          let done : Reply = Done (length s) (length (listIn panel terms (setRecord s))) 0 in
+          let fits : wireBytes * length (listIn panel terms (setRecord s)) ≤ room = omega (arith, list-most panel terms (setRecord s) recorded-formed) in
+          wire-exact panel terms (setRecord s) room done _ .1 ((recorded-formed, recorded-quadratic, sym recorded-size, refl, refl, fits), refl)
 
       -- and so it is said
-      pub recorded-wires : (reply : Reply) (bytes : List ℕ) → outcome reply bytes ≡ wired n terms (setRecord s) room
-          → reply ≡ Done (length s) (length (listIn n terms (setRecord s))) 0
+      pub recorded-wires : (reply : Reply) (bytes : List ℕ) → outcome reply bytes ≡ wired panel terms (setRecord s) room
+          → reply ≡ Done (length s) (length (listIn panel terms (setRecord s))) 0
       recorded-wires reply bytes e =
-          wire-enough n terms (setRecord s) room recorded-formed recorded-quadratic enough reply bytes e
-          ∙ ap (λ (x : ℕ). Done x (length (listIn n terms (setRecord s))) 0) recorded-size
+          wire-enough panel terms (setRecord s) room recorded-formed recorded-quadratic enough reply bytes e
+          ∙ ap (λ (x : ℕ). Done x (length (listIn panel terms (setRecord s))) 0) recorded-size

@@ -1,28 +1,23 @@
 -- Definition 1 of document 001 over any kind of monomials: a derivative is a list of products of two members of v exactly when all its monomials
--- are in V2, and so for all members of v exactly when there is no nonsquare. Then what the first signal with a nonsquare is. Assumes nothing.
+-- are in V2, and so for all members of v exactly when there is no nonsquare. Then what the first signal with a nonsquare is, and that derivations that agree on v say the same. Assumes nothing.
 use mathlib.Core.Path.{_≡_, refl, sym, ap, ap₂, _∙_, subst}
 use mathlib.Core.Logic.{⊎-elim, _↔_}
 use mathlib.Core.Bool.{Bool}
 use mathlib.Core.List.{List, [], _∷_, List·Memᴰ·cases-cons, List·Memᴰ·not-nil}
-use Prim.Native.Nat.{ℕ, zero, suc, _<_, _≤_}
+use Prim.Native.Nat.{ℕ, _<_}
 use native.Mathlib.Omega.{arith}
 use lib.Dec.{T}
 use lib.IntN.{ℤ, pos}
 use lib.ListN.{getD}
 use Rattle.monomial.specs.Lists.{any, some, place}
-use Rattle.monomial.specs.Monomial.{Mono, one}
 use Rattle.monomial.specs.Claims.{_∈_, Order}
 use Rattle.monomial.proofs.Tests.{Tested, passed, failed, test, is→T, is→nT}
 use Rattle.monomial.proofs.Members.{here, there, some-none, some-out}
-use Rattle.monomial.proofs.Counting.{place-lt, place-passes, place-least}
-use Rattle.wiring.specs.Poly.{Kind, Poly, plain, Same, coeff, monos, support}
-use Rattle.wiring.specs.Derivative.{derivative}
-use Rattle.wiring.specs.Signals.{signals}
+use Rattle.monomial.proofs.Counting.{place-lt, place-passes, place-least, at-in}
+use Rattle.wiring.specs.Poly.{Kind, Poly, coeff, monos, support}
 use Rattle.wiring.specs.Quadratic.{Product, multiplied, inV2, unmet, nonsquares, Linked, Quadratic}
 use Rattle.wiring.specs.Claims.{FirstUnlinked}
 use Rattle.wiring.proofs.Poly.{coeff-listed, support-out, graph, graph-support}
-use Rattle.wiring.proofs.kinds.Plain.{plain-lawful}
-use Rattle.wiring.proofs.derivative.Rules.{one-rule}
 use Rattle.wiring.proofs.quadratic.Laws.{Factors, inV2-in, inV2-out, unmet-in, unmet-out, nonsquares-in, nonsquares-out, Nonsquare, some-nonsquares}
 
 -- a list without members is empty
@@ -144,12 +139,14 @@ module _ {M : Type 0} (k : Kind M) (o : Order (k .same) (k .before)) (v : List M
           not-before : (a b : ℕ) → FirstUnlinked k v d x a → FirstUnlinked k v d x b → a < b → ⊥
           not-before a b p q h = p .unlinked (q .earlier a h)
 
--- signal number 0 is 1, whose derivative is zero: the first that fails is a variable or a new monomial
-pub first-unlinked-raised : (w n : ℕ) (fs : List (Poly Mono)) (s : List Mono) (i : ℕ)
-    → FirstUnlinked plain (signals w n s) (derivative plain fs) [] i → 1 ≤ i
-unfolding signals multiplied
-first-unlinked-raised w n fs s (suc i) f = omega arith
-first-unlinked-raised w n fs s zero f = absurd (f .unlinked (record { list = []; members = λ q h. absurd (List·Memᴰ·not-nil h); equal = nothing }))
-  where
-    nothing : Same plain (multiplied plain (signals w n s) []) (derivative plain fs (one w))
-    nothing m = ap (λ (p : Poly Mono). coeff plain p m) (sym (one-rule plain plain-lawful w fs))
+-- ---- of two derivations that agree on the members of v the same is said
+module _ {M : Type 0} (k : Kind M) (v : List M) (d e : M → Poly M) (same : (z : M) → z ∈ v → d z ≡ e z) where
+  pub quadratic-same : Quadratic k v d → Quadratic k v e
+  quadratic-same q z h = subst (Linked k v) (same z h) (q z h)
+
+  pub first-unlinked-same : (x : M) {i : ℕ} → FirstUnlinked k v d x i → FirstUnlinked k v e x i
+  first-unlinked-same x {i} f = record {
+    below = f .below;
+    unlinked = λ l. f .unlinked (subst (Linked k v) (sym (same (getD v i x) (at-in v i x (f .below)))) l);
+    earlier = λ j h. subst (Linked k v) (same (getD v j x) (at-in v j x (let b = f .below in omega arith))) (f .earlier j h);
+  }

@@ -20,10 +20,13 @@ use Rattle.monomial.proofs.Strips.{strip-length, strip-at}
 use Rattle.monomial.proofs.order.Laws.{mono-order}
 use Rattle.monomial.proofs.order.Ascending.{among-in, among-out, sub-length}
 use Rattle.wiring.specs.Panel.{cards, setBytes, setExponent}
+use Rattle.wiring.specs.Sockets.{mayBe}
+use Rattle.wiring.specs.declared.panel.Panel.{Panel}
 use Rattle.wiring.specs.Signals.{flat}
 use Rattle.wiring.specs.Terms.{exponentsRight}
 use Rattle.wiring.specs.Sets.{places, sizeOf, setOf, ascending, monomialRight, setRight, setRecord}
-use Rattle.wiring.specs.Claims.{Permitted, RightRecord, Recordable, Wide}
+use Rattle.wiring.specs.Claims.{Permitted, Free, RightRecord, Recordable, Wide}
+use Rattle.wiring.proofs.sockets.Laws.{may-in, may-out}
 use Rattle.wiring.proofs.terms.Laws.{Fit, exponents-in, exponents-everywhere}
 use Rattle.wiring.proofs.sets.Laws.{placeAt, places-length, places-at, places-width, used-length, used-at, ascending-in, ascending-out}
 
@@ -46,51 +49,68 @@ zero-list (x ∷ l) zero e h = let z : ⊥ = omega arith in absurd z
 zero-list (x ∷ l) (suc w) e h = ap₂ _∷_ (h 0 (omega arith)) (zero-list l w (omega arith) (λ k j. h (suc k) (omega arith)))
 
 -- ---- a right record, fact by fact
-module _ (n : ℕ) where
-  permitted-out : (s : List Mono) → T (ascending s) → T (all (monomialRight n) s) → Permitted n s
+module _ (panel : Panel) where
+  -- the three tests of a monomial
+  record Facts (m : Mono) : Type 0 where
+    new : T (not (any (same m) (constants width)))
+    exponents : T (exponentsRight setExponent (panel .n) m)
+    may : T (mayBe panel m)
+
+  facts-out : (m : Mono) → T (monomialRight panel m) → Facts m
   unfolding monomialRight
+  facts-out m t = record { new = search (and-l, and-r, t); exponents = search (and-l, and-r, t); may = search (and-l, and-r, t) }
+
+  facts-in : (m : Mono) → Facts m → T (monomialRight panel m)
+  unfolding monomialRight
+  facts-in m f =
+      and-i (not (any (same m) (constants width)) && exponentsRight setExponent (panel .n) m) (mayBe panel m)
+      (and-i (not (any (same m) (constants width))) (exponentsRight setExponent (panel .n) m) (f .new) (f .exponents)) (f .may)
+
+  right-facts : (s : List Mono) → T (all (monomialRight panel) s) → (m : Mono) → m ∈ s → Facts m
+  right-facts s t m h = facts-out m (all-out (monomialRight panel) t h)
+
+  permitted-out : (s : List Mono) → T (ascending s) → T (all (monomialRight panel) s) → Permitted (panel .n) s
   permitted-out s a t =
-      let right : (m : Mono) → m ∈ s → T (monomialRight n m) = λ m h. all-out (monomialRight n) t h in
-      let fit : (m : Mono) → m ∈ s → (i : ℕ) → Fit setExponent n (getD m i 0) i =
-      λ m h i. exponents-everywhere setExponent n m (and-r (not (any (same m) (constants width))) (exponentsRight setExponent n m) (right m h)) i in
+      let fit : (m : Mono) → m ∈ s → (i : ℕ) → Fit setExponent (panel .n) (getD m i 0) i =
+      λ m h i. exponents-everywhere setExponent (panel .n) m (right-facts s t m h .exponents) i in
       record {
         ascends = ascending-out s a;
-        new = λ m h k. T-not (any (same m) (constants width)) (and-l (not (any (same m) (constants width))) (exponentsRight setExponent n m) (right m h)) (among-in mono-order k);
+        new = λ m h k. T-not (any (same m) (constants width)) (right-facts s t m h .new) (among-in mono-order k);
         small = λ m h i. fit m h i .small;
         within = λ m h i. fit m h i .zero;
       }
 
-  permitted-in : (s : List Mono) → Permitted n s → T (all (monomialRight n) s)
-  unfolding monomialRight
-  permitted-in s p = all-in (monomialRight n) s right
-    where
-      right : (m : Mono) → m ∈ s → T (monomialRight n m)
-      right m h =
-          and-i (not (any (same m) (constants width))) (exponentsRight setExponent n m)
-          (not-T (any (same m) (constants width)) (λ t. p .new m h (among-out mono-order m (constants width) t)))
-          (exponents-in setExponent n m (λ i k. record { small = p .small m h i; zero = p .within m h i }))
+  permitted-in : (s : List Mono) → Permitted (panel .n) s → Free (panel .marks) s → T (all (monomialRight panel) s)
+  permitted-in s p f =
+      all-in (monomialRight panel) s
+      (λ m h. facts-in m (record {
+        new = not-T (any (same m) (constants width)) (λ t. p .new m h (among-out mono-order m (constants width) t));
+        exponents = exponents-in setExponent (panel .n) m (λ i k. record { small = p .small m h i; zero = p .within m h i });
+        may = may-in panel m (f m h);
+      }))
 
-  pub right-iff : (bytes : List ℕ) → T (setRight n bytes) ↔ RightRecord n bytes
+  pub right-iff : (bytes : List ℕ) → T (setRight panel bytes) ↔ RightRecord panel bytes
   unfolding setRight
   right-iff bytes = (facts, rule)
     where
       rest : List ℕ
       rest = drop (width * sizeOf bytes) bytes
 
-      facts : T (setRight n bytes) → RightRecord n bytes
+      facts : T (setRight panel bytes) → RightRecord panel bytes
       facts t = record {
         zeros = λ k h.
             let e : width * sizeOf bytes + (k - width * sizeOf bytes) ≡ k = omega arith in
             rw (getD-drop (width * sizeOf bytes) bytes (k - width * sizeOf bytes) 0, e) at (zero-all rest (search (and-l, and-r, t)) (k - width * sizeOf bytes));
         permitted = permitted-out (setOf bytes) (search (and-l, and-r, t)) (search (and-l, and-r, t));
+        free = λ m h. may-out panel m (right-facts (setOf bytes) (search (and-l, and-r, t)) m h .may);
       }
 
-      rule : RightRecord n bytes → T (setRight n bytes)
+      rule : RightRecord panel bytes → T (setRight panel bytes)
       rule r =
           let s = setOf bytes in
           let none : T (all (eqb 0) rest) = all-zero rest (λ k. getD-drop (width * sizeOf bytes) bytes k 0 ∙ r .zeros (width * sizeOf bytes + k) (omega arith)) in
           let first : T (all (eqb 0) rest && ascending s) = and-i (all (eqb 0) rest) (ascending s) none (ascending-in s (r .permitted .ascends)) in
-          and-i (all (eqb 0) rest && ascending s) (all (monomialRight n) s) first (permitted-in s (r .permitted))
+          and-i (all (eqb 0) rest && ascending s) (all (monomialRight panel) s) first (permitted-in s (r .permitted) (r .free))
 
 -- ---- the first entry that passes
 module _ {A : Type 0} (f : A → Bool) where
@@ -179,14 +199,8 @@ module _ (n : ℕ) (s : List Mono) (r : Recordable n s) where
   pub record-set : setOf (setRecord s) ≡ s
   record-set = record-holds s (r .few) (r .wide) not-one
 
-  -- and is right
-  pub record-right : T (setRight n (setRecord s))
-  record-right =
-      let size : sizeOf (setRecord s) ≡ length s = record-size s (r .few) (r .wide) not-one in
-      right-iff n (setRecord s) .1 (record {
-        zeros = λ k h. record-zeros s (r .few) (r .wide) k (rw size at h);
-        permitted = subst (Permitted n) (sym record-set) (r .permitted);
-      })
+  recorded-size : sizeOf (setRecord s) ≡ length s
+  recorded-size = record-size s (r .few) (r .wide) not-one
 
   -- a part of it, in the same order, may stand in a record too
   pub recordable-part : (t : List Mono) → Ascending before t → t ⊆ s → Recordable n t
@@ -201,6 +215,15 @@ module _ (n : ℕ) (s : List Mono) (r : Recordable n s) where
     };
   }
 
+-- and is right where the set has no signals
+pub record-right : (panel : Panel) (s : List Mono) → Recordable (panel .n) s → Free (panel .marks) s → T (setRight panel (setRecord s))
+record-right panel s r f =
+    right-iff panel (setRecord s) .1 (record {
+      zeros = λ k h. record-zeros s (r .few) (r .wide) k (rw (recorded-size (panel .n) s r) at h);
+      permitted = subst (Permitted (panel .n)) (sym (record-set (panel .n) s r)) (r .permitted);
+      free = subst (Free (panel .marks)) (sym (record-set (panel .n) s r)) f;
+    })
+
 -- the first k places, one behind the other, are the first 6 * k bytes
 bytes-used : (bytes : List ℕ) (k : ℕ) → k ≤ cards → flat (take k (places bytes)) ≡ take (width * k) bytes
 unfolding gather
@@ -213,7 +236,7 @@ bytes-used bytes (suc k) h =
     ap flat next ∙ gather-append (λ m. m) (take k t) (placeAt bytes k ∷ []) ∙ ap₂ _++_ (bytes-used bytes k (omega arith)) (append-nil (placeAt bytes k))
     ∙ sym (take-add (width * k) width bytes) ∙ ap (λ (j : ℕ). take j bytes) (sym e)
 
-module _ (n : ℕ) (bytes : List ℕ) (t : T (setRight n bytes)) (l : length bytes ≡ setBytes) where
+module _ (panel : Panel) (bytes : List ℕ) (t : T (setRight panel bytes)) (l : length bytes ≡ setBytes) where
   size-few : sizeOf bytes ≤ cards
   unfolding sizeOf
   size-few = omega (arith, place-most (same (one width)) (places bytes), places-length bytes)
@@ -223,12 +246,12 @@ module _ (n : ℕ) (bytes : List ℕ) (t : T (setRight n bytes)) (l : length byt
   set-long = used-length bytes (sizeOf bytes) size-few
 
   -- the set of a right record may stand in a record
-  pub right-recordable : Recordable n (setOf bytes)
+  pub right-recordable : Recordable (panel .n) (setOf bytes)
   unfolding setOf
   right-recordable = record {
     few = omega (arith, set-long, size-few);
     wide = λ m h. places-width bytes l m (take-in (sizeOf bytes) (places bytes) h);
-    permitted = right-iff n bytes .0 t .permitted;
+    permitted = right-iff panel bytes .0 t .permitted;
   }
 
   right-front : flat (setOf bytes) ≡ take (width * sizeOf bytes) bytes
@@ -240,7 +263,7 @@ module _ (n : ℕ) (bytes : List ℕ) (t : T (setRight n bytes)) (l : length byt
       let at = width * sizeOf bytes in
       let width = setBytes - width * length (setOf bytes) in
       let long : length (drop at bytes) ≡ width = omega (arith, set-long, length-drop at bytes) in
-      sym (zero-list (drop at bytes) width long (λ k h. getD-drop at bytes k 0 ∙ right-iff n bytes .0 t .zeros (at + k) (omega arith)))
+      sym (zero-list (drop at bytes) width long (λ k h. getD-drop at bytes k 0 ∙ right-iff panel bytes .0 t .zeros (at + k) (omega arith)))
 
   -- and the record is that set's
   pub right-record : setRecord (setOf bytes) ≡ bytes

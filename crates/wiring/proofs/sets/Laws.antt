@@ -9,9 +9,9 @@ use native.Mathlib.Numerals.{add-one}
 use lib.Dec.{T, eqb}
 use lib.ListN.{length, getD, take, drop, length-drop, drop-of-length-le}
 use lib.Seq.{length-take-le, getD-take, drop-cons}
-use Rattle.monomial.specs.Lists.{all, below}
-use Rattle.monomial.specs.Monomial.{Mono, width}
-use Rattle.monomial.specs.Order.{before}
+use Rattle.monomial.specs.Lists.{any, all, below}
+use Rattle.monomial.specs.Monomial.{Mono, constants, width}
+use Rattle.monomial.specs.Order.{same, before}
 use Rattle.monomial.specs.Claims.{_∈_, Ascending, empty, first}
 use Rattle.monomial.proofs.Tests.{is→T, is→nT, nT→is, and-l, and-r, and-i, same-test}
 use Rattle.monomial.proofs.Members.{here, all-in, all-out, take-in}
@@ -19,6 +19,8 @@ use Rattle.monomial.proofs.Counting.{below-out, below-at}
 use Rattle.monomial.proofs.order.Laws.{mono-order}
 use Rattle.monomial.proofs.order.Ascending.{head-first, tail-asc}
 use Rattle.wiring.specs.Panel.{cards, setBytes, setExponent}
+use Rattle.wiring.specs.Sockets.{mayBe}
+use Rattle.wiring.specs.declared.panel.Panel.{Panel}
 use Rattle.wiring.specs.Signals.{Fitting}
 use Rattle.wiring.specs.Terms.{exponentsRight}
 use Rattle.wiring.specs.Sets.{places, sizeOf, setOf, ascending, monomialRight, setRight, monomialsOf, SetReads}
@@ -170,8 +172,23 @@ module _ {A : Type 0} {f : A → Bool} {l : List A} {at i : ℕ} (d : A) (c : Ch
   unfolding all
   from-ends h = rw (drop-of-length-le l h) at (c .rest)
 
+-- ---- a monomial of a record: the tests in their order
+module _ (panel : Panel) (m : Mono) where
+  pub named-refused : any (same m) (constants width) ≡ true → false ≡ monomialRight panel m
+  unfolding monomialRight
+  named-refused e = rw e
+
+  module _ (new : any (same m) (constants width) ≡ false) where
+    pub exponents-refused : exponentsRight setExponent (panel .n) m ≡ false → false ≡ monomialRight panel m
+    unfolding monomialRight
+    exponents-refused e = rw (new, e)
+
+    pub may-decides : exponentsRight setExponent (panel .n) m ≡ true → mayBe panel m ≡ monomialRight panel m
+    unfolding monomialRight
+    may-decides e = rw (new, e)
+
 -- ---- reading a record whose size is known: each test that fails refuses it, and one that passes all three holds its set
-module _ (n : ℕ) (bytes : List ℕ) (len : ℕ) (e : len ≡ sizeOf bytes) where
+module _ (panel : Panel) (bytes : List ℕ) (len : ℕ) (e : len ≡ sizeOf bytes) where
   zeros : Bool
   zeros = all (eqb 0) (drop (width * len) bytes)
 
@@ -179,13 +196,13 @@ module _ (n : ℕ) (bytes : List ℕ) (len : ℕ) (e : len ≡ sizeOf bytes) whe
   order = ascending (take len (places bytes))
 
   each : Bool
-  each = all (monomialRight n) (take len (places bytes))
+  each = all (monomialRight panel) (take len (places bytes))
 
-  sized : setRight n bytes ≡ zeros && order && each
+  sized : setRight panel bytes ≡ zeros && order && each
   unfolding setRight setOf zeros order each
   sized = rw e
 
-  refused : (r : SetRead) → r .good ≡ false → r .set .len ≡ 0 → (T (zeros && order && each) → ⊥) → SetReads n bytes r
+  refused : (r : SetRead) → r .good ≡ false → r .set .len ≡ 0 → (T (zeros && order && each) → ⊥) → SetReads panel bytes r
   refused r bad none f = record {
     right = bad ∙ sym (sized ∙ nT→is (zeros && order && each) f);
     holds = λ g. absurd (is→nT (r .good) bad (is→T (r .good) g));
@@ -194,20 +211,20 @@ module _ (n : ℕ) (bytes : List ℕ) (len : ℕ) (e : len ≡ sizeOf bytes) whe
   }
 
   module _ (r : SetRead) (bad : r .good ≡ false) (none : r .set .len ≡ 0) where
-    pub refused-bytes : all (eqb 0) (drop (width * len) bytes) ≡ false → SetReads n bytes r
+    pub refused-bytes : all (eqb 0) (drop (width * len) bytes) ≡ false → SetReads panel bytes r
     unfolding zeros
     refused-bytes f = refused r bad none (λ t. is→nT zeros f (search (and-l, and-r, t)))
 
-    pub refused-order : ascending (take len (places bytes)) ≡ false → SetReads n bytes r
+    pub refused-order : ascending (take len (places bytes)) ≡ false → SetReads panel bytes r
     unfolding order
     refused-order f = refused r bad none (λ t. is→nT order f (search (and-l, and-r, t)))
 
-    pub refused-monomial : all (monomialRight n) (take len (places bytes)) ≡ false → SetReads n bytes r
+    pub refused-monomial : all (monomialRight panel) (take len (places bytes)) ≡ false → SetReads panel bytes r
     unfolding each
     refused-monomial f = refused r bad none (λ t. is→nT each f (search (and-l, and-r, t)))
 
-  pub accepted : all (eqb 0) (drop (width * len) bytes) ≡ true → ascending (take len (places bytes)) ≡ true → all (monomialRight n) (take len (places bytes)) ≡ true
-      → (r : SetRead) → r .good ≡ true → len ≤ cards → monomialsOf (r .set) ≡ take len (places bytes) → r .set .len ≡ len → SetReads n bytes r
+  pub accepted : all (eqb 0) (drop (width * len) bytes) ≡ true → ascending (take len (places bytes)) ≡ true → all (monomialRight panel) (take len (places bytes)) ≡ true
+      → (r : SetRead) → r .good ≡ true → len ≤ cards → monomialsOf (r .set) ≡ take len (places bytes) → r .set .len ≡ len → SetReads panel bytes r
   unfolding setOf zeros order each
   accepted z o m r good h is long =
       let whole : take len (places bytes) ≡ setOf bytes = ap (λ (k : ℕ). take k (places bytes)) e in
@@ -219,12 +236,12 @@ module _ (n : ℕ) (bytes : List ℕ) (len : ℕ) (e : len ≡ sizeOf bytes) whe
       }
 
 -- ---- what a right record holds
-pub right-fits : (n : ℕ) (bytes : List ℕ) → length bytes ≡ setBytes → T (setRight n bytes) → Fitting setExponent (setOf bytes)
+pub right-fits : (panel : Panel) (bytes : List ℕ) → length bytes ≡ setBytes → T (setRight panel bytes) → Fitting setExponent (setOf bytes)
 unfolding setRight setOf monomialRight exponentsRight
-right-fits n bytes l t m h =
-    let r : T (monomialRight n m) = all-out (monomialRight n) (search (and-l, and-r, t)) h in
+right-fits panel bytes l t m h =
+    let r : T (monomialRight panel m) = all-out (monomialRight panel) (search (and-l, and-r, t)) h in
     (places-width bytes l m (take-in (sizeOf bytes) (places bytes) h), all-small setExponent m (search (and-l, and-r, r)))
 
-pub right-asc : (n : ℕ) (bytes : List ℕ) → T (setRight n bytes) → Ascending before (setOf bytes)
+pub right-asc : (panel : Panel) (bytes : List ℕ) → T (setRight panel bytes) → Ascending before (setOf bytes)
 unfolding setRight
-right-asc n bytes t = ascending-out (setOf bytes) (search (and-l, and-r, t))
+right-asc panel bytes t = ascending-out (setOf bytes) (search (and-l, and-r, t))

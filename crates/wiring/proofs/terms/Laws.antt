@@ -7,7 +7,7 @@ use Prim.Native.Nat.{ℕ, zero, suc, _+_, _*_, _-_, _/_, _<_, _≤_}
 use native.Mathlib.Omega.{arith}
 use native.Mathlib.Numerals.{add-one}
 use borrow.Author.Tests.{lt-leb, le-leb, eq-eqb, eqb-true, eqb-false, ltb-true, ltb-false}
-use lib.Dec.{T, leb, eqb, ltb, leb→le, le→leb, eqb→eq}
+use lib.Dec.{T, leb, eqb, ltb, leb→le, le→leb, eqb→eq, T-not}
 use lib.IntN.{ℤ, pos, negsuc, natAbs}
 use lib.Signed.{ltZ}
 use lib.ListN.{length, getD, take, drop, length-map, length-take, length-drop, drop-of-length-le, List·getD-eq-default}
@@ -23,13 +23,16 @@ use Rattle.monomial.proofs.Loops.{Seeking, seeking-start, seeking-found, seekin
 use Rattle.monomial.proofs.order.Laws.{mono-order}
 use Rattle.monomial.proofs.Counting.{below-in, below-out, below-length, below-at, at-in}
 use Rattle.wiring.specs.Panel.{termBytes, mostCoefficient, termExponent}
+use Rattle.wiring.specs.Sockets.{panelOf, marked}
+use Rattle.wiring.specs.declared.panel.Panel.{Panel}
 use mir.Syntax.{w32}
 use mir.Val.{SFits, toZ, ofZ}
 use mir.ValLaws.{toZ-ofZ}
 use Rattle.wiring.specs.Coefficient.{isZero}
-use Rattle.wiring.specs.Terms.{Record, recordAt, records, exponentsRight, coefficientRight, termRight, alike, faultFrom, fault, CleanTerms}
+use Rattle.wiring.specs.Terms.{Record, recordAt, records, exponentsRight, coefficientRight, termRight, alike, faultFrom, fault, CleanFor, CleanTerms}
 use Rattle.wiring.specs.declared.terms.Fault.the-variants.{Clean, Wrong, Repeated}
 use Rattle.wiring.specs.Claims.{Unlike}
+use Rattle.wiring.proofs.sockets.Laws.{unmarked}
 
 -- ---- the records of the bytes
 pub records-length : (bytes : List ℕ) → length (records bytes) ≡ length bytes / termBytes
@@ -72,58 +75,58 @@ pub repeated-clean : {C : Type 0} {p : ℕ} → Repeated p ≡ Clean → C
 repeated-clean e = let z : _≡_ {A = ℕ} 0 1 = cc in let y : ⊥ = omega arith in absurd y
 
 -- the first of clean records keeps its rule and repeats none that was seen, and those behind it are clean where it has been seen
-pub record Leading (n : ℕ) (seen : List Record) (r : Record) (rs : List Record) : Type 0 where
-  pub right : T (termRight n r)
+pub record Leading (panel : Panel) (seen : List Record) (r : Record) (rs : List Record) : Type 0 where
+  pub right : T (termRight panel r)
   pub new : T (any (alike r) seen) → ⊥
-  pub rest : faultFrom n (seen ++ (r ∷ [])) rs ≡ Clean
+  pub rest : faultFrom panel (seen ++ (r ∷ [])) rs ≡ Clean
 
-pub clean-leads : (n : ℕ) (seen : List Record) (r : Record) (rs : List Record) → faultFrom n seen (r ∷ rs) ≡ Clean → Leading n seen r rs
+pub clean-leads : (panel : Panel) (seen : List Record) (r : Record) (rs : List Record) → faultFrom panel seen (r ∷ rs) ≡ Clean → Leading panel seen r rs
 unfolding faultFrom
-clean-leads n seen r rs e = go (test (termRight n r)) (test (any (alike r) seen))
+clean-leads panel seen r rs e = go (test (termRight panel r)) (test (any (alike r) seen))
   where
-    go : Tested (termRight n r) → Tested (any (alike r) seen) → Leading n seen r rs
+    go : Tested (termRight panel r) → Tested (any (alike r) seen) → Leading panel seen r rs
     go (failed p) q = wrong-clean (rw p at e)
     go (passed p) (passed q) = repeated-clean (rw (p, q) at e)
-    go (passed p) (failed q) = record { right = is→T (termRight n r) p; new = is→nT (any (alike r) seen) q; rest = rw (p, q) at e }
+    go (passed p) (failed q) = record { right = is→T (termRight panel r) p; new = is→nT (any (alike r) seen) q; rest = rw (p, q) at e }
 
-pub clean-cons : (n : ℕ) (seen : List Record) (r : Record) (rs : List Record) → Leading n seen r rs → faultFrom n seen (r ∷ rs) ≡ Clean
+pub clean-cons : (panel : Panel) (seen : List Record) (r : Record) (rs : List Record) → Leading panel seen r rs → faultFrom panel seen (r ∷ rs) ≡ Clean
 unfolding faultFrom
-clean-cons n seen r rs l = rw (T→is (termRight n r) (l .right), nT→is (any (alike r) seen) (l .new)) (l .rest)
+clean-cons panel seen r rs l = rw (T→is (termRight panel r) (l .right), nT→is (any (alike r) seen) (l .new)) (l .rest)
 
-pub clean-none : (n : ℕ) (seen : List Record) → faultFrom n seen [] ≡ Clean
+pub clean-none : (panel : Panel) (seen : List Record) → faultFrom panel seen [] ≡ Clean
 unfolding faultFrom
-clean-none n seen = refl
+clean-none panel seen = refl
 
 -- each keeps its rule
-pub clean-right : (n : ℕ) (seen rs : List Record) → faultFrom n seen rs ≡ Clean → (r : Record) → r ∈ rs → T (termRight n r)
-clean-right n seen [] e r h = absurd (List·Memᴰ·not-nil h)
-clean-right n seen (q ∷ rs) e r h =
-    let l = clean-leads n seen q rs e in
-    ⊎-elim (λ i. subst (λ x. T (termRight n x)) (sym i) (l .right)) (λ k. clean-right n (seen ++ (q ∷ [])) rs (l .rest) r k) (List·Memᴰ·cases-cons h)
+pub clean-right : (panel : Panel) (seen rs : List Record) → faultFrom panel seen rs ≡ Clean → (r : Record) → r ∈ rs → T (termRight panel r)
+clean-right panel seen [] e r h = absurd (List·Memᴰ·not-nil h)
+clean-right panel seen (q ∷ rs) e r h =
+    let l = clean-leads panel seen q rs e in
+    ⊎-elim (λ i. subst (λ x. T (termRight panel x)) (sym i) (l .right)) (λ k. clean-right panel (seen ++ (q ∷ [])) rs (l .rest) r k) (List·Memᴰ·cases-cons h)
 
 -- and is like none that was seen
-pub clean-new : (n : ℕ) (seen rs : List Record) → faultFrom n seen rs ≡ Clean → (q r : Record) → q ∈ seen → r ∈ rs → T (alike r q) → ⊥
-clean-new n seen [] e q r s h t = List·Memᴰ·not-nil h
-clean-new n seen (p ∷ rs) e q r s h t =
-    let l = clean-leads n seen p rs e in
+pub clean-new : (panel : Panel) (seen rs : List Record) → faultFrom panel seen rs ≡ Clean → (q r : Record) → q ∈ seen → r ∈ rs → T (alike r q) → ⊥
+clean-new panel seen [] e q r s h t = List·Memᴰ·not-nil h
+clean-new panel seen (p ∷ rs) e q r s h t =
+    let l = clean-leads panel seen p rs e in
     ⊎-elim (λ i. l .new (any-in (alike p) s (subst (λ x. T (alike x q)) i t)))
-    (λ k. clean-new n (seen ++ (p ∷ [])) rs (l .rest) q r (Memᴰ·append-left (p ∷ []) s) k t)
+    (λ k. clean-new panel (seen ++ (p ∷ [])) rs (l .rest) q r (Memᴰ·append-left (p ∷ []) s) k t)
     (List·Memᴰ·cases-cons h)
 
-pub clean-unlike : (n : ℕ) (seen rs : List Record) → faultFrom n seen rs ≡ Clean → Unlike rs
-clean-unlike n seen [] e = tt
-clean-unlike n seen (q ∷ rs) e =
-    let l = clean-leads n seen q rs e in
-    (λ r h. clean-new n (seen ++ (q ∷ [])) rs (l .rest) q r (Memᴰ·append-right seen here) h, clean-unlike n (seen ++ (q ∷ [])) rs (l .rest))
+pub clean-unlike : (panel : Panel) (seen rs : List Record) → faultFrom panel seen rs ≡ Clean → Unlike rs
+clean-unlike panel seen [] e = tt
+clean-unlike panel seen (q ∷ rs) e =
+    let l = clean-leads panel seen q rs e in
+    (λ r h. clean-new panel (seen ++ (q ∷ [])) rs (l .rest) q r (Memᴰ·append-right seen here) h, clean-unlike panel (seen ++ (q ∷ [])) rs (l .rest))
 
-pub clean-take : (n : ℕ) (seen rs : List Record) (t : ℕ) → faultFrom n seen rs ≡ Clean → faultFrom n seen (take t rs) ≡ Clean
+pub clean-take : (panel : Panel) (seen rs : List Record) (t : ℕ) → faultFrom panel seen rs ≡ Clean → faultFrom panel seen (take t rs) ≡ Clean
 unfolding faultFrom
-clean-take n seen [] zero e = refl
-clean-take n seen [] (suc t) e = refl
-clean-take n seen (r ∷ rs) zero e = refl
-clean-take n seen (r ∷ rs) (suc t) e =
-    let l = clean-leads n seen r rs e in
-    clean-cons n seen r (take t rs) (record { right = l .right; new = l .new; rest = clean-take n (seen ++ (r ∷ [])) rs t (l .rest) })
+clean-take panel seen [] zero e = refl
+clean-take panel seen [] (suc t) e = refl
+clean-take panel seen (r ∷ rs) zero e = refl
+clean-take panel seen (r ∷ rs) (suc t) e =
+    let l = clean-leads panel seen r rs e in
+    clean-cons panel seen r (take t rs) (record { right = l .right; new = l .new; rest = clean-take panel (seen ++ (r ∷ [])) rs t (l .rest) })
 
 -- ---- exponents at most `most`, and zero from place n on
 pub record Fit (most n e i : ℕ) : Type 0 where
@@ -235,37 +238,45 @@ module _ (z : ℤ) (f : SFits w32 z) where
   range-holds n e g = within z n (rw own at e) (rw own at g)
 
 -- ---- the rule of a record, field by field
-pub record Fields (n : ℕ) (r : Record) : Type 0 where
+pub record Fields (panel : Panel) (r : Record) : Type 0 where
   pub low : 1 ≤ r .equation
-  pub high : r .equation ≤ n
+  pub high : r .equation ≤ panel .n
+  pub unfed : marked (panel .marks) (r .equation - 1) ≡ false
   pub blank : r .blank ≡ 0
-  pub exponents : T (exponentsRight termExponent n (r .monomial))
+  pub exponents : T (exponentsRight termExponent (panel .n) (r .monomial))
   pub coefficient : T (coefficientRight (r .coefficient))
 
-pub fields-out : (n : ℕ) (r : Record) → T (termRight n r) → Fields n r
+pub fields-out : (panel : Panel) (r : Record) → T (termRight panel r) → Fields panel r
 unfolding termRight
-fields-out n r t = record {
+fields-out panel r t = record {
   low = leb→le 1 (r .equation) (search (and-l, and-r, t));
-  high = leb→le (r .equation) n (search (and-l, and-r, t));
+  high = leb→le (r .equation) (panel .n) (search (and-l, and-r, t));
+  unfed = nT→is (marked (panel .marks) (r .equation - 1)) (T-not (marked (panel .marks) (r .equation - 1)) (search (and-l, and-r, t)));
   blank = eqb→eq (r .blank) 0 (search (and-l, and-r, t));
   exponents = search (and-l, and-r, t);
   coefficient = search (and-l, and-r, t);
 }
 
-pub fields-in : (n : ℕ) (r : Record) → Fields n r → T (termRight n r)
+pub fields-in : (panel : Panel) (r : Record) → Fields panel r → T (termRight panel r)
 unfolding termRight
-fields-in n r f =
-    rw (le-leb 1 (r .equation) (f .low), le-leb (r .equation) n (f .high), eq-eqb (r .blank) 0 (f .blank), T→is (exponentsRight termExponent n (r .monomial)) (f .exponents)) (f .coefficient)
+fields-in panel r f =
+    rw (
+      le-leb 1 (r .equation) (f .low),
+      le-leb (r .equation) (panel .n) (f .high),
+      f .unfed,
+      eq-eqb (r .blank) 0 (f .blank),
+      T→is (exponentsRight termExponent (panel .n) (r .monomial)) (f .exponents),
+    ) (f .coefficient)
 
 -- a field that breaks its rule decides; where the others keep theirs, the coefficient does
-pub right-fails : (n : ℕ) (r : Record) → (Fields n r → ⊥) → false ≡ termRight n r
-right-fails n r x = sym (nT→is (termRight n r) (λ t. x (fields-out n r t)))
+pub right-fails : (panel : Panel) (r : Record) → (Fields panel r → ⊥) → false ≡ termRight panel r
+right-fails panel r x = sym (nT→is (termRight panel r) (λ t. x (fields-out panel r t)))
 
-pub right-last : (n : ℕ) (r : Record) (e : ℕ) → e ≡ r .equation → 1 ≤ e → e ≤ n → r .blank ≡ 0 → exponentsRight termExponent n (r .monomial) ≡ true
-    → coefficientRight (r .coefficient) ≡ termRight n r
+pub right-last : (panel : Panel) (r : Record) (e : ℕ) → e ≡ r .equation → 1 ≤ e → e ≤ panel .n → marked (panel .marks) (r .equation - 1) ≡ false → r .blank ≡ 0
+    → exponentsRight termExponent (panel .n) (r .monomial) ≡ true → coefficientRight (r .coefficient) ≡ termRight panel r
 unfolding termRight
-right-last n r e is low high blank exponents =
-    rw (le-leb 1 (r .equation) (omega arith), le-leb (r .equation) n (omega arith), eq-eqb (r .blank) 0 blank, exponents)
+right-last panel r e is low high unfed blank exponents =
+    rw (le-leb 1 (r .equation) (omega arith), le-leb (r .equation) (panel .n) (omega arith), unfed, eq-eqb (r .blank) 0 blank, exponents)
 
 -- what a record that keeps it holds
 pub record Rightful (r : Record) : Type 0 where
@@ -280,10 +291,10 @@ unfolding all
 all-small b [] t = tt
 all-small b (e ∷ m) t = (leb→le e b (and-l (leb e b) (all (λ x. leb x b) m) t), all-small b m (and-r (leb e b) (all (λ x. leb x b) m) t))
 
-pub right-holds : (r : Record) → length (r .monomial) ≡ width → T (termRight width r) → Rightful r
+pub right-holds : (r : Record) → length (r .monomial) ≡ width → T (termRight (panelOf width 0) r) → Rightful r
 unfolding exponentsRight coefficientRight
 right-holds r l t =
-    let f = fields-out width r t in
+    let f = fields-out (panelOf width 0) r t in
     record {
       low = f .low;
       high = f .high;
@@ -299,13 +310,13 @@ record-long bytes t h = simp (length-take, length-drop) (omega arith)
 pub clean-in : (bytes : List ℕ) → CleanTerms bytes → (r : Record) → r ∈ records bytes → Rightful r
 clean-in bytes c r h =
     let i = records-out bytes r h in
-    right-holds r (subst (λ (x : Record). length (x .monomial) ≡ width) (i .is) (record-long bytes (i .number) (i .counted))) (clean-right width [] (records bytes) c r h)
+    right-holds r (subst (λ (x : Record). length (x .monomial) ≡ width) (i .is) (record-long bytes (i .number) (i .counted))) (clean-right (panelOf width 0) [] (records bytes) c r h)
 
 pub clean-at : (bytes : List ℕ) → CleanTerms bytes → (t : ℕ) → t < length bytes / termBytes → Rightful (recordAt bytes t)
 unfolding records
 clean-at bytes c t h = clean-in bytes c (recordAt bytes t) (Memᴰ·map (recordAt bytes) (below-in (length bytes / termBytes) t h))
 
--- ---- records that are clean for n variables are clean for all six
+-- ---- records that are clean for a panel are clean for one with more variables and fewer marks
 all-drop : {A : Type 0} (f : A → Bool) (i : ℕ) (l : List A) → T (all f l) → T (all f (drop i l))
 unfolding all
 all-drop f zero l t = t
@@ -313,79 +324,85 @@ all-drop f (suc i) [] t = t
 all-drop f (suc i) (x ∷ l) t = all-drop f i l (and-r (f x) (all f l) t)
 
 -- more variables leave fewer exponents that must be 0
-exponents-widen : (most n : ℕ) (m : Mono) → n ≤ width → T (exponentsRight most n m) → T (exponentsRight most width m)
+exponents-widen : (most n b : ℕ) (m : Mono) → n ≤ b → T (exponentsRight most n m) → T (exponentsRight most b m)
 unfolding exponentsRight
-exponents-widen most n m h t =
-    let e : n + (width - n) ≡ width = omega arith in
-    let beyond : T (all (eqb 0) (drop (width - n) (drop n m))) = all-drop (eqb 0) (width - n) (drop n m) (and-r (all (λ x. leb x most) m) (all (eqb 0) (drop n m)) t) in
-    let zeros : T (all (eqb 0) (drop width m)) = rw (drop-drop (width - n) n m, e) at beyond in
-    and-i (all (λ x. leb x most) m) (all (eqb 0) (drop width m)) (and-l (all (λ x. leb x most) m) (all (eqb 0) (drop n m)) t) zeros
+exponents-widen most n b m h t =
+    let e : n + (b - n) ≡ b = omega arith in
+    let beyond : T (all (eqb 0) (drop (b - n) (drop n m))) = all-drop (eqb 0) (b - n) (drop n m) (and-r (all (λ x. leb x most) m) (all (eqb 0) (drop n m)) t) in
+    let zeros : T (all (eqb 0) (drop b m)) = rw (drop-drop (b - n) n m, e) at beyond in
+    and-i (all (λ x. leb x most) m) (all (eqb 0) (drop b m)) (and-l (all (λ x. leb x most) m) (all (eqb 0) (drop n m)) t) zeros
 
-pub right-widens : (n : ℕ) (r : Record) → n ≤ width → T (termRight n r) → T (termRight width r)
-right-widens n r h t =
-    let f = fields-out n r t in
-    let high = f .high in
-    fields-in width r (record {
-      low = f .low;
-      high = omega arith;
-      blank = f .blank;
-      exponents = exponents-widen termExponent n (r .monomial) h (f .exponents);
-      coefficient = f .coefficient;
-    })
+module _ (panel wide : Panel) (more : panel .n ≤ wide .n) (fewer : (i : ℕ) → marked (panel .marks) i ≡ false → marked (wide .marks) i ≡ false) where
+  right-widens : (r : Record) → T (termRight panel r) → T (termRight wide r)
+  right-widens r t =
+      let f = fields-out panel r t in
+      let high = f .high in
+      fields-in wide r (record {
+        low = f .low;
+        high = omega arith;
+        unfed = fewer (r .equation - 1) (f .unfed);
+        blank = f .blank;
+        exponents = exponents-widen termExponent (panel .n) (wide .n) (r .monomial) more (f .exponents);
+        coefficient = f .coefficient;
+      })
 
-pub clean-widens : (n : ℕ) (rs : List Record) → n ≤ width → fault n rs ≡ Clean → fault width rs ≡ Clean
-clean-widens n rs h e = widen [] rs e
-  where
-    widen : (seen rs : List Record) → faultFrom n seen rs ≡ Clean → faultFrom width seen rs ≡ Clean
-    widen seen [] e = clean-none width seen
-    widen seen (r ∷ rs) e =
-        let l = clean-leads n seen r rs e in
-        clean-cons width seen r rs (record { right = right-widens n r h (l .right); new = l .new; rest = widen (seen ++ (r ∷ [])) rs (l .rest) })
+  pub clean-widens : (rs : List Record) → fault panel rs ≡ Clean → fault wide rs ≡ Clean
+  clean-widens rs e = widen [] rs e
+    where
+      widen : (seen rs : List Record) → faultFrom panel seen rs ≡ Clean → faultFrom wide seen rs ≡ Clean
+      widen seen [] e = clean-none wide seen
+      widen seen (r ∷ rs) e =
+          let l = clean-leads panel seen r rs e in
+          clean-cons wide seen r rs (record { right = right-widens r (l .right); new = l .new; rest = widen (seen ++ (r ∷ [])) rs (l .rest) })
+
+-- records that are clean for a panel are clean for one of as many variables, or of more, without marks
+pub clean-for : (panel : Panel) (b : ℕ) (bytes : List ℕ) → panel .n ≤ b → fault panel (records bytes) ≡ Clean → CleanFor b bytes
+clean-for panel b bytes h = clean-widens panel (panelOf b 0) h (λ i e. unmarked i) (records bytes)
 
 -- ---- a loop that judges the records, and has come to number t: what is left says what the whole says
-pub record Judging (n : ℕ) (rs : List Record) (t : ℕ) : Type 0 where
+pub record Judging (panel : Panel) (rs : List Record) (t : ℕ) : Type 0 where
   pub within : t ≤ length rs
-  pub rest : faultFrom n (take t rs) (drop t rs) ≡ fault n rs
+  pub rest : faultFrom panel (take t rs) (drop t rs) ≡ fault panel rs
 
-pub judging-start : (n : ℕ) (rs : List Record) → Judging n rs 0
-judging-start n rs = record { within = omega arith; rest = refl }
+pub judging-start : (panel : Panel) (rs : List Record) → Judging panel rs 0
+judging-start panel rs = record { within = omega arith; rest = refl }
 
-module _ (d : Record) {n : ℕ} {rs : List Record} {t : ℕ} (j : Judging n rs t) (h : t < length rs) where
+module _ (d : Record) {panel : Panel} {rs : List Record} {t : ℕ} (j : Judging panel rs t) (h : t < length rs) where
   seen : length (take t rs) ≡ t
   seen = length-take-le t rs (omega arith)
 
-  pub judging-wrong : termRight n (getD rs t d) ≡ false → Wrong (t + 1) ≡ fault n rs
+  pub judging-wrong : termRight panel (getD rs t d) ≡ false → Wrong (t + 1) ≡ fault panel rs
   unfolding faultFrom
   judging-wrong e = rw (add-one t) (rw (drop-cons rs t d h, e, seen) at (j .rest))
 
-  pub judging-repeated : termRight n (getD rs t d) ≡ true → any (alike (getD rs t d)) (take t rs) ≡ true → Repeated (t + 1) ≡ fault n rs
+  pub judging-repeated : termRight panel (getD rs t d) ≡ true → any (alike (getD rs t d)) (take t rs) ≡ true → Repeated (t + 1) ≡ fault panel rs
   unfolding faultFrom
   judging-repeated e f = rw (add-one t) (rw (drop-cons rs t d h, e, f, seen) at (j .rest))
 
-  pub judging-on : termRight n (getD rs t d) ≡ true → any (alike (getD rs t d)) (take t rs) ≡ false → Judging n rs (t + 1)
+  pub judging-on : termRight panel (getD rs t d) ≡ true → any (alike (getD rs t d)) (take t rs) ≡ false → Judging panel rs (t + 1)
   unfolding faultFrom
   judging-on e f = record { within = omega arith; rest = rw (add-one t, take-suc rs t d h) (rw (drop-cons rs t d h, e, f) at (j .rest)) }
 
-pub judging-ends : {n : ℕ} {rs : List Record} {t : ℕ} → Judging n rs t → length rs ≤ t → Clean ≡ fault n rs
+pub judging-ends : {panel : Panel} {rs : List Record} {t : ℕ} → Judging panel rs t → length rs ≤ t → Clean ≡ fault panel rs
 unfolding faultFrom
-judging-ends {n} {rs} {t} j h = rw (drop-of-length-le rs h) at (j .rest)
+judging-ends {panel} {rs} {t} j h = rw (drop-of-length-le rs h) at (j .rest)
 
 -- the same at the bytes
-module _ (bytes : List ℕ) {n t : ℕ} (j : Judging n (records bytes) t) (h : t < length bytes / termBytes) where
+module _ (bytes : List ℕ) {panel : Panel} {t : ℕ} (j : Judging panel (records bytes) t) (h : t < length bytes / termBytes) where
   is : getD (records bytes) t (recordAt bytes t) ≡ recordAt bytes t
   is = records-at bytes t (recordAt bytes t) h
 
   inside : t < length (records bytes)
   inside = rw (records-length bytes) h
 
-  pub records-wrong : termRight n (recordAt bytes t) ≡ false → Wrong (t + 1) ≡ fault n (records bytes)
-  records-wrong e = judging-wrong (recordAt bytes t) j inside (ap (termRight n) is ∙ e)
+  pub records-wrong : termRight panel (recordAt bytes t) ≡ false → Wrong (t + 1) ≡ fault panel (records bytes)
+  records-wrong e = judging-wrong (recordAt bytes t) j inside (ap (termRight panel) is ∙ e)
 
-  pub records-repeated : termRight n (recordAt bytes t) ≡ true → any (alike (recordAt bytes t)) (take t (records bytes)) ≡ true → Repeated (t + 1) ≡ fault n (records bytes)
-  records-repeated e f = judging-repeated (recordAt bytes t) j inside (ap (termRight n) is ∙ e) (ap (λ (r : Record). any (alike r) (take t (records bytes))) is ∙ f)
+  pub records-repeated : termRight panel (recordAt bytes t) ≡ true → any (alike (recordAt bytes t)) (take t (records bytes)) ≡ true → Repeated (t + 1) ≡ fault panel (records bytes)
+  records-repeated e f = judging-repeated (recordAt bytes t) j inside (ap (termRight panel) is ∙ e) (ap (λ (r : Record). any (alike r) (take t (records bytes))) is ∙ f)
 
-  pub records-on : termRight n (recordAt bytes t) ≡ true → any (alike (recordAt bytes t)) (take t (records bytes)) ≡ false → Judging n (records bytes) (t + 1)
-  records-on e f = judging-on (recordAt bytes t) j inside (ap (termRight n) is ∙ e) (ap (λ (r : Record). any (alike r) (take t (records bytes))) is ∙ f)
+  pub records-on : termRight panel (recordAt bytes t) ≡ true → any (alike (recordAt bytes t)) (take t (records bytes)) ≡ false → Judging panel (records bytes) (t + 1)
+  records-on e f = judging-on (recordAt bytes t) j inside (ap (termRight panel) is ∙ e) (ap (λ (r : Record). any (alike r) (take t (records bytes))) is ∙ f)
 
 -- ---- a loop that looks among the records before number t for one like it, and has come to number u
 pub record Repeating (bytes : List ℕ) (t u : ℕ) : Type 0 where

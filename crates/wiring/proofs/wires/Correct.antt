@@ -1,6 +1,6 @@
 -- What a wiring list says as a whole, and that the bytes of its records say the same: the rows of all left variables by their numbers, each of
 -- them its derivative. One list does so. Assumes nothing.
-use mathlib.Core.Path.{_≡_, refl, sym, _∙_}
+use mathlib.Core.Path.{_≡_, refl, sym, subst, _∙_}
 use mathlib.Core.List.{List, _++_}
 use Prim.Native.Nat.{ℕ, _+_, _*_, _-_, _≤_, _<_}
 use native.Mathlib.Omega.{arith}
@@ -9,15 +9,16 @@ use lib.ListN.{length, getD, take, drop, replicate}
 use lib.Seq.{getD-append-add}
 use Rattle.monomial.specs.Lists.{gather, below}
 use Rattle.monomial.specs.Product.{AtMost}
+use Rattle.monomial.specs.Claims.{_∈_}
 use Rattle.monomial.proofs.Members.{gather-same, fill-at}
-use Rattle.monomial.proofs.Counting.{below-out}
+use Rattle.monomial.proofs.Counting.{below-out, at-in}
 use Rattle.monomial.proofs.product.Laws.{atMost-at}
 use Rattle.monomial.proofs.Strips.{strip-at}
 use Rattle.wiring.specs.Panel.{wireBytes}
 use Rattle.wiring.specs.Poly.{Kind, Poly}
 use Rattle.wiring.specs.Wires.{Wire, signal, row, wiring, wireRecord, wireList, Met}
 use Rattle.wiring.specs.Kinds.{Lawful}
-use Rattle.wiring.specs.Claims.{rowOf, Correct, Decodes}
+use Rattle.wiring.specs.Claims.{rowOf, Row, Correct, Decodes}
 use Rattle.wiring.proofs.coefficient.Laws.{decode-bytes}
 use Rattle.wiring.proofs.wires.Laws.{wiring-rows, wiring-row, wiring-is, row-one}
 use Rattle.wiring.proofs.wires.Sheets.{record-length, list-length}
@@ -36,6 +37,13 @@ module _ {M : Type 0} (k : Kind M) (v : List M) (d : M → Poly M) where
 
   pub correct-one : Lawful k → (l : List Wire) → Correct k v d l → l ≡ wiring k v d
   correct-one law l c = c .ordered ∙ rows-alike l (λ i h. row-one k law v i (d (signal k v i)) (rowOf i l) (c .rows i h))
+
+-- a list that is correct by one derivation is so by another that agrees with it on the members of v
+pub correct-same : {M : Type 0} (k : Kind M) (v : List M) (d e : M → Poly M) → ((z : M) → z ∈ v → d z ≡ e z) → (l : List Wire) → Correct k v d l → Correct k v e l
+correct-same k v d e same l c = record {
+  rows = λ i h. subst (λ p. Row k v i p (rowOf i l)) (same (signal k v i) (at-in v i (k .one 0) h)) (c .rows i h);
+  ordered = c .ordered;
+}
 
 -- ---- the bytes of a record
 pub wire-decodes : (x : Wire) → x .left < 256 → x .a < 256 → x .b < 256 → natAbs (x .coefficient) < 2147483648 → Decodes x (wireRecord x)

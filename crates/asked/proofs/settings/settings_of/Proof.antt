@@ -17,8 +17,8 @@ returns : tie.Need-returns
 unfolding asked
 returns c = rw (c .enum-told .given .1)
 
-enum-known-cap : tie.Need-enum-known-cap
-enum-known-cap c = search needs
+enum-known-marks : tie.Need-enum-known-marks
+enum-known-marks c = search needs
 
 enum-told-2 : tie.Need-enum-told-2
 enum-told-2 c = search needs
@@ -29,8 +29,8 @@ returns-2 c =
     let first = c .before .before .before in
     rw (first .n .given .1, c .enum-told2 .given .1)
 
-enum-known-limit : tie.Need-enum-known-limit
-enum-known-limit c = search needs
+enum-known-cap : tie.Need-enum-known-cap
+enum-known-cap c = search needs
 
 enum-told-3 : tie.Need-enum-told-3
 enum-told-3 c = search needs
@@ -40,10 +40,10 @@ unfolding asked
 returns-3 c =
     let second = c .before .before .before in
     let first = second .before .before .before in
-    rw (first .n .given .1, second .cap .given .1, c .enum-told3 .given .1)
+    rw (first .n .given .1, second .marks .given .1, c .enum-told3 .given .1)
 
-enum-known-sets : tie.Need-enum-known-sets
-enum-known-sets c = search needs
+enum-known-limit : tie.Need-enum-known-limit
+enum-known-limit c = search needs
 
 enum-told-4 : tie.Need-enum-told-4
 enum-told-4 c = search needs
@@ -54,10 +54,10 @@ returns-4 c =
     let third = c .before .before .before in
     let second = third .before .before .before in
     let first = second .before .before .before in
-    rw (first .n .given .1, second .cap .given .1, third .limit .given .1, c .enum-told4 .given .1)
+    rw (first .n .given .1, second .marks .given .1, third .cap .given .1, c .enum-told4 .given .1)
 
-enum-known-which : tie.Need-enum-known-which
-enum-known-which c = search needs
+enum-known-sets : tie.Need-enum-known-sets
+enum-known-sets c = search needs
 
 enum-told-5 : tie.Need-enum-told-5
 enum-told-5 c = search needs
@@ -69,31 +69,49 @@ returns-5 c =
     let third = fourth .before .before .before in
     let second = third .before .before .before in
     let first = second .before .before .before in
-    rw (first .n .given .1, second .cap .given .1, third .limit .given .1, fourth .sets .given .1, c .enum-told5 .given .1)
+    rw (first .n .given .1, second .marks .given .1, third .cap .given .1, fourth .limit .given .1, c .enum-told5 .given .1)
+
+enum-known-which : tie.Need-enum-known-which
+enum-known-which c = search needs
+
+enum-told-6 : tie.Need-enum-told-6
+enum-told-6 c = search needs
 
 returns-6 : tie.Need-returns-6
 unfolding asked
 returns-6 c =
-    let fifth = c .before .before in
+    let fifth = c .before .before .before in
     let fourth = fifth .before .before .before in
     let third = fourth .before .before .before in
     let second = third .before .before .before in
     let first = second .before .before .before in
-    let sets = fourth .sets .given .0 .0 in
-    let room : mostSets < sets = omega arith in
-    rw (first .n .given .1, second .cap .given .1, third .limit .given .1, fourth .sets .given .1, fifth .which .given .1, lt-leb sets mostSets room)
+    rw (first .n .given .1, second .marks .given .1, third .cap .given .1, fourth .limit .given .1, fifth .sets .given .1, c .enum-told6 .given .1)
 
 returns-7 : tie.Need-returns-7
 unfolding asked
 returns-7 c =
-    let fifth = c .before .before in
+    let sixth = c .before .before in
+    let fifth = sixth .before .before .before in
     let fourth = fifth .before .before .before in
     let third = fourth .before .before .before in
     let second = third .before .before .before in
     let first = second .before .before .before in
-    let sets = fourth .sets .given .0 .0 in
+    let sets = fifth .sets .given .0 .0 in
+    let room : mostSets < sets = omega arith in
+    rw (first .n .given .1, second .marks .given .1, third .cap .given .1, fourth .limit .given .1, fifth .sets .given .1, sixth .which .given .1, lt-leb sets mostSets room)
+
+returns-8 : tie.Need-returns-8
+unfolding asked
+returns-8 c =
+    let sixth = c .before .before in
+    let fifth = sixth .before .before .before in
+    let fourth = fifth .before .before .before in
+    let third = fourth .before .before .before in
+    let second = third .before .before .before in
+    let first = second .before .before .before in
+    let sets = fifth .sets .given .0 .0 in
     let room : sets ≤ mostSets = omega arith in
-    rw (first .n .given .1, second .cap .given .1, third .limit .given .1, fourth .sets .given .1, fifth .which .given .1, le-leb sets mostSets room)
+    rw (first .n .given .1, second .marks .given .1, third .cap .given .1, fourth .limit .given .1, fifth .sets .given .1, sixth .which .given .1, le-leb sets mostSets room)
 
 pub settings-of-spec : {M : Type 1} → statement M
 settings-of-spec =
@@ -102,17 +120,20 @@ settings-of-spec =
     enum-known-n
     enum-told
     returns
-    enum-known-cap
+    enum-known-marks
     enum-told-2
     returns-2
-    enum-known-limit
+    enum-known-cap
     enum-told-3
     returns-3
-    enum-known-sets
+    enum-known-limit
     enum-told-4
     returns-4
-    enum-known-which
+    enum-known-sets
     enum-told-5
     returns-5
+    enum-known-which
+    enum-told-6
     returns-6
-    returns-7)
+    returns-7
+    returns-8)

@@ -14,8 +14,8 @@ returns : tie.Need-returns
 unfolding askedThin
 returns c = rw (c .enum-told .given .1)
 
-enum-known-which : tie.Need-enum-known-which
-enum-known-which c = search needs
+enum-known-marks : tie.Need-enum-known-marks
+enum-known-marks c = search needs
 
 enum-told-2 : tie.Need-enum-told-2
 enum-told-2 c = search needs
@@ -26,12 +26,26 @@ returns-2 c =
     let first = c .before .before .before in
     rw (first .n .given .1, c .enum-told2 .given .1)
 
+enum-known-which : tie.Need-enum-known-which
+enum-known-which c = search needs
+
+enum-told-3 : tie.Need-enum-told-3
+enum-told-3 c = search needs
+
 returns-3 : tie.Need-returns-3
 unfolding askedThin
 returns-3 c =
-    let second = c .before in
+    let second = c .before .before .before in
     let first = second .before .before .before in
-    rw (first .n .given .1, second .which .given .1)
+    rw (first .n .given .1, second .marks .given .1, c .enum-told3 .given .1)
+
+returns-4 : tie.Need-returns-4
+unfolding askedThin
+returns-4 c =
+    let third = c .before in
+    let second = third .before .before .before in
+    let first = second .before .before .before in
+    rw (first .n .given .1, second .marks .given .1, third .which .given .1)
 
 pub thinning-of-spec : {M : Type 1} → statement M
-thinning-of-spec = tie.close (tie.spec enum-known-n enum-told returns enum-known-which enum-told-2 returns-2 returns-3)
+thinning-of-spec = tie.close (tie.spec enum-known-n enum-told returns enum-known-marks enum-told-2 returns-2 enum-known-which enum-told-3 returns-3 returns-4)

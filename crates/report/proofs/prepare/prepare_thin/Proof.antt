@@ -1,4 +1,5 @@
 -- `prepare_thin` meets its contract: thinning is lent all of the buffer, and its sets lie there. Assumes nothing.
+use Rattle.wiring.specs.Sockets.{panelOf}
 use Rattle.report.proofs.prepare.Laws.{thin-holds, prepares-thin}
 use borrow.Author.Needs.{needs}
 use Rattle.report.proofs.prepare.prepare_thin.Statement.{statement}
@@ -18,7 +19,7 @@ wire-set-requires c κs =
     let at-numbers = c .before .before in
     let at-thin = at-numbers .before .before .before in
     let a = at-thin .before .before .before .before .before .args in
-    thin-holds (a .n) (a .terms .now) (a .set .now) (a .sets .now) (at-thin .thin .result) _ (at-thin .thin .ensures) _ (at-numbers .numbers .ensures)
+    thin-holds (panelOf (a .n) (a .marks)) (a .terms .now) (a .set .now) (a .sets .now) (at-thin .thin .result) _ (at-thin .thin .ensures) _ (at-numbers .numbers .ensures)
 
 same-length : tie.Need-same-length
 same-length c = search needs
@@ -28,7 +29,7 @@ returns c =
     let at-numbers = c .before .before .before in
     let at-thin = at-numbers .before .before .before in
     let a = at-thin .before .before .before .before .before .args in
-    prepares-thin (a .n) (a .terms .now) (a .set .now) (a .sets .now) (at-thin .thin .result) _ (at-thin .thin .ensures) _ (at-numbers .numbers .ensures)
+    prepares-thin (panelOf (a .n) (a .marks)) (a .terms .now) (a .set .now) (a .sets .now) (at-thin .thin .result) _ (at-thin .thin .ensures) _ (at-numbers .numbers .ensures)
     (a .which)
     _
     _

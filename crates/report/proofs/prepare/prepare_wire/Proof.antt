@@ -2,6 +2,7 @@
 use mathlib.Core.Path.{_≡_}
 use lib.ListN.{length}
 use Rattle.wiring.specs.Panel.{wiresBytes}
+use Rattle.wiring.specs.Sockets.{panelOf}
 use Rattle.report.proofs.prepare.Laws.{prepares-wire}
 use borrow.Author.Needs.{needs}
 use Rattle.report.proofs.prepare.prepare_wire.Statement.{statement}
@@ -21,7 +22,7 @@ returns c =
     let at-wire = c .before in
     let a = at-wire .before .before .before .before .args in
     let long : length (a .out .now) ≡ wiresBytes = search needs in
-    prepares-wire (a .n) (a .terms .now) (a .set .now) _ long (at-wire .wire .result) _ _ (at-wire .wire .ensures) (c .numbers .ensures)
+    prepares-wire (panelOf (a .n) (a .marks)) (a .terms .now) (a .set .now) _ long (at-wire .wire .result) _ _ (at-wire .wire .ensures) (c .numbers .ensures)
 
 pub prepare-wire-spec : {M : Type 1} → statement M
 prepare-wire-spec = tie.close (tie.spec wire-requires numbers-requires array-read-wires returns)

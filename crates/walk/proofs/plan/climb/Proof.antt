@@ -5,7 +5,7 @@ use Prim.Native.Nat.{_+_, _-_}
 use native.Mathlib.Omega.{arith}
 use lib.ListN.{length}
 use Rattle.wiring.specs.Terms.{records, system}
-use Rattle.walk.specs.Walk.{bare}
+use Rattle.walk.specs.Walk.{rulesOf}
 use Rattle.walk.proofs.plan.Laws.{Climbing, shown-none, climb-start, climb-none, climb-on, climb-done, climb-spent, climb-full}
 use borrow.Author.Needs.{needs}
 use Rattle.walk.proofs.plan.climb.Statement.{statement}
@@ -13,16 +13,16 @@ use Rattle.walk.proofs.children.Laws.{empty-walked}
 use Rattle.walk.proofs.plan.climb.Tie as tie
 
 abbrev Inv-loop : tie.InvT-loop
-Inv-loop terms out₀ n cap limit steps₀ k₀ out steps k = Climbing bare n (system (records terms)) limit cap (length out₀) k steps out
+Inv-loop terms out₀ panel cap limit steps₀ k₀ out steps k = Climbing (rulesOf panel) (panel .n) (system (records terms)) limit cap (length out₀) k steps out
 
 abbrev μ-loop : tie.MeasureT-loop
-μ-loop terms out₀ n cap limit steps₀ k₀ out steps k = cap + 1 - k
+μ-loop terms out₀ panel cap limit steps₀ k₀ out steps k = cap + 1 - k
 
 loop-holds : tie.Need-loop-holds Inv-loop μ-loop
 loop-holds c =
     let s = c .before .before in
     let a = s .args in
-    climb-start bare (a .n) (system (records (a .terms .now))) (a .limit) (a .cap) (length (a .out .now)) (a .out .now) refl (s .pre .1 .1 .1) (omega arith)
+    climb-start (rulesOf (a .panel)) (a .panel .n) (system (records (a .terms .now))) (a .limit) (a .cap) (length (a .out .now)) (a .out .now) refl (s .pre .1 .1 .1) (omega arith)
 
 open-requires : tie.Need-open-requires Inv-loop μ-loop
 open-requires c κs =

@@ -1,7 +1,7 @@
 -- The opener and the pair runner meet their contracts, each by the other's at a smaller measure: twice the room left below the level, and one more
 -- for the opener. Assumes nothing.
 use mathlib.Core.Path.{_≡_, refl, sym, _∙_, subst}
-use mathlib.Core.Bool.{true}
+use mathlib.Core.Bool.{Bool, true}
 use mathlib.Core.Logic.{⊎-elim}
 use mathlib.Core.List.{List}
 use Prim.Native.Nat.{ℕ, _+_, _*_, _-_, _/_, _<_, _≤_}
@@ -20,13 +20,12 @@ use Rattle.monomial.specs.Order.{before}
 use Rattle.monomial.proofs.Tests.{is→T, is→nT}
 use Rattle.wiring.specs.Sets.{monomialsOf}
 use Rattle.wiring.specs.Terms.{records, system}
-use Rattle.walk.specs.Walk.{Finds, bare, child, opens, opened, run}
+use Rattle.walk.specs.Walk.{Finds, rulesOf, child, opens, opened, run}
 use Rattle.walk.specs.Listing.{Shown}
 use Rattle.walk.specs.Turns.{Child, Tells}
 use Rattle.walk.specs.declared.walk.State.{State}
 use Rattle.walk.specs.declared.walk.Turn.{Turn}
 use Rattle.walk.specs.declared.walk.Turn.the-variants.{Going, Spent, Full}
-use Rattle.walk.proofs.Rules.{bare-opens}
 use Rattle.walk.proofs.walk.Laws.{nothing-follows, pairs-follow, Running, running-start, running-showing, running-end, running-spent, running-shut, running-going, running-child-spent, running-child-full}
 use Rattle.walk.proofs.walk.Runner.{fewer-left, gap-wide, gap-proper, child-more, child-within, child-ready, told-as, split-member, split-ready, split-tells}
 use Rattle.walk.proofs.walk.open.Reads as opener
@@ -80,14 +79,14 @@ opener-returns t c =
     let start = at-take-step .before .before .before .before in
     let a = start .args in
     let j = at-take-step .take-step in
-    nothing-follows bare (a .f .n) (a .terms .now) (a .f .level) (a .f .limit) (a .set) (a .st) (a .out .now) (j .result) (j .last .1 .0)
+    nothing-follows (rulesOf (a .f .panel)) (a .f .panel .n) (a .terms .now) (a .f .level) (a .f .limit) (a .set) (a .st) (a .out .now) (j .result) (j .last .1 .0)
     (not-true _ (c .if1 .taken)) (j .ensures) d finds (omega arith) sh
 
 opener-add-t12 : (t : ℕ) → opener-lts.Need-add-t12 (opener-claims t) (opener-at t) opener.Post
 opener-add-t12 t c =
     let a = c .before .before .before .before .before .before .before .before .before .before .args in
     let j = c .before .before .before .before .before .before .take-step in
-    let sp = pairs-follow bare (a .f .n) (a .terms .now) (a .f .level) (a .f .limit) (a .set) (a .st) (a .out .now) (j .result) (j .last .1 .0)
+    let sp = pairs-follow (rulesOf (a .f .panel)) (a .f .panel .n) (a .terms .now) (a .f .level) (a .f .limit) (a .set) (a .st) (a .out .now) (j .result) (j .last .1 .0)
     (not-false _ (c .before .before .if1 .left)) (j .ensures) in
     search (needs, sp .taken, c .before .before .before .before .before .before .before .before .before .before .good)
 
@@ -98,11 +97,11 @@ opener-pairs-requires t c κs =
     let s = at-take-step .before .before .before .before in
     let a = s .args in
     let j = at-take-step .take-step in
-    let sp = pairs-follow bare (a .f .n) (a .terms .now) (a .f .level) (a .f .limit) (a .set) (a .st) (a .out .now) (j .result) (j .last .1 .0)
+    let sp = pairs-follow (rulesOf (a .f .panel)) (a .f .panel .n) (a .terms .now) (a .f .level) (a .f .limit) (a .set) (a .st) (a .out .now) (j .result) (j .last .1 .0)
     (not-false _ (at-if1 .if1 .left)) (j .ensures) in
     let step : 2 * (a .f .level - a .set .len) < t = omega (arith, s .pre .0) in
-    let ready = split-ready bare (a .f .n) (a .terms .now) (a .f .level) (a .f .limit) (a .set) (a .st) (a .out .now) (s .pre .1) _ _ sp in
-    let member = split-member bare (a .f .n) (a .terms .now) (a .f .level) (a .f .limit) (a .set) (a .st) (a .out .now) (s .pre .1) _ _ sp in
+    let ready = split-ready (rulesOf (a .f .panel)) (a .f .panel .n) (a .terms .now) (a .f .level) (a .f .limit) (a .set) (a .st) (a .out .now) (s .pre .1) _ _ sp in
+    let member = split-member (rulesOf (a .f .panel)) (a .f .panel .n) (a .terms .now) (a .f .level) (a .f .limit) (a .set) (a .st) (a .out .now) (s .pre .1) _ _ sp in
     (step, (ready, member))
 
 opener-same-length-2 : (t : ℕ) → opener-lts.Need-same-length-2 (opener-claims t) (opener-at t) opener.Post
@@ -119,9 +118,9 @@ opener-returns-2 t c =
     let a = s .args in
     let j = at-take-step .take-step in
     let r = c .before .before .pairs in
-    let sp = pairs-follow bare (a .f .n) (a .terms .now) (a .f .level) (a .f .limit) (a .set) (a .st) (a .out .now) (j .result) (j .last .1 .0)
+    let sp = pairs-follow (rulesOf (a .f .panel)) (a .f .panel .n) (a .terms .now) (a .f .level) (a .f .limit) (a .set) (a .st) (a .out .now) (j .result) (j .last .1 .0)
     (not-false _ (at-if1 .if1 .left)) (j .ensures) in
-    split-tells bare (a .f .n) (a .terms .now) (a .f .level) (a .f .limit) (a .set) (a .st) (a .out .now) (s .pre .1) _ _ sp (r .result) (r .last .1 .0) (r .ensures) d finds h sh
+    split-tells (rulesOf (a .f .panel)) (a .f .panel .n) (a .terms .now) (a .f .level) (a .f .limit) (a .set) (a .st) (a .out .now) (s .pre .1) _ _ sp (r .result) (r .last .1 .0) (r .ensures) d finds h sh
 
 -- ---- the pair runner
 abbrev runner-claims : ℕ → runner-lts.Claims
@@ -141,7 +140,7 @@ runner-claims t = (
 )
 
 abbrev Inv-loop : runner-lts.InvT-loop
-Inv-loop terms out₀ f set m v cur₀ a₀ out cur a = Running bare (f .n) terms (f .level) (f .limit) set (m .e) cur₀ out₀ (a .e) cur out
+Inv-loop terms out₀ f set m v cur₀ a₀ out cur a = Running (rulesOf (f .panel)) (f .panel .n) terms (f .level) (f .limit) set (m .e) cur₀ out₀ (a .e) cur out
 
 abbrev μ-loop : runner-lts.MeasureT-loop
 μ-loop terms out₀ f set m v cur₀ a₀ out cur a = length (from before (a .e) (divisors (m .e)))
@@ -171,7 +170,7 @@ module _ (t : ℕ) (c : Offered t) where
   first = at-loop .loop .a .e
 
   abbrev offspring : List Mono
-  offspring = child (begun .args .f .n) (monomialsOf (begun .args .set)) (first, quo (begun .args .m .e) first)
+  offspring = child (begun .args .f .panel .n) (monomialsOf (begun .args .set)) (first, quo (begun .args .m .e) first)
 
   offered-lead : T (leads (begun .args .m .e) first)
   offered-lead = is→T (leads (begun .args .m .e) first) (sym (at-leads .leads .ensures) ∙ c .before .before .before .before .if1 .taken)
@@ -179,45 +178,48 @@ module _ (t : ℕ) (c : Offered t) where
   offered-proper : begun .args .m .e ≡ one (length (begun .args .m .e)) → ⊥
   offered-proper =
       let a = begun .args in
-      gap-proper (a .f .n) (a .terms .now) (a .f .level) (a .set) (a .m .e) (a .st .count) (a .out .now) (begun .pre .1 .0) (begun .pre .1 .1)
+      gap-proper (a .f .panel .n) (a .terms .now) (a .f .level) (a .set) (a .m .e) (a .st .count) (a .out .now) (begun .pre .1 .0) (begun .pre .1 .1)
 
-  offered-child : Child (begun .args .f .level) offspring (c .offer .result)
+  -- whether it is opened
+  abbrev test : Bool
+  test = opens (rulesOf (begun .args .f .panel)) (begun .args .f .panel .n) (begun .args .f .level) (monomialsOf (begun .args .set)) (first, quo (begun .args .m .e) first)
+
+  offered-child : Child test offspring (c .offer .result)
   offered-child =
       let a = begun .args in
-      subst (λ (b : Mono). Child (a .f .level) (child (a .f .n) (monomialsOf (a .set)) (first, b)) (c .offer .result)) (c .before .over .ensures)
-      (c .offer .ensures (a .f .n) (at-loop .before .signals-of .ensures .0))
+      let s = monomialsOf (a .set) in
+      subst (λ (b : Mono). Child (opens (rulesOf (a .f .panel)) (a .f .panel .n) (a .f .level) s (first, b)) (child (a .f .panel .n) s (first, b)) (c .offer .result)) (c .before .over .ensures)
+      (c .offer .ensures (a .f .panel .n) (at-loop .before .signals-of .ensures .0))
 
-  offered-opens : opens bare (begun .args .f .n) (begun .args .f .level) (monomialsOf (begun .args .set)) (first, quo (begun .args .m .e) first) ≡ c .offer .result .go
-  offered-opens =
-      let a = begun .args in
-      bare-opens (a .f .n) (a .f .level) (monomialsOf (a .set)) (first, quo (a .m .e) first) ∙ sym (offered-child .go)
+  offered-opens : test ≡ c .offer .result .go
+  offered-opens = sym (offered-child .go)
 
   -- the child is opened
   module _ (go : c .offer .result .go ≡ true) where
     offered-more : begun .args .set .len < c .offer .result .set .len
     offered-more =
         let a = begun .args in
-        child-more (a .f .n) (a .terms .now) (a .f .level) (a .set) (a .m .e) (a .st .count) (a .out .now) (begun .pre .1 .0) (begun .pre .1 .1)
-        first (at-loop .loop .inv .divisor) offered-lead (c .offer .result) offered-child go
+        child-more (a .f .panel .n) (a .terms .now) (a .f .level) (a .set) (a .m .e) (a .st .count) (a .out .now) (begun .pre .1 .0) (begun .pre .1 .1)
+        first (at-loop .loop .inv .divisor) offered-lead (rulesOf (a .f .panel)) (c .offer .result) offered-child go
 
     offered-within : c .offer .result .set .len ≤ begun .args .f .level
     offered-within =
         let a = begun .args in
-        child-within (a .f .n) (a .terms .now) (a .f .level) (a .set) (a .m .e) (a .st .count) (a .out .now) (begun .pre .1 .0) (begun .pre .1 .1)
-        first (at-loop .loop .inv .divisor) offered-lead (c .offer .result) offered-child go
+        child-within (a .f .panel .n) (a .terms .now) (a .f .level) (a .set) (a .m .e) (a .st .count) (a .out .now) (begun .pre .1 .0) (begun .pre .1 .1)
+        first (at-loop .loop .inv .divisor) offered-lead (rulesOf (a .f .panel)) (c .offer .result) offered-child go
 
     -- what the opener told of it
     abbrev told-of : Turn → ℕ → List Mono → List ℕ → Type 0
     told-of turn size s out' =
         (d : ℕ) (finds : Finds) → begun .args .f .level - c .offer .result .set .len < d → Shown finds (reached .count) sheet
         → Tells turn out'
-        (run (begun .args .f .limit) (size / setBytes) (opened bare (begun .args .f .n) (system (records (begun .args .terms .now))) (begun .args .f .level) d s) (reached .steps + 1) finds)
+        (run (begun .args .f .limit) (size / setBytes) (opened (rulesOf (begun .args .f .panel)) (begun .args .f .panel .n) (system (records (begun .args .terms .now))) (begun .args .f .level) d s) (reached .steps + 1) finds)
 
     offered-told : (turn turn' : Turn) (out' : List ℕ) → turn ≡ turn' → told-of turn (length sheet) (monomialsOf (c .offer .result .set)) out'
         → told-of turn' (length (begun .args .out .now)) offspring out'
     offered-told turn turn' out' e f =
         let a = begun .args in
-        told-as bare (a .f .n) (a .terms .now) (a .f .level) (a .f .limit) (reached .steps + 1) (reached .count) (c .offer .result) offspring (a .out .now) sheet out' turn turn'
+        told-as (rulesOf (a .f .panel)) (a .f .panel .n) (a .terms .now) (a .f .level) (a .f .limit) (reached .steps + 1) (reached .count) (c .offer .result) offspring (a .out .now) sheet out' turn turn'
         (offered-child .is go) (at-loop .loop .inv .long) e f
 
 runner-signals-of-requires : (t : ℕ) → runner-lts.Need-signals-of-requires (runner-claims t) (runner-at t) runner.Post Inv-loop μ-loop
@@ -229,9 +231,9 @@ runner-loop-holds : (t : ℕ) → runner-lts.Need-loop-holds (runner-claims t) (
 runner-loop-holds t c =
     let s = c .before .before .before in
     let a = s .args in
-    let wide = gap-wide (a .f .n) (a .terms .now) (a .f .level) (a .set) (a .m .e) (a .st .count) (a .out .now) (s .pre .1 .0) (s .pre .1 .1) in
-    subst (λ (w : ℕ). Running bare (a .f .n) (a .terms .now) (a .f .level) (a .f .limit) (a .set) (a .m .e) (a .st) (a .out .now) (one w) (a .st) (a .out .now)) wide
-    (running-start bare (a .f .n) (a .terms .now) (a .f .level) (a .f .limit) (a .set) (a .m .e) (a .st) (a .out .now))
+    let wide = gap-wide (a .f .panel .n) (a .terms .now) (a .f .level) (a .set) (a .m .e) (a .st .count) (a .out .now) (s .pre .1 .0) (s .pre .1 .1) in
+    subst (λ (w : ℕ). Running (rulesOf (a .f .panel)) (a .f .panel .n) (a .terms .now) (a .f .level) (a .f .limit) (a .set) (a .m .e) (a .st) (a .out .now) (one w) (a .st) (a .out .now)) wide
+    (running-start (rulesOf (a .f .panel)) (a .f .panel .n) (a .terms .now) (a .f .level) (a .f .limit) (a .set) (a .m .e) (a .st) (a .out .now))
 
 runner-leads-requires : (t : ℕ) → runner-lts.Need-leads-requires (runner-claims t) (runner-at t) runner.Post Inv-loop μ-loop
 runner-leads-requires t c κs = c .loop .inv .divisor
@@ -246,9 +248,9 @@ runner-returns t c =
     let at-loop = at-leads .before in
     let s = at-loop .before .before .before .before in
     let a = s .args in
-    let proper = gap-proper (a .f .n) (a .terms .now) (a .f .level) (a .set) (a .m .e) (a .st .count) (a .out .now) (s .pre .1 .0) (s .pre .1 .1) in
+    let proper = gap-proper (a .f .panel .n) (a .terms .now) (a .f .level) (a .set) (a .m .e) (a .st .count) (a .out .now) (s .pre .1 .0) (s .pre .1 .1) in
     let lead = is→T _ (sym (at-leads .leads .ensures) ∙ c .before .before .if1 .taken) in
-    running-spent bare (a .f .n) (a .terms .now) (a .f .level) (a .f .limit) (a .set) (a .m .e) (a .st) (a .out .now)
+    running-spent (rulesOf (a .f .panel)) (a .f .panel .n) (a .terms .now) (a .f .level) (a .f .limit) (a .set) (a .m .e) (a .st) (a .out .now)
     (at-loop .loop .inv) proper lead (omega arith) d finds h sh
 
 runner-add-t19 : (t : ℕ) → runner-lts.Need-add-t19 (runner-claims t) (runner-at t) runner.Post Inv-loop μ-loop
@@ -273,10 +275,10 @@ runner-open-requires t c κs =
     let a = s .args in
     let k = at-loop .loop in
     let go = c .before .before .if3 .taken in
-    let showing = running-showing bare (a .f .n) (a .terms .now) (a .f .level) (a .f .limit) (a .set) (a .m .e) (a .st) (a .out .now) (k .a .e) (k .cur)
+    let showing = running-showing (rulesOf (a .f .panel)) (a .f .panel .n) (a .terms .now) (a .f .level) (a .f .limit) (a .set) (a .m .e) (a .st) (a .out .now) (k .a .e) (k .cur)
     (k .out) (k .inv) (s .pre .1 .0 .showing) in
-    let ready = child-ready (a .f .n) (a .terms .now) (a .f .level) (a .set) (a .m .e) (a .st .count) (a .out .now) (s .pre .1 .0) (s .pre .1 .1)
-    (k .a .e) (k .inv .divisor) (offered-lead t o) (o .offer .result) (offered-child t o) go (k .cur .count) (k .out) showing in
+    let ready = child-ready (a .f .panel .n) (a .terms .now) (a .f .level) (a .set) (a .m .e) (a .st .count) (a .out .now) (s .pre .1 .0) (s .pre .1 .1)
+    (k .a .e) (k .inv .divisor) (offered-lead t o) (rulesOf (a .f .panel)) (o .offer .result) (offered-child t o) go (k .cur .count) (k .out) showing in
     let more = offered-more t o go in
     let within = offered-within t o go in
     let step : 2 * (a .f .level - o .offer .result .set .len) + 1 < t = omega (arith, s .pre .0) in
@@ -309,7 +311,7 @@ runner-returns-2 t c =
     let go = at-if3 .if3 .taken in
     let told = offered-told t o go (at-open .«open» .result) Spent (at-open .«open» .last .1 .0)
     (c .enum-told .given .1) (at-open .«open» .ensures) in
-    running-child-spent bare (a .f .n) (a .terms .now) (a .f .level) (a .f .limit) (a .set) (a .m .e) (a .st) (a .out .now) (k .inv) (offered-proper t o) (offered-lead t o)
+    running-child-spent (rulesOf (a .f .panel)) (a .f .panel .n) (a .terms .now) (a .f .level) (a .f .limit) (a .set) (a .m .e) (a .st) (a .out .now) (k .inv) (offered-proper t o) (offered-lead t o)
     (r .set .len) (offered-more t o go) (s .pre .1 .1 .below)
     (omega (arith, at-if2 .if2 .left)) (offered-opens t o ∙ go)
     (at-open .«open» .last .1 .0) told d finds h sh
@@ -339,7 +341,7 @@ runner-returns-3 t c =
     let told = offered-told t o go (at-open .«open» .result) (Full (c .before .s2 .given .0 .0))
     (at-open .«open» .last .1 .0) (c .before .s2 .given .1)
     (at-open .«open» .ensures) in
-    running-child-full bare (a .f .n) (a .terms .now) (a .f .level) (a .f .limit) (a .set) (a .m .e) (a .st) (a .out .now) (k .inv) (offered-proper t o) (offered-lead t o)
+    running-child-full (rulesOf (a .f .panel)) (a .f .panel .n) (a .terms .now) (a .f .level) (a .f .limit) (a .set) (a .m .e) (a .st) (a .out .now) (k .inv) (offered-proper t o) (offered-lead t o)
     (r .set .len) (offered-more t o go) (s .pre .1 .1 .below)
     (omega (arith, at-if2 .if2 .left)) (offered-opens t o ∙ go)
     (c .before .s2 .given .0 .0) (at-open .«open» .last .1 .0) told d finds h sh
@@ -355,7 +357,7 @@ runner-loop-less t c =
     let s = at-loop .before .before .before .before in
     let a = s .args in
     let k = at-loop .loop in
-    let proper = gap-proper (a .f .n) (a .terms .now) (a .f .level) (a .set) (a .m .e) (a .st .count) (a .out .now) (s .pre .1 .0) (s .pre .1 .1) in
+    let proper = gap-proper (a .f .panel .n) (a .terms .now) (a .f .level) (a .set) (a .m .e) (a .st .count) (a .out .now) (s .pre .1 .0) (s .pre .1 .1) in
     let lead = is→T _ (sym (at-leads .leads .ensures) ∙ at-if1 .if1 .taken) in
     fewer-left (k .a .e) (a .m .e) (c .next-divisor .result .e) (k .inv .divisor) proper lead (c .next-divisor .ensures)
 
@@ -374,11 +376,11 @@ runner-loop-again t c =
     let go = w .0 .taken in
     let told = offered-told t o go (w .3 .result) (Going (w .7 .given .0 .0)) (w .3 .last .1 .0) (w .7 .given .1) (w .3 .ensures) in
     rw (c .next-divisor .ensures, w .9, w .10)
-    (running-going bare (a .f .n) (a .terms .now) (a .f .level) (a .f .limit) (a .set) (a .m .e) (a .st) (a .out .now) (k .inv) (offered-proper t o) (offered-lead t o)
+    (running-going (rulesOf (a .f .panel)) (a .f .panel .n) (a .terms .now) (a .f .level) (a .f .limit) (a .set) (a .m .e) (a .st) (a .out .now) (k .inv) (offered-proper t o) (offered-lead t o)
     (r .set .len) (offered-more t o go) (s .pre .1 .1 .below) (omega (arith, room)) (offered-opens t o ∙ go) (w .7 .given .0 .0) (w .3 .last .1 .0) (w .3 .kept .1 .0) told))
     (λ w.
     rw (c .next-divisor .ensures, w .1, w .2)
-    (running-shut bare (a .f .n) (a .terms .now) (a .f .level) (a .f .limit) (a .set) (a .m .e) (a .st) (a .out .now) (k .inv) (offered-proper t o) (offered-lead t o)
+    (running-shut (rulesOf (a .f .panel)) (a .f .panel .n) (a .terms .now) (a .f .level) (a .f .limit) (a .set) (a .m .e) (a .st) (a .out .now) (k .inv) (offered-proper t o) (offered-lead t o)
     _ refl refl (omega (arith, room)) (offered-opens t o ∙ w .0 .left)))
     (c .before .if3 .came)
 
@@ -390,7 +392,7 @@ runner-returns-4 t c =
     λ d finds h sh.
     let start = c .before .before .before .before .before .before in
     let a = start .args in
-    running-end bare (a .f .n) (a .terms .now) (a .f .level) (a .f .limit) (a .set) (a .m .e) (a .st) (a .out .now) (c .before .before .loop .inv)
+    running-end (rulesOf (a .f .panel)) (a .f .panel .n) (a .terms .now) (a .f .level) (a .f .limit) (a .set) (a .m .e) (a .st) (a .out .now) (c .before .before .loop .inv)
     (is→nT _ (sym (c .before .leads .ensures) ∙ c .if1 .left)) d finds h sh
 
 pub +open+pairs-spec : {M : Type 1} → statement M

@@ -17,9 +17,10 @@ use Rattle.monomial.proofs.Tests.{is→T}
 use Rattle.monomial.specs.Lists.{some}
 use Rattle.wiring.proofs.signals.Laws.{signals-length}
 use Rattle.wiring.proofs.answers.Laws.{first-as, first-some, first-none}
-use Rattle.walk.specs.Walk.{bare}
+use Rattle.wiring.specs.Sockets.{mayBe}
+use Rattle.walk.specs.Walk.{rulesOf}
 use Rattle.walk.specs.Turns.{Tells}
-use Rattle.walk.proofs.Rules.{at-its-level, bare-goes-on}
+use Rattle.walk.proofs.Rules.{at-its-level, allowing-goes-on}
 use Rattle.walk.proofs.walk.Laws.{open-spent, open-none, open-stops, picked-choice, signals-fit}
 use borrow.Author.Needs.{needs}
 use Rattle.wiring.specs.Panel.{setBytes, setExponent}
@@ -30,7 +31,7 @@ returns : tie.Need-returns
 returns c =
     λ d finds p sh.
     let a = c .before .before .before .before .args in
-    open-spent bare (a .f .n) (system (records (a .terms .now))) (a .f .level) (a .f .limit) (length (a .out .now) / setBytes) (a .st .steps) finds (monomialsOf (a .set)) d p (omega arith)
+    open-spent (rulesOf (a .f .panel)) (a .f .panel .n) (system (records (a .terms .now))) (a .f .level) (a .f .limit) (length (a .out .now) / setBytes) (a .st .steps) finds (monomialsOf (a .set)) d p (omega arith)
 
 add-t17 : tie.Need-add-t17
 add-t17 c = search needs
@@ -47,7 +48,7 @@ products-of-requires : tie.Need-products-of-requires
 products-of-requires c κs =
     let s = c .before .before .before .before .before .before in
     let v = c .before .signals-of .ensures in
-    (omega (arith, s .pre .within, s .pre .low, s .pre .few), (signals-fit 127 (s .args .f .n) _ _ (omega arith) (v .0) (s .pre .walked), omega arith))
+    (omega (arith, s .pre .within, s .pre .low, s .pre .few), (signals-fit 127 (s .args .f .panel .n) _ _ (omega arith) (v .0) (s .pre .walked), omega arith))
 
 array-share-prefix-table : tie.Need-array-share-prefix-table
 array-share-prefix-table c = omega (arith, c .before .products-of .kept .1 .0, c .before .products-of .ensures .1)
@@ -66,7 +67,7 @@ first-unmet-requires c κs =
       s .pre .clean,
       (
         omega (arith, s .pre .within, s .pre .low, s .pre .few),
-        (omega arith, (signals-fit setExponent (s .args .f .n) _ _ (omega arith) (v .0) (s .pre .walked), sq .0)),
+        (omega arith, (signals-fit setExponent (s .args .f .panel .n) _ _ (omega arith) (v .0) (s .pre .walked), sq .0)),
       ),
     )
 
@@ -90,11 +91,11 @@ returns-2 c =
     let fs = system (records (a .terms .now)) in
     let size = s .pre .size in
     let v = at-signals-of .signals-of .ensures in
-    let long = signals-length (a .f .n) m (s .pre .few) in
+    let long = signals-length (a .f .panel .n) m (s .pre .few) in
     let at = at-first-unmet .first-unmet .result in
-    let first = first-as (a .f .n) fs m _ at (v .0) (at-first-unmet .first-unmet .ensures) in
-    let none = first-none (a .f .n) fs m at first (omega arith) in
-    let told = open-none bare (a .f .n) fs (a .f .level) (a .f .limit) (length (a .out .now) / setBytes) (a .st .steps) finds m d p (omega arith) none in
+    let first = first-as (a .f .panel .n) fs m _ at (v .0) (at-first-unmet .first-unmet .ensures) in
+    let none = first-none (a .f .panel .n) fs m at first (omega arith) in
+    let told = open-none (rulesOf (a .f .panel)) (a .f .panel .n) fs (a .f .level) (a .f .limit) (length (a .out .now) / setBytes) (a .st .steps) finds m d p (omega arith) none in
     subst (Tells (c .before .before .found .result) (c .before .before .found .last .0)) (sym told) (c .before .before .found .ensures finds sh)
 
 returns-3 : tie.Need-returns-3
@@ -108,15 +109,15 @@ returns-3 c =
     let fs = system (records (a .terms .now)) in
     let size = s .pre .size in
     let v = at-signals-of .signals-of .ensures in
-    let long = signals-length (a .f .n) m (s .pre .few) in
+    let long = signals-length (a .f .panel .n) m (s .pre .few) in
     let at = at-first-unmet .first-unmet .result in
-    let first = first-as (a .f .n) fs m _ at (v .0) (at-first-unmet .first-unmet .ensures) in
-    let some = first-some (a .f .n) fs m at first (omega arith) in
-    let last = at-its-level bare (a .f .n) (a .f .level) m (missing (a .f .n) fs m) (omega arith) in
+    let first = first-as (a .f .panel .n) fs m _ at (v .0) (at-first-unmet .first-unmet .ensures) in
+    let some = first-some (a .f .panel .n) fs m at first (omega arith) in
+    let last = at-its-level (rulesOf (a .f .panel)) (a .f .panel .n) (a .f .level) m (missing (a .f .panel .n) fs m) (omega arith) in
     record {
       finds = finds;
       shown = sh;
-      is = open-stops bare (a .f .n) fs (a .f .level) (a .f .limit) (length (a .out .now) / setBytes) (a .st .steps) finds m d p (omega arith) some last;
+      is = open-stops (rulesOf (a .f .panel)) (a .f .panel .n) fs (a .f .level) (a .f .limit) (length (a .out .now) / setBytes) (a .st .steps) finds m d p (omega arith) some last;
     }
 
 array-share-prefix-table-2 : tie.Need-array-share-prefix-table-2
@@ -141,7 +142,7 @@ choose-requires c κs =
       s .pre .clean,
       (
         omega (arith, s .pre .within, s .pre .low, s .pre .few),
-        (signals-fit setExponent (s .args .f .n) _ _ (omega arith) (v .0) (s .pre .walked), sq .0),
+        (signals-fit setExponent (s .args .f .panel .n) _ _ (omega arith) (v .0) (s .pre .walked), sq .0),
       ),
     )
 
@@ -157,19 +158,19 @@ returns-4 c =
     let fs = system (records (a .terms .now)) in
     let size = s .pre .size in
     let v = at-signals-of .signals-of .ensures in
-    let long = signals-length (a .f .n) m (s .pre .few) in
+    let long = signals-length (a .f .panel .n) m (s .pre .few) in
     let at = at-first-unmet .first-unmet .result in
-    let first = first-as (a .f .n) fs m _ at (v .0) (at-first-unmet .first-unmet .ensures) in
-    let there = is→T (some (missing (a .f .n) fs m)) (first-some (a .f .n) fs m at first (omega arith)) in
+    let first = first-as (a .f .panel .n) fs m _ at (v .0) (at-first-unmet .first-unmet .ensures) in
+    let there = is→T (some (missing (a .f .panel .n) fs m)) (first-some (a .f .panel .n) fs m at first (omega arith)) in
     let p = c .before .choose .result in
     let picked = subst (λ (l : List Mono). Picked (nonsquares plain l (derivative plain fs)) p) (v .0) (c .before .choose .ensures) in
-    let choice = picked-choice (missing (a .f .n) fs m) p there picked in
+    let choice = picked-choice (missing (a .f .panel .n) fs m) p there picked in
     record {
       taken = omega (arith, at-if1 .if1 .left);
       first = choice .first;
       others = choice .others;
       are = choice .are;
-      on = bare-goes-on (a .f .n) (a .f .level) m (choice .first ∷ choice .others) (omega (arith, at-if3 .if3 .left));
+      on = allowing-goes-on (mayBe (a .f .panel)) (a .f .panel .n) (a .f .level) m (choice .first ∷ choice .others) (omega (arith, at-if3 .if3 .left));
       is = choice .is;
       kept = refl;
     }

@@ -1,6 +1,7 @@
--- `monomial_right` meets its contract: first the constants, then the exponents. Assumes nothing.
+-- `monomial_right` meets its contract: first the constants, then the exponents, then what a new monomial may be. Assumes nothing.
 use mathlib.Core.Path.{sym, _∙_}
-use Rattle.wiring.specs.Sets.{monomialRight}
+use borrow.Author.Tests.{not-true, not-false}
+use Rattle.wiring.proofs.sets.Laws.{named-refused, exponents-refused, may-decides}
 use borrow.Author.Needs.{needs}
 use Rattle.wiring.proofs.sets.monomial_right.Statement.{statement}
 use Rattle.wiring.proofs.sets.monomial_right.Tie as tie
@@ -9,16 +10,31 @@ is-constant-requires : tie.Need-is-constant-requires
 is-constant-requires c κs = search needs
 
 returns : tie.Need-returns
-unfolding monomialRight
-returns c = rw (sym (c .before .is-constant .ensures) ∙ c .if1 .taken)
+returns c =
+    let a = c .before .before .args in
+    named-refused (a .panel) (a .m .e) (sym (c .before .is-constant .ensures) ∙ c .if1 .taken)
 
 exponents-right-requires : tie.Need-exponents-right-requires
 exponents-right-requires c κs = search needs
 
 returns-2 : tie.Need-returns-2
-unfolding monomialRight
-returns-2 c = rw (sym (c .before .before .is-constant .ensures) ∙ c .before .if1 .left) (c .exponents-right .ensures)
+returns-2 c =
+    let at-is-constant = c .before .before .before in
+    let a = at-is-constant .before .args in
+    let new = sym (at-is-constant .is-constant .ensures) ∙ c .before .before .if1 .left in
+    exponents-refused (a .panel) (a .m .e) new (sym (c .before .exponents-right .ensures) ∙ not-true _ (c .if2 .taken))
+
+may-be-requires : tie.Need-may-be-requires
+may-be-requires c κs = search needs
+
+returns-3 : tie.Need-returns-3
+returns-3 c =
+    let at-exponents = c .before .before in
+    let at-is-constant = at-exponents .before .before in
+    let a = at-is-constant .before .args in
+    let new = sym (at-is-constant .is-constant .ensures) ∙ at-exponents .before .if1 .left in
+    c .may-be .ensures ∙ may-decides (a .panel) (a .m .e) new (sym (at-exponents .exponents-right .ensures) ∙ not-false _ (c .before .if2 .left))
 
 pub monomial-right-spec : {M : Type 1} → statement M
 monomial-right-spec =
-    tie.close (tie.spec is-constant-requires returns exponents-right-requires returns-2)
+    tie.close (tie.spec is-constant-requires returns exponents-right-requires returns-2 may-be-requires returns-3)

@@ -13,10 +13,10 @@ use Rattle.wiring.proofs.sets.monomials_right.Statement.{statement}
 use Rattle.wiring.proofs.sets.monomials_right.Tie as tie
 
 abbrev Inv-loop : tie.InvT-loop
-Inv-loop n s len i₀ i = Checking (monomialRight n) (take len (places s)) i
+Inv-loop panel s len i₀ i = Checking (monomialRight panel) (take len (places s)) i
 
 abbrev μ-loop : tie.MeasureT-loop
-μ-loop n s len i₀ i = len - i
+μ-loop panel s len i₀ i = len - i
 
 loop-holds : tie.Need-loop-holds Inv-loop μ-loop
 loop-holds c = checking-start _ _
@@ -37,7 +37,7 @@ returns c =
     let a = start .args in
     let i = at-loop .loop .i in
     let place = used-at (a .s .now) (a .len) (omega arith) i [] (omega arith) ∙ sym (c .before .before .read .ensures) in
-    let test = ap (monomialRight (a .n)) place ∙ sym (c .before .monomial-right .ensures) in
+    let test = ap (monomialRight (a .panel)) place ∙ sym (c .before .monomial-right .ensures) in
     checking-fails _ [] (at-loop .loop .inv) (omega (arith, used-length (a .s .now) (a .len) (omega arith))) (test ∙ not-true _ (c .if1 .taken))
 
 add-i : tie.Need-add-i Inv-loop μ-loop
@@ -53,7 +53,7 @@ loop-again c =
     let a = start .args in
     let i = at-loop .loop .i in
     let place = used-at (a .s .now) (a .len) (omega arith) i [] (omega arith) ∙ sym (c .before .before .read .ensures) in
-    let test = ap (monomialRight (a .n)) place ∙ sym (c .before .monomial-right .ensures) in
+    let test = ap (monomialRight (a .panel)) place ∙ sym (c .before .monomial-right .ensures) in
     checking-on _ [] (at-loop .loop .inv) (omega (arith, used-length (a .s .now) (a .len) (omega arith))) (test ∙ not-false _ (c .if1 .left))
 
 returns-2 : tie.Need-returns-2 Inv-loop μ-loop

@@ -18,7 +18,7 @@ zero-from-requires c κs = search needs
 returns : tie.Need-returns
 returns c =
     let a = c .before .before .before .before .args in
-    refused-bytes (a .n) (a .s .now) _ (c .before .before .size-of .ensures .0) _ refl refl (sym (c .before .zero-from .ensures) ∙ not-true _ (c .if1 .taken))
+    refused-bytes (a .panel) (a .s .now) _ (c .before .before .size-of .ensures .0) _ refl refl (sym (c .before .zero-from .ensures) ∙ not-true _ (c .if1 .taken))
 
 ascends-requires : tie.Need-ascends-requires
 ascends-requires c κs = search needs
@@ -28,7 +28,7 @@ returns-2 c =
     let at-size-of = c .before .before .before .before in
     let start = at-size-of .before .before in
     let a = start .args in
-    refused-order (a .n) (a .s .now) _ (at-size-of .size-of .ensures .0) _ refl refl (sym (c .before .ascends .ensures) ∙ not-true _ (c .if2 .taken))
+    refused-order (a .panel) (a .s .now) _ (at-size-of .size-of .ensures .0) _ refl refl (sym (c .before .ascends .ensures) ∙ not-true _ (c .if2 .taken))
 
 monomials-right-requires : tie.Need-monomials-right-requires
 monomials-right-requires c κs = search needs
@@ -39,7 +39,7 @@ returns-3 c =
     let start = at-size-of .before .before in
     let a = start .args in
     let size = at-size-of .size-of .ensures .0 in
-    refused-monomial (a .n) (a .s .now) _ size _ refl refl (sym (c .before .monomials-right .ensures) ∙ not-true _ (c .if3 .taken))
+    refused-monomial (a .panel) (a .s .now) _ size _ refl refl (sym (c .before .monomials-right .ensures) ∙ not-true _ (c .if3 .taken))
 
 set-of-requires : tie.Need-set-of-requires
 set-of-requires c κs = search needs
@@ -57,7 +57,7 @@ returns-4 c =
     let zeros = sym (at-zero-from .zero-from .ensures) ∙ not-false _ (at-if1 .if1 .left) in
     let order = sym (at-ascends .ascends .ensures) ∙ not-false _ (at-if2 .if2 .left) in
     let each = sym (c .before .before .monomials-right .ensures) ∙ not-false _ (c .before .if3 .left) in
-    accepted (a .n) (a .s .now) _ (size .0) zeros order each _ refl (size .1) (c .set-of .ensures .0) (c .set-of .ensures .1)
+    accepted (a .panel) (a .s .now) _ (size .0) zeros order each _ refl (size .1) (c .set-of .ensures .0) (c .set-of .ensures .1)
 
 pub read-set-spec : {M : Type 1} → statement M
 read-set-spec =

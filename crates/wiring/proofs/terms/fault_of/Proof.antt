@@ -9,10 +9,10 @@ use Rattle.wiring.proofs.terms.fault_of.Statement.{statement}
 use Rattle.wiring.proofs.terms.fault_of.Tie as tie
 
 abbrev Inv-loop : tie.InvT-loop
-Inv-loop n terms count t₀ t = Judging n (records terms) t
+Inv-loop panel terms count t₀ t = Judging panel (records terms) t
 
 abbrev μ-loop : tie.MeasureT-loop
-μ-loop n terms count t₀ t = count - t
+μ-loop panel terms count t₀ t = count - t
 
 loop-holds : tie.Need-loop-holds Inv-loop μ-loop
 loop-holds c = judging-start _ _

@@ -1,8 +1,8 @@
 -- `count_right` meets its contract: the tests are the definition's. Assumes nothing.
 use borrow.Author.Tests.{le-leb, lt-leb}
-use Rattle.wiring.specs.Answers.{countRight}
-use Rattle.wiring.proofs.answers.count_right.Statement.{statement}
-use Rattle.wiring.proofs.answers.count_right.Tie as tie
+use Rattle.wiring.specs.Sockets.{countRight}
+use Rattle.wiring.proofs.sockets.count_right.Statement.{statement}
+use Rattle.wiring.proofs.sockets.count_right.Tie as tie
 
 returns : tie.Need-returns
 unfolding countRight
