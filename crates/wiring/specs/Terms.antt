@@ -75,8 +75,8 @@ CleanFor n bytes = fault (panelOf n 0) (records bytes) ≡ Clean
 abbrev pub CleanTerms : List ℕ → Type 0
 CleanTerms = CleanFor width
 
--- the terms of equation number i, from 0, in the records' order; an equation without records is zero, and that of a signal, which has none, is
--- asked for by nothing
+-- the terms of equation number i, from 0, in the records' order; an equation without records is zero. A signal has no records, and no reply
+-- depends on the zero that stands for its derivative here (`slope-is`, `verdict-driven`)
 unfoldable pub equation : List Record → ℕ → Poly Mono
 equation rs i = map (λ r. (r .coefficient, r .monomial)) (keep (λ r. eqb (r .equation) (suc i)) rs)
 

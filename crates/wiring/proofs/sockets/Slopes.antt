@@ -1,5 +1,5 @@
--- The derivative of a signal does not matter: a monomial without signals has the same derivative whatever the equations of the signals are, and a
--- signal's own is asked for by nothing. Over clean records the derivative that the definitions take is that of what has one, on all of V.
+-- The derivative of a signal does not matter: a monomial without signals has the same derivative whatever the equations of the signals are, and
+-- of a signal's own nothing is asked. Over clean records the derivative that the definitions take is that of what has one, on all of V.
 -- Assumes nothing.
 use mathlib.Core.Path.{_≡_, refl, sym, ap, ap₂, _∙_, subst, fun-ext}
 use mathlib.Core.Logic.{⊎-elim, _↔_}
