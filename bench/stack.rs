@@ -2,6 +2,7 @@
 // and then we look how far down the paint is gone. About a hundred bytes of each number are the frames of the caller.
 // Thinning goes as deep as the set is large; some of the sets take every card.
 
+mod groups;
 mod panel;
 mod proved;
 mod systems;
@@ -43,27 +44,38 @@ fn measured(call: &mut dyn FnMut() -> [u64; 5]) -> ([u64; 5], usize) {
     (five, used)
 }
 
+fn print_most(what: &str, most: [usize; 3]) {
+    println!("{what}bytes of stack at most: plan {}, wire {}, thin {}", most[0], most[1], most[2]);
+}
+
 fn main() {
-    let mut most = [0; 3];
+    let mut all = [0; 3];
     println!("{:<28} {:>12} {:>12} {:>12}", "variables: system", "plan: order", "wire: code", "thin: code");
-    for s in systems::SYSTEMS {
-        let terms = s.terms.as_flattened();
-        let mut sets = vec![0; ROOM];
-        let mut wires = vec![0; WIRES];
-        let plan = measured(&mut || proved::plan(s.n, s.marks, CAP, s.limit, black_box(terms), &mut sets));
-        // The first set, or the empty one where planning is not done: the buffer is all zeros then.
-        let set = &sets[..SET_BYTES];
-        let wire = measured(&mut || proved::wire(s.n, s.marks, black_box(terms), set, &mut wires));
-        // The verdict alone may go another way than a list.
-        let (_, verdict) = measured(&mut || proved::wire(s.n, s.marks, black_box(terms), set, &mut []));
-        let deepest = wire.1.max(verdict);
-        let mut subsets = [0; SUBSETS];
-        let thin = measured(&mut || proved::thin(s.n, s.marks, black_box(terms), set, &mut subsets));
-        print!("{:<28} {:>4} {:>7} {:>4} {:>7}", s.name, plan.0[1], plan.1, wire.0[0], deepest);
-        println!(" {:>4} {:>7}", thin.0[0], thin.1);
-        for (m, used) in most.iter_mut().zip([plan.1, deepest, thin.1]) {
+    for g in groups::groups() {
+        let mut most = [0; 3];
+        for s in &g.systems {
+            let terms = s.terms.as_flattened();
+            let mut sets = vec![0; ROOM];
+            let mut wires = vec![0; WIRES];
+            let plan = measured(&mut || proved::plan(s.n, s.marks, CAP, s.limit, black_box(terms), &mut sets));
+            // The first set, or the empty one where planning is not done: the buffer is all zeros then.
+            let set = &sets[..SET_BYTES];
+            let wire = measured(&mut || proved::wire(s.n, s.marks, black_box(terms), set, &mut wires));
+            // The verdict alone may go another way than a list.
+            let (_, verdict) = measured(&mut || proved::wire(s.n, s.marks, black_box(terms), set, &mut []));
+            let deepest = wire.1.max(verdict);
+            let mut subsets = [0; SUBSETS];
+            let thin = measured(&mut || proved::thin(s.n, s.marks, black_box(terms), set, &mut subsets));
+            print!("{:<28} {:>4} {:>7} {:>4} {:>7}", s.name, plan.0[1], plan.1, wire.0[0], deepest);
+            println!(" {:>4} {:>7}", thin.0[0], thin.1);
+            for (m, used) in most.iter_mut().zip([plan.1, deepest, thin.1]) {
+                *m = used.max(*m);
+            }
+        }
+        print_most(&format!("{}: ", g.name), most);
+        for (m, used) in all.iter_mut().zip(most) {
             *m = used.max(*m);
         }
     }
-    println!("bytes of stack at most: plan {}, wire {}, thin {}", most[0], most[1], most[2]);
+    print_most("", all);
 }

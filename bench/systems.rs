@@ -2,6 +2,7 @@
 
 use crate::panel::{TERM_BYTES, TERMS, VARIABLES};
 
+#[derive(Clone, Copy)]
 pub struct System {
     pub name: &'static str,
     pub n: u64,
@@ -10,7 +11,7 @@ pub struct System {
     pub terms: &'static [Record],
 }
 
-type Record = [u8; TERM_BYTES];
+pub type Record = [u8; TERM_BYTES];
 
 // A record: equation, exponents, coefficient.
 const fn t(equation: u8, e: [u8; VARIABLES], c: i32) -> Record {

@@ -1,8 +1,12 @@
-// The walk in plain Rust: the yardstick of the benchmark. It keeps sets, signals and products in the shapes of the
-// proved code, so that the times compare; for that reason it is not an independent second program. No heap. Input is
-// taken as clean: the checks cost nothing beside a walk.
+// The walk in plain Rust: the yardstick of the benchmark. It keeps sets, signals, products and nonsquares in the shapes
+// of the proved code, so that the times compare; for that reason it is not an independent second program. No heap.
+// Input is taken as clean: the checks cost nothing beside a walk.
+//
+// The walk with the counting rule (CLOSING) is the proved one; the walk without it is there to be compared with. Each
+// has its own copy of what both call: shared, it is left out of line, and a walk takes a tenth longer.
 
-use crate::panel::{CARDS, COEFFICIENT_AT, EXPONENTS_AT, PRODUCTS, SET_BYTES, SIGNALS, TERM_BYTES, TERMS, VARIABLES};
+use crate::panel::{CARDS, COEFFICIENT_AT, EXPONENTS_AT, NONSQUARES, PRODUCTS};
+use crate::panel::{SET_BYTES, SIGNALS, TERM_BYTES, TERMS, VARIABLES};
 
 pub type Mono = [u8; VARIABLES];
 
@@ -31,12 +35,18 @@ struct Products {
     len: usize,
 }
 
+// The nonsquares of a set, each once.
+struct Nonsquares {
+    m: [Mono; NONSQUARES],
+    len: usize,
+}
+
 enum Stop {
     Spent,
     Full,
 }
 
-struct Walk<'a> {
+struct Walk<'a, const CLOSING: bool> {
     n: usize,
     outside: Mono,
     level: usize,
@@ -64,6 +74,11 @@ fn over(a: Mono, b: Mono) -> Mono {
         r[i] -= b[i];
     }
     r
+}
+
+#[inline(always)]
+fn divides(a: Mono, b: Mono) -> bool {
+    (0..VARIABLES).all(|i| a[i] <= b[i])
 }
 
 // Whether m contains one of the variables that are all ones in `outside`.
@@ -94,7 +109,7 @@ fn next_divisor(mut a: Mono, m: Mono) -> Mono {
 }
 
 impl Signals {
-    fn of(n: usize, set: &Set) -> Signals {
+    fn of<const CLOSING: bool>(n: usize, set: &Set) -> Signals {
         let mut m = [ONE; SIGNALS];
         for i in 0..n {
             m[i + 1][i] = 1;
@@ -110,7 +125,7 @@ impl Signals {
 }
 
 impl Products {
-    fn of(v: &Signals) -> Products {
+    fn of<const CLOSING: bool>(v: &Signals) -> Products {
         let mut p = Products { m: [ONE; PRODUCTS], len: 0 };
         let v = v.members();
         for (i, &a) in v.iter().enumerate() {
@@ -141,7 +156,14 @@ impl Set {
     }
 }
 
-impl Walk<'_> {
+impl Nonsquares {
+    #[inline(always)]
+    fn members(&self) -> &[Mono] {
+        &self.m[..self.len]
+    }
+}
+
+impl<const CLOSING: bool> Walk<'_, CLOSING> {
     #[inline(always)]
     fn terms(&self) -> &[Term] {
         &self.terms[..self.len]
@@ -158,15 +180,21 @@ impl Walk<'_> {
         Some(m)
     }
 
-    // Whether the like monomials leave a total. Few monomials come this far, so nothing is kept for it.
-    fn stays(&self, z: Mono, m: Mono) -> bool {
+    // The total of the like monomials. Few monomials come this far, so nothing is kept for it.
+    #[inline(always)]
+    fn total(&self, z: Mono, m: Mono) -> i32 {
         let mut sum = 0i32;
         for t in self.terms() {
             if Self::image(t, z) == Some(m) {
                 sum += z[t.var] as i32 * t.c;
             }
         }
-        sum != 0
+        sum
+    }
+
+    // Whether they leave a total.
+    fn stays(&self, z: Mono, m: Mono) -> bool {
+        self.total(z, m) != 0
     }
 
     // Most sets that are opened stand at the level and only have to be refused, so the first nonsquare ends the search.
@@ -201,6 +229,86 @@ impl Walk<'_> {
         best.map(|b| b.1)
     }
 
+    // Lists the nonsquares; false where they are more than `most`.
+    fn gather(&self, list: &mut Nonsquares, v: &Signals, p: &Products, most: usize) -> bool {
+        list.len = 0;
+        for &z in v.members() {
+            for t in self.terms() {
+                if let Some(m) = Self::image(t, z) {
+                    if !p.has(m) && !list.members().contains(&m) && self.total(z, m) != 0 {
+                        if list.len == most {
+                            return false;
+                        }
+                        list.m[list.len] = m;
+                        list.len += 1;
+                    }
+                }
+            }
+        }
+        true
+    }
+
+    // How many quotients occur at least `often` times, up to `cap`. Each is counted where it is first met.
+    fn frequent(&self, list: &[Mono], v: &[Mono], often: usize, cap: usize) -> usize {
+        let is_multiple = |q: Mono, m: Mono| divides(q, m) && v.contains(&over(m, q));
+        let mut met = 0;
+        for i in 0..(list.len() + 1).saturating_sub(often) {
+            for &x in v {
+                if !divides(x, list[i]) {
+                    continue;
+                }
+                let q = over(list[i], x);
+                if meets(q, self.outside) {
+                    continue;
+                }
+                let mut left = often - 1;
+                let mut a = i + 1;
+                while 0 < left && left <= list.len() - a {
+                    left -= is_multiple(q, list[a]) as usize;
+                    a += 1;
+                }
+                if left == 0 && !list[..i].iter().any(|&m| is_multiple(q, m)) {
+                    met += 1;
+                    if met == cap {
+                        return met;
+                    }
+                }
+            }
+        }
+        met
+    }
+
+    // The counting rule: whether the nonsquares are more than the t(t+1)/2 products of t new monomials among themselves
+    // and the t largest counts.
+    fn closes(&self, list: &[Mono], v: &[Mono], t: usize) -> bool {
+        let own = t * (t + 1) / 2;
+        if list.len() <= own {
+            return false;
+        }
+        let wanted = list.len() - own;
+        // One of t counts that reach it together has its share.
+        if self.frequent(list, v, wanted.div_ceil(t), 1) == 0 {
+            return true;
+        }
+        if t == 1 {
+            return false;
+        }
+        // A count is how many numbers from 1 on it reaches; so for each number those that reach it are added up.
+        let mut left = wanted;
+        let mut often = 1;
+        loop {
+            let many = self.frequent(list, v, often, t);
+            if left <= many {
+                return false;
+            }
+            if many == 0 {
+                return true;
+            }
+            left -= many;
+            often += 1;
+        }
+    }
+
     // Lists a find in its place, once.
     fn keep(&mut self, set: &Set) -> Result<(), Stop> {
         let mut record = [0u8; SET_BYTES];
@@ -233,23 +341,38 @@ impl Walk<'_> {
         Ok(())
     }
 
-    fn open(&mut self, set: &Set) -> Result<(), Stop> {
+    fn open(&mut self, list: &mut Nonsquares, set: &Set) -> Result<(), Stop> {
         self.step()?;
-        let v = Signals::of(self.n, set);
-        let p = Products::of(&v);
-        if !self.any_nonsquare(&v, &p) {
+        let v = Signals::of::<CLOSING>(self.n, set);
+        let p = Products::of::<CLOSING>(&v);
+        let m = if CLOSING && set.len < self.level {
+            let t = self.level - set.len;
+            // No count is above the size of V, so with more nonsquares the set is closed uncounted.
+            if !self.gather(list, &v, &p, t * v.len + t * (t + 1) / 2) {
+                return Ok(());
+            }
+            if list.len == 0 {
+                return self.keep(set);
+            }
+            if self.closes(list.members(), v.members(), t) {
+                return Ok(());
+            }
+            list.members().iter().copied().min_by_key(|&m| (score(m), m))
+        } else if !self.any_nonsquare(&v, &p) {
             return self.keep(set);
-        }
-        if set.len == self.level {
+        } else if CLOSING || set.len == self.level {
+            // With the rule only a set at the level comes here.
             return Ok(());
-        }
-        match self.choose(&v, &p) {
-            Some(m) => self.pairs(set, &v, m),
+        } else {
+            self.choose(&v, &p)
+        };
+        match m {
+            Some(m) => self.pairs(list, set, &v, m),
             None => Ok(()),
         }
     }
 
-    fn pairs(&mut self, set: &Set, v: &Signals, m: Mono) -> Result<(), Stop> {
+    fn pairs(&mut self, list: &mut Nonsquares, set: &Set, v: &Signals, m: Mono) -> Result<(), Stop> {
         let mut a = ONE;
         loop {
             let b = over(m, a);
@@ -269,7 +392,7 @@ impl Walk<'_> {
                 if new_b {
                     child.add(b);
                 }
-                self.open(&child)?;
+                self.open(list, &child)?;
             }
             a = next_divisor(a, m);
         }
@@ -277,9 +400,16 @@ impl Walk<'_> {
 }
 
 // Code, order, count, steps and place; the finds are left in the buffer as the proved planning leaves them.
-pub fn plan(n: u64, marks: u64, cap: u64, limit: u64, terms: &[u8], out: &mut [u8]) -> [u64; 5] {
+pub fn plan<const CLOSING: bool>(
+    n: u64,
+    marks: u64,
+    cap: u64,
+    limit: u64,
+    terms: &[u8],
+    out: &mut [u8],
+) -> [u64; 5] {
     out.fill(0);
-    let mut w = Walk {
+    let mut w = Walk::<CLOSING> {
         n: n as usize,
         outside: std::array::from_fn(|i| if marks >> i & 1 == 1 { u8::MAX } else { 0 }),
         level: 0,
@@ -295,10 +425,11 @@ pub fn plan(n: u64, marks: u64, cap: u64, limit: u64, terms: &[u8], out: &mut [u
         t.e.copy_from_slice(&r[EXPONENTS_AT..COEFFICIENT_AT]);
         t.c = i32::from_le_bytes(std::array::from_fn(|i| r[COEFFICIENT_AT + i]));
     }
+    let mut list = Nonsquares { m: [ONE; NONSQUARES], len: 0 };
     let empty = Set { m: [ONE; CARDS], len: 0 };
     for k in 0..=cap {
         w.level = k as usize;
-        match w.open(&empty) {
+        match w.open(&mut list, &empty) {
             Ok(()) if w.count == 0 => {}
             Ok(()) => return [0, k, w.count as u64, w.steps, 0],
             Err(stop) => {

@@ -132,7 +132,8 @@ enum siragumon_code {
 /*
  * Plans: finds all smallest sets of new signals that make the system quadratic, up to `cap` of them (0 to
  * SIRAGUMON_CARDS), within `limit` steps (1 to SIRAGUMON_STEPS_MOST). They are the smallest of the sets that contain no
- * marked variable. `out` holds out_len / SIRAGUMON_SET_BYTES sets, rounded down; they are written ascending.
+ * marked variable. `out` holds out_len / SIRAGUMON_SET_BYTES sets, rounded down; they are written ascending. A step is a
+ * set that is opened or a pair of factors that is tried; of a set that counting shows to need too many more no pair is.
  */
 void siragumon_plan(uint64_t n, uint64_t marks, uint64_t cap, uint64_t limit, const uint8_t *terms, size_t terms_len,
                     uint8_t *out, size_t out_len, uint64_t five[SIRAGUMON_NUMBERS]);

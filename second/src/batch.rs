@@ -13,8 +13,9 @@
 //! | 24-31, 32-39 | K, limit (planning's alone) |
 
 use crate::marks::Marks;
-use crate::operations::{plan, thin, wire};
+use crate::operations::{plan_by, thin, wire};
 use crate::reply::Reply;
+use crate::walk::Hopeless;
 use std::fmt::Write;
 
 /// Of a head, what stands before its numbers of 8 bytes.
@@ -119,6 +120,11 @@ impl Case {
 
     /// The reply, and the buffer after the call.
     pub fn answer(&self) -> (Reply, Vec<u8>) {
+        self.answer_by(Hopeless::Closed)
+    }
+
+    /// The same where planning does so with hopeless sets.
+    pub fn answer_by(&self, hopeless: Hopeless) -> (Reply, Vec<u8>) {
         let Case {
             n,
             marks,
@@ -130,7 +136,7 @@ impl Case {
         } = self;
         let mut buffer = vec![UNTOUCHED; self.buffer];
         let reply = match self.operation {
-            Operation::Plan => plan(*n, *marks, *cap, *limit, terms, &mut buffer),
+            Operation::Plan => plan_by(hopeless, *n, *marks, *cap, *limit, terms, &mut buffer),
             Operation::Wire => wire(*n, *marks, terms, set, &mut buffer),
             Operation::Thin => thin(*n, *marks, terms, set, &mut buffer),
         };

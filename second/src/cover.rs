@@ -18,8 +18,12 @@ use crate::reply::{Reply, NAMES};
 use crate::system::{Set, System, Term};
 use crate::thin_cover::Thinning;
 use crate::thinning::thinned;
+use crate::walk::{walk, Hopeless};
 use crate::wire_cover::Derivatives;
 use std::collections::{BTreeMap, BTreeSet};
+
+/// Walks with a higher limit are not walked again.
+const FAR: u64 = 3_000;
 
 /// Counts and sets of numbers by name.
 #[derive(Default)]
@@ -199,6 +203,7 @@ impl Cover {
         if case.limit == MOST_LIMIT {
             self.count("plan: the largest limit");
         }
+        self.closed(case, reply);
         match code {
             0 => {
                 self.number("plan: counts of sets", reply.count);
@@ -220,6 +225,27 @@ impl Cover {
             }
             7 => self.spent(case, reply),
             _ => {}
+        }
+    }
+
+    /// Where the walk closes sets, and what it would say if it tried them.
+    fn closed(&mut self, case: &Case, reply: &Reply) {
+        let (system, _) = good_input(case).expect("the input is not refused");
+        let room = case.buffer / SET_BYTES;
+        let cap = case.cap as usize;
+        let walked = walk(&system, Hopeless::Closed, cap, case.limit, room);
+        for room in walked.closed {
+            self.number("plan: room for what is closed", room as u64);
+            if system.marks != Marks::NONE {
+                self.number("plan: room for what is closed, with signals", room as u64);
+            }
+        }
+        if case.limit <= FAR {
+            let (tried, _) = case.answer_by(Hopeless::Tried);
+            if tried != *reply {
+                let (before, now) = (tried.code, reply.code);
+                self.count(format!("plan: code {before} by trying, {now} by closing"));
+            }
         }
     }
 

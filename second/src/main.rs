@@ -2,6 +2,13 @@
 //! and 02 alone. It is naive on purpose, so that it can be believed by reading it.
 
 mod batch;
+mod closing;
+mod closing_maker;
+mod closing_rows;
+#[cfg(test)]
+mod closing_ways;
+#[cfg(test)]
+mod closing_worked;
 mod cover;
 mod damage;
 mod maker;

@@ -5,6 +5,9 @@
 //! batch of some thousands of cases meets each of them.
 
 use crate::batch::{Case, Operation, MOST_CASE_BUFFER};
+use crate::closing_maker::CLOSING;
+#[cfg(test)]
+use crate::closing_rows;
 use crate::damage::{break_set, break_term, Field, FIELDS, WAYS};
 use crate::mark_maker::MARKED;
 #[cfg(test)]
@@ -18,23 +21,27 @@ use crate::panel::{
 };
 use crate::random::Random;
 use crate::records::{read_set, write_places, write_set, write_terms};
+use crate::reply::Reply;
 use crate::rows::rows;
 use crate::system::{Set, System};
 use crate::systems::{self, Outside};
 use crate::thin_maker::THINNING;
 use crate::thin_rows::as_thinning;
+use crate::walk::Hopeless;
 use crate::wire_maker::WIRING;
 
 /// The random cases that are stored with the fixed rows.
 const STORED_SEED: u64 = 1;
 const STORED_COUNT: usize = 4_400;
 const STORED_MARKED: usize = 320;
+const STORED_CLOSING: usize = 400;
 
 /// The batch that is stored: the fixed rows, then random cases.
 pub fn stored() -> Vec<Case> {
     let mut cases = rows();
     cases.extend(first_unmarked(STORED_SEED, STORED_COUNT));
     cases.extend(first_marked(STORED_SEED, STORED_MARKED));
+    cases.extend(first_closing(STORED_SEED, STORED_CLOSING));
     cases
 }
 
@@ -46,11 +53,33 @@ pub fn stored_marked() -> Vec<Case> {
     cases
 }
 
-/// Of each three cases the last has marks.
-const MARKED_ROUND: usize = 3;
+/// Of the stored cases those of the counting rule.
+#[cfg(test)]
+pub fn stored_closing() -> Vec<Case> {
+    let mut cases = closing_rows::rows();
+    cases.extend(first_closing(STORED_SEED, STORED_CLOSING));
+    cases
+}
+
+/// Of each eight cases the last is one of the counting rule.
+const CLOSING_ROUND: usize = 8;
 
 /// The first so many cases that a seed gives.
 pub fn batch(seed: u64, count: usize) -> Vec<Case> {
+    let closing = count / CLOSING_ROUND;
+    let mut others = first_others(seed, count - closing).into_iter();
+    let mut closing = first_closing(seed, closing).into_iter();
+    let case = |number: usize| match number % CLOSING_ROUND {
+        0 => closing.next().expect("one of each eight"),
+        _ => others.next().expect("seven of each eight"),
+    };
+    (1..=count).map(case).collect()
+}
+
+/// Of each three of the others the last has marks.
+const MARKED_ROUND: usize = 3;
+
+fn first_others(seed: u64, count: usize) -> Vec<Case> {
     let marked = count / MARKED_ROUND;
     let mut without = first_unmarked(seed, count - marked).into_iter();
     let mut with = first_marked(seed, marked).into_iter();
@@ -92,6 +121,11 @@ fn first_wirings(seed: u64, count: usize) -> Vec<Case> {
 /// The cases with marks, with random numbers of their own.
 fn first_marked(seed: u64, count: usize) -> Vec<Case> {
     first_cases(!seed.rotate_left(32), &MARKED, count)
+}
+
+/// The cases of the counting rule, with random numbers of their own.
+fn first_closing(seed: u64, count: usize) -> Vec<Case> {
+    first_cases(!seed.rotate_left(16), &CLOSING, count)
 }
 
 fn first_cases(seed: u64, mix: &'static Mix, count: usize) -> Vec<Case> {
@@ -137,6 +171,9 @@ pub struct Mix {
     /// Those that are given a set.
     pub given: &'static [Ask],
     pub outside: Outside,
+    /// The walk that stories are laid around. Those from before document 02, [4]
+    /// stay where they were, whatever becomes of their answers.
+    pub hopeless: Hopeless,
     /// How often each kind of group comes in a hundred.
     pub shares: &'static [(usize, Group)],
 }
@@ -147,6 +184,7 @@ const PLANNING: Mix = Mix {
     asks: &[Ask::Plan, Ask::Verdict, Ask::Wire],
     given: &[Ask::Verdict, Ask::Wire],
     outside: Outside::Nothing,
+    hopeless: Hopeless::Tried,
     shares: &[
         (15, Maker::around_a_plan),
         (8, Maker::around_a_set),
@@ -253,6 +291,11 @@ impl Maker {
         self.mix.outside.feed(&mut self.random, system)
     }
 
+    /// What a plan says in the walk that its story is laid around.
+    pub fn answer(&self, plan: &Case) -> (Reply, Vec<u8>) {
+        plan.answer_by(self.mix.hopeless)
+    }
+
     /// How many variables there are, and which are marked.
     pub fn variables(&mut self, least: usize, most: usize) -> (usize, Marks) {
         self.mix.outside.variables(&mut self.random, least, most)
@@ -287,6 +330,28 @@ impl Maker {
             _ => self.any_cap(),
         };
         let generous = self.random.pick(&[300, 1_000, 1_000, 3_000, 3_000, 20_000]);
+        let Some((count, sets)) = self.around_the_plan(&system, cap, generous) else {
+            return;
+        };
+        let at = self.random.below(count) * SET_BYTES;
+        let record = &sets[at..at + SET_BYTES];
+        let found = read_set(system.n, system.marks, record).expect("a found set");
+        if self.random.chance(50) {
+            self.with_set(&system, &found);
+        } else {
+            let other = self.another_set(&system, &found);
+            self.with_set(&system, &other);
+        }
+    }
+
+    /// The plans that a plan's own numbers suggest. Gives how many sets it finds,
+    /// and the sets, where it is done.
+    pub fn around_the_plan(
+        &mut self,
+        system: &System,
+        cap: u64,
+        generous: u64,
+    ) -> Option<(usize, Vec<u8>)> {
         let first = Case::plan(
             system.n as u64,
             cap,
@@ -295,30 +360,23 @@ impl Maker {
             write_terms(&system.terms),
         )
         .marked(system.marks);
-        let (reply, sets) = first.answer();
+        let (reply, sets) = self.answer(&first);
         let count = reply.count as usize;
         if reply.code == 7 {
             self.spent(&first);
-            return;
+            return None;
         }
         self.limits(&first, reply.steps, count);
         if self.random.chance(40) {
             self.caps(&first, reply.order, count);
         }
-        if reply.code == 0 {
-            if count > 1 || self.random.chance(30) {
-                self.rooms(&first, count);
-            }
-            let at = self.random.below(count) * SET_BYTES;
-            let record = &sets[at..at + SET_BYTES];
-            let found = read_set(system.n, system.marks, record).expect("a found set");
-            if self.random.chance(50) {
-                self.with_set(&system, &found);
-            } else {
-                let other = self.another_set(&system, &found);
-                self.with_set(&system, &other);
-            }
+        if reply.code != 0 {
+            return None;
         }
+        if count > 1 || self.random.chance(30) {
+            self.rooms(&first, count);
+        }
+        Some((count, sets))
     }
 
     /// Any K that is in range.
@@ -390,7 +448,7 @@ impl Maker {
             cap: below,
             ..first.clone()
         };
-        let (reply, _) = level.answer();
+        let (reply, _) = self.answer(&level);
         self.cases.push(Case {
             limit: reply.steps,
             buffer,
@@ -415,7 +473,7 @@ impl Maker {
             buffer: within * SET_BYTES,
             ..first.clone()
         };
-        let (reply, _) = full.answer();
+        let (reply, _) = self.answer(&full);
         self.cases.push(Case {
             limit: self.random.pick(&[reply.steps, reply.steps - 1]),
             ..full
@@ -770,8 +828,17 @@ mod tests {
 
     #[test]
     fn each_run_of_cases_has_its_own_places_and_changes_no_other() {
+        let (mut closing, mut others) = (Vec::new(), Vec::new());
+        for (index, case) in batch(5, 411).into_iter().enumerate() {
+            match index % CLOSING_ROUND {
+                7 => closing.push(case),
+                _ => others.push(case),
+            }
+        }
+        assert!(closing.iter().all(|case| case.operation == Operation::Plan));
+        assert_eq!(closing, first_closing(5, 51));
         let (mut unmarked, mut marked) = (Vec::new(), Vec::new());
-        for (index, case) in batch(5, 360).into_iter().enumerate() {
+        for (index, case) in others.into_iter().enumerate() {
             match index % MARKED_ROUND {
                 2 => marked.push(case),
                 _ => unmarked.push(case),
@@ -1012,6 +1079,40 @@ mod tests {
         }
         for (code, name) in NAMES.iter().enumerate().take(8) {
             assert_count(&report, &format!("plan: code {code} {name}"), 2);
+        }
+    }
+
+    #[test]
+    fn what_is_stored_of_closing_covers_its_kinds() {
+        let report = report_of(&stored_closing());
+        assert_lines(
+            &report,
+            vec![
+                "plan: K with code 5: 0-6 (7)".to_string(),
+                "plan: room for what is closed: 1-6 (6)".to_string(),
+                "plan: room for what is closed, with signals: 1-6 (6)".to_string(),
+            ],
+        );
+        let kinds = [
+            "plan: code 0 by trying, 0 by closing",
+            "plan: code 0 exactly at the limit",
+            "plan: code 5 by trying, 5 by closing",
+            "plan: code 5 exactly at the limit",
+            "plan: code 6 by trying, 6 by closing",
+            "plan: code 6 exactly at the limit",
+            "plan: code 7 by trying, 0 by closing",
+            "plan: code 7 by trying, 5 by closing",
+            "plan: code 7 by trying, 6 by closing",
+            "plan: code 7 by trying, 7 by closing",
+            "plan: full, one set short",
+            "plan: room exactly taken",
+            "plan: spent between two levels",
+            "plan: spent one step before code 0",
+            "plan: spent one step before code 5",
+            "plan: spent one step before code 6",
+        ];
+        for name in kinds {
+            assert_count(&report, name, 5);
         }
     }
 

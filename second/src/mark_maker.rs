@@ -9,12 +9,14 @@ use crate::monomial::Monomial;
 use crate::panel::{CARDS, MOST_TERMS, TERM_BYTES, VARIABLES};
 use crate::records::{write_places, write_terms};
 use crate::systems::{self, Outside};
+use crate::walk::Hopeless;
 
 /// Every operation with marks. Two thirds are stories of a system or a set.
 pub const MARKED: Mix = Mix {
     asks: &[Ask::Plan, Ask::Wire, Ask::Thin, Ask::Verdict],
     given: &[Ask::Wire, Ask::Thin, Ask::Verdict],
     outside: Outside::Signals,
+    hopeless: Hopeless::Tried,
     shares: &[
         (21, Maker::around_a_plan),
         (5, Maker::around_a_set),

@@ -2,6 +2,7 @@
 //! stored cases with marks (document 02, [3]).
 
 use crate::batch::{Case, Operation};
+use crate::closing::lacks;
 use crate::maker::stored_marked;
 use crate::marks::Marks;
 use crate::monomial::Monomial;
@@ -12,6 +13,7 @@ use crate::records::{
 };
 use crate::reply::Reply;
 use crate::system::{squares, Set, System};
+use crate::walk::Hopeless;
 use crate::wiring::Wire;
 use std::collections::{BTreeSet, HashMap};
 use std::sync::OnceLock;
@@ -165,7 +167,9 @@ fn read_with(case: &Case, records: Marks, set: Marks) -> Answer {
                 ..system
             };
             match case.operation {
-                Operation::Plan => planned(&system, case.cap, case.limit, &mut answer),
+                Operation::Plan => {
+                    planned(Hopeless::Closed, &system, case.cap, case.limit, &mut answer)
+                }
                 _ => match read_set(n, set, &case.set) {
                     Err(refusal) => refusal,
                     Ok(set) => wired(&system, &set, &mut answer),
@@ -470,7 +474,9 @@ impl Steps<'_> {
         let members = set.iter().copied().collect();
         self.steps.push((self.level, found.then_some(members)));
         let hopeless = self.way == Way::Hopeless && over.iter().any(|m| self.marked(*m));
-        if over.is_empty() || set.len() == self.level || hopeless {
+        // What is found lacks nothing.
+        let closed = set.len() + lacks(self.system, set, &over) > self.level;
+        if over.is_empty() || closed || hopeless {
             return;
         }
         for (m1, m2) in self.choose(&over).pairs() {

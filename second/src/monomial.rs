@@ -31,6 +31,11 @@ impl Monomial {
         Monomial(std::array::from_fn(|i| self.0[i] + other.0[i]))
     }
 
+    /// Whether the quotient of the other by this one is a monomial.
+    pub fn divides(self, other: Monomial) -> bool {
+        (0..VARIABLES).all(|i| self.0[i] <= other.0[i])
+    }
+
     /// The quotient, which must be a monomial again.
     pub fn over(self, other: Monomial) -> Monomial {
         Monomial(std::array::from_fn(|i| self.0[i] - other.0[i]))

@@ -1,5 +1,5 @@
 //! The three operations, with the checks in their sequence
-//! (document 01, What the box says; document 02, [1] to [3]).
+//! (document 01, What the box says; document 02, [1] to [4]).
 
 use crate::marks::Marks;
 use crate::monomial::Monomial;
@@ -10,7 +10,7 @@ use crate::records::{
 use crate::reply::Reply;
 use crate::system::{Set, System};
 use crate::thinning::thinned;
-use crate::walk::{walk, End};
+use crate::walk::{walk, End, Hopeless};
 use crate::wiring::wiring;
 use std::collections::BTreeSet;
 
@@ -35,6 +35,19 @@ pub fn variables_are_in_range(n: u64, marks: u64) -> bool {
 
 /// Planning. Whatever the code, every byte of the answer is written.
 pub fn plan(n: u64, marks: u64, cap: u64, limit: u64, terms: &[u8], answer: &mut [u8]) -> Reply {
+    plan_by(Hopeless::Closed, n, marks, cap, limit, terms, answer)
+}
+
+/// The same by a walk that does so with hopeless sets.
+pub fn plan_by(
+    hopeless: Hopeless,
+    n: u64,
+    marks: u64,
+    cap: u64,
+    limit: u64,
+    terms: &[u8],
+    answer: &mut [u8],
+) -> Reply {
     answer.fill(0);
     if !(variables_are_in_range(n, marks) && cap_is_in_range(cap) && limit_is_in_range(limit)) {
         return Reply::bare(1);
@@ -43,14 +56,26 @@ pub fn plan(n: u64, marks: u64, cap: u64, limit: u64, terms: &[u8], answer: &mut
         return Reply::bare(2);
     }
     match read_terms(n as usize, Marks(marks), terms) {
-        Ok(system) => planned(&system, cap, limit, answer),
+        Ok(system) => planned(hopeless, &system, cap, limit, answer),
         Err(refusal) => refusal,
     }
 }
 
 /// Planning of a system that is taken, into a buffer of zeros.
-pub fn planned(system: &System, cap: u64, limit: u64, answer: &mut [u8]) -> Reply {
-    let walked = walk(system, cap as usize, limit, answer.len() / SET_BYTES);
+pub fn planned(
+    hopeless: Hopeless,
+    system: &System,
+    cap: u64,
+    limit: u64,
+    answer: &mut [u8],
+) -> Reply {
+    let walked = walk(
+        system,
+        hopeless,
+        cap as usize,
+        limit,
+        answer.len() / SET_BYTES,
+    );
     let order = walked.level as u64;
     let steps = walked.steps;
     let (code, order, count) = match walked.end {
@@ -237,7 +262,7 @@ mod tests {
                 marked += 1;
             }
             let mut again = vec![0; ROOM];
-            let walked = super::planned(&moved, MOST_CAP, 2_000, &mut again);
+            let walked = super::planned(Hopeless::Closed, &moved, MOST_CAP, 2_000, &mut again);
             assert_eq!(walked, reply);
             assert!(again == sets);
             let set = read_set(system.n, system.marks, &sets[..SET_BYTES]).unwrap();
@@ -279,7 +304,7 @@ mod tests {
             let smallest: BTreeSet<Vec<u8>> =
                 sets.iter().map(|set| write_set(set).to_vec()).collect();
             let mut answer = vec![0; ROOM];
-            let reply = super::planned(&system, 2, MOST_LIMIT, &mut answer);
+            let reply = super::planned(Hopeless::Closed, &system, 2, MOST_LIMIT, &mut answer);
             let found: BTreeSet<Vec<u8>> = answer
                 .chunks(SET_BYTES)
                 .take(reply.count as usize)

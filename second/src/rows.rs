@@ -4,6 +4,7 @@
 //! them.
 
 use crate::batch::{Case, MOST_CASE_BUFFER};
+use crate::closing_rows;
 use crate::mark_rows;
 use crate::monomial::Monomial;
 use crate::no_room::NoRoom;
@@ -60,6 +61,11 @@ pub fn rows() -> Vec<Case> {
     rows.verdicts();
     rows.cases.extend(thin_rows::rows());
     rows.cases.extend(mark_rows::rows());
+    for case in closing_rows::rows() {
+        if !rows.cases.contains(&case) {
+            rows.cases.push(case);
+        }
+    }
     rows.cases
 }
 

@@ -252,6 +252,25 @@ fn mutual(random: &mut Random) -> System {
     draft.finish(random)
 }
 
+/// Three variables and six terms: many nonsquares from the start.
+pub fn six_terms(random: &mut Random) -> System {
+    let highest = random.pick(&[2, 3, 4, 9, 9, 9]);
+    six_terms_up_to(random, highest)
+}
+
+/// The same with exponents from 0 to a highest, each as likely.
+pub fn six_terms_up_to(random: &mut Random, highest: usize) -> System {
+    let mut draft = Draft::of(3);
+    while draft.terms.len() < 6 {
+        let mut monomial = Monomial::ONE;
+        for exponent in &mut monomial.0[..3] {
+            *exponent = random.between(0, highest) as u16;
+        }
+        draft.add(random.between(1, 3), monomial, coefficient(random));
+    }
+    draft.finish(random)
+}
+
 /// Moves the variables, marks and all, to other places among more variables, so
 /// that some are unused.
 fn spread(random: &mut Random, system: &System) -> System {

@@ -9,6 +9,7 @@ use crate::random::Random;
 use crate::records::{read_set, write_set, write_terms};
 use crate::system::{Set, System};
 use crate::systems::{self, Outside};
+use crate::walk::Hopeless;
 
 /// Thinning. With these shares some 500 cases go through every turn of places,
 /// and more than half of them are stories of a given set.
@@ -16,6 +17,7 @@ pub const THINNING: Mix = Mix {
     asks: &[Ask::Thin],
     given: &[Ask::Thin],
     outside: Outside::Nothing,
+    hopeless: Hopeless::Tried,
     shares: &[
         (18, Maker::thin_found_sets),
         (14, Maker::thin_closed_set),
@@ -64,7 +66,7 @@ impl Maker {
             let terms = write_terms(&system.terms);
             let n = system.n as u64;
             let plan = Case::plan(n, MOST_CAP, SHORT_WALK, MOST_CASE_BUFFER, terms);
-            let (reply, sets) = plan.marked(system.marks).answer();
+            let (reply, sets) = self.answer(&plan.marked(system.marks));
             if reply.code == 0 {
                 let found = sets.chunks(SET_BYTES).take(reply.count as usize);
                 let read = |record| read_set(system.n, system.marks, record).expect("a found set");

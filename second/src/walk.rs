@@ -1,8 +1,19 @@
-//! The walk, level by level (document 01, The walk; document 02, [3]).
+//! The walk, level by level (document 01, The walk; document 02, [3] and [4]).
 
+use crate::closing::lacks;
 use crate::monomial::Monomial;
 use crate::system::{Set, System};
 use std::collections::BTreeSet;
+
+/// What becomes of a set that lacks more monomials than its level has room for.
+#[derive(Clone, Copy, PartialEq, Eq, Debug)]
+pub enum Hopeless {
+    /// It is closed after its opening step.
+    Closed,
+    /// Its pairs are tried, as before document 02, [4]. No operation walks so: the
+    /// cases from that time are laid around these walks, and tests compare the two.
+    Tried,
+}
 
 /// How a walk ended.
 #[derive(Clone, Copy, PartialEq, Eq, Debug)]
@@ -13,23 +24,27 @@ pub enum End {
     Spent,
 }
 
-/// The end of a walk, the level it ended in, its steps and its finds.
+/// The end of a walk, the level it ended in, its steps and its finds; and how much
+/// room the level had left for the sets that were closed.
 pub struct Walked {
     pub end: End,
     pub level: usize,
     pub steps: u64,
     pub finds: BTreeSet<Vec<Monomial>>,
+    pub closed: BTreeSet<usize>,
 }
 
 /// Walks up to the cap, within the limit, with room for so many sets.
-pub fn walk(system: &System, cap: usize, limit: u64, room: usize) -> Walked {
+pub fn walk(system: &System, hopeless: Hopeless, cap: usize, limit: u64, room: usize) -> Walked {
     let mut walk = Walk {
         system,
+        hopeless,
         level: 0,
         limit,
         room,
         steps: 0,
         finds: BTreeSet::new(),
+        closed: BTreeSet::new(),
     };
     let end = walk.levels(cap);
     Walked {
@@ -37,6 +52,7 @@ pub fn walk(system: &System, cap: usize, limit: u64, room: usize) -> Walked {
         level: walk.level,
         steps: walk.steps,
         finds: walk.finds,
+        closed: walk.closed,
     }
 }
 
@@ -48,11 +64,13 @@ enum Stop {
 
 struct Walk<'a> {
     system: &'a System,
+    hopeless: Hopeless,
     level: usize,
     limit: u64,
     room: usize,
     steps: u64,
     finds: BTreeSet<Vec<Monomial>>,
+    closed: BTreeSet<usize>,
 }
 
 impl Walk<'_> {
@@ -82,10 +100,22 @@ impl Walk<'_> {
     fn open(&mut self, set: &Set) -> Result<(), Stop> {
         self.step()?;
         let nonsquares = self.system.nonsquares(set);
-        match nonsquares.into_iter().min_by_key(|m| (m.score(), *m)) {
+        match nonsquares.iter().min_by_key(|m| (m.score(), **m)) {
             None => self.find(set),
             Some(_) if set.len() == self.level => Ok(()),
-            Some(nonsquare) => self.try_pairs(set, nonsquare),
+            Some(_) if self.closes(set, &nonsquares) => {
+                self.closed.insert(self.level - set.len());
+                Ok(())
+            }
+            Some(nonsquare) => self.try_pairs(set, *nonsquare),
+        }
+    }
+
+    /// Whether a set lacks more monomials than the level has room for.
+    fn closes(&self, set: &Set, nonsquares: &BTreeSet<Monomial>) -> bool {
+        match self.hopeless {
+            Hopeless::Closed => set.len() + lacks(self.system, set, nonsquares) > self.level,
+            Hopeless::Tried => false,
         }
     }
 

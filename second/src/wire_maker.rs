@@ -8,6 +8,7 @@ use crate::panel::{MOST_TERMS, MOST_WIRES_BYTES, WIRE_BYTES};
 use crate::records::{write_set, write_terms};
 use crate::system::{Set, System};
 use crate::systems::{self, Outside};
+use crate::walk::Hopeless;
 use crate::wire_cover::Derivatives;
 
 /// Wiring, a fair share of it for the verdict alone.
@@ -15,6 +16,7 @@ pub const WIRING: Mix = Mix {
     asks: &[Ask::Verdict, Ask::Wire],
     given: &[Ask::Verdict, Ask::Wire],
     outside: Outside::Nothing,
+    hopeless: Hopeless::Tried,
     shares: &[
         (14, Maker::wire_found_set),
         (18, Maker::wire_closed_set),

@@ -129,7 +129,7 @@ fn unfed_variable() {
 fn rabinovich_fabrikant() {
     let names = ["x2^2", "x1 x2", "x1^2"];
     assert_eq!(verdict(3, RABINOVICH_FABRIKANT, &names), [6, 3, 0, 0, 0]);
-    plain(3, RABINOVICH_FABRIKANT, [0, 3, 1, 88, 0], &[&names]);
+    plain(3, RABINOVICH_FABRIKANT, [0, 3, 1, 70, 0], &[&names]);
     // Document 001 states the quadratic system; z1, z2, z3 are 6, 5, 4 here.
     let (numbers, list) = wires(3, RABINOVICH_FABRIKANT, &names);
     assert_eq!(numbers[..2], [0, 3]);

@@ -517,7 +517,7 @@ static void outside(void) {
     };
     plan("Example 5.3, u a knob", 3, NO_MARKS, CAP, LIMIT, BYTES(example_5_3), ROOM, FIVE(0, 1, 3, 8, 0), BYTES(as_knob));
     plan("x1'=x1^3+u x1", 2, MARK(2), CAP, LIMIT, BYTES(x3_ux), ROOM, FIVE(0, 1, 1, 6, 0), BYTES(set_x2));
-    plan("x1'=x1^3+u^2 x1", 2, MARK(2), CAP, LIMIT, BYTES(x3_uux), ROOM, FIVE(5, 7, 0, 61, 0), NO_BYTES);
+    plan("x1'=x1^3+u^2 x1", 2, MARK(2), CAP, LIMIT, BYTES(x3_uux), ROOM, FIVE(5, 7, 0, 55, 0), NO_BYTES);
     plan("a knob and a signal", 3, MARK(3), CAP, LIMIT, BYTES(knob_and_u), ROOM, FIVE(0, 1, 1, 8, 0), BYTES(set_x1x2));
     plan("a product with a signal", 4, MARK(3), CAP, LIMIT, BYTES(product), ROOM, FIVE(0, 1, 1, 7, 0), BYTES(set_x1x2));
     plan("a product with two", 4, MARK(2) | MARK(3), CAP, LIMIT, BYTES(product), ROOM, FIVE(5, 7, 0, 31, 0), NO_BYTES);
@@ -543,6 +543,33 @@ static void outside(void) {
     thin("a product with a signal", 4, MARK(3), BYTES(product), BYTES(set_waves), ROOM, FIVE(0, 1, 1, 8, 0), BYTES(set_x1x2));
     thin("signals alone", 3, MARK(1) | MARK(2) | MARK(3), NO_BYTES, BYTES(empty), ROOM, FIVE(0, 0, 1, 1, 0), BYTES(empty));
     thin("signals that no term contains", 6, unused, BYTES(x4_x3), BYTES(by_hand), ROOM, FIVE(0, 2, 2, 8, 0), BYTES(both_sets));
+}
+
+/* Sets that need more new signals than there are cards are closed: the same sets in fewer steps. */
+static void closing(void) {
+    static const uint8_t fabrikant[] = {
+        TERM(1, 0, 1, 1, 1), TERM(1, 0, 1, 0, -1), TERM(1, 2, 1, 0, 1), TERM(1, 1, 0, 0, 1), TERM(2, 1, 0, 1, 3),
+        TERM(2, 1, 0, 0, 1), TERM(2, 3, 0, 0, -1), TERM(2, 0, 1, 0, 1), TERM(3, 0, 0, 1, -2), TERM(3, 1, 1, 1, -2),
+    };
+    static const uint8_t fabrikant_set[SIRAGUMON_SET_BYTES] = {0, 2, 0, 0, 0, 0, 1, 1, 0, 0, 0, 0, 2, 0, 0, 0, 0, 0};
+    plan("Rabinovich-Fabrikant", 3, NO_MARKS, CAP, 70, BYTES(fabrikant), ROOM, FIVE(0, 3, 1, 70, 0), BYTES(fabrikant_set));
+    plan("Rabinovich-Fabrikant, limit 69", 3, NO_MARKS, CAP, 69, BYTES(fabrikant), ROOM, FIVE(7, 3, 0, 69, 0), NO_BYTES);
+
+    static const uint8_t two_powers[] = {TERM(1, 4, 0, 0, 1), TERM(1, 2, 3, 0, 1), TERM(2, 3, 1, 0, 1)};
+    static const uint8_t two_powers_set[SIRAGUMON_SET_BYTES] = {1, 3, 0, 0, 0, 0, 3, 0, 0, 0, 0, 0};
+    plan("x1^4+x1^2 x2^3, x1^3 x2", 2, NO_MARKS, CAP, 24, BYTES(two_powers), ROOM, FIVE(0, 2, 1, 24, 0), BYTES(two_powers_set));
+    plan("the same, limit 23", 2, NO_MARKS, CAP, 23, BYTES(two_powers), ROOM, FIVE(7, 2, 0, 23, 0), NO_BYTES);
+    plan("the same, no room", 2, NO_MARKS, CAP, LIMIT, BYTES(two_powers), 35, FIVE(6, 2, 0, 21, 0), NO_BYTES);
+
+    /* more than 1,000,000 steps where nothing is closed */
+    static const uint8_t three[] = {
+        TERM(1, 3, 6, 3, 2), TERM(1, 4, 7, 7, 2), TERM(2, 1, 6, 5, 1), TERM(2, 0, 6, 4, 3), TERM(3, 5, 1, 2, -2), TERM(3, 7, 2, 6, 1),
+    };
+    static const uint8_t three_set[SIRAGUMON_SET_BYTES] = {
+        0, 5, 4, 0, 0, 0, 1, 5, 5, 0, 0, 0, 2, 6, 3, 0, 0, 0, 3, 7, 7, 0, 0, 0, 5, 1, 1, 0, 0, 0, 7, 2, 5, 0, 0, 0,
+    };
+    plan("three variables", 3, NO_MARKS, CAP, 16230, BYTES(three), ROOM, FIVE(0, 6, 1, 16230, 0), BYTES(three_set));
+    plan("three variables, limit 16,229", 3, NO_MARKS, CAP, 16229, BYTES(three), ROOM, FIVE(7, 6, 0, 16229, 0), NO_BYTES);
 }
 
 static void outside_refused(void) {
@@ -624,6 +651,7 @@ int main(void) {
     null(1, NO_MARKS);
     null(2, MARK(2));
     outside();
+    closing();
     outside_refused();
     all_marks();
     printf("%d calls, %d failures\n", cases, failures);

@@ -2,6 +2,7 @@
 pub mod Tests
 pub mod Members
 pub mod Rearranged
+pub mod Different
 pub mod Variables
 pub mod Within
 pub mod Counting

@@ -1,14 +1,17 @@
--- Loops over arrays of any width: one that fills a list place by place (`Filling`), and ones that compare two lists
--- (`Comparing`). Each loop's invariant is one of these two records. Assumes nothing.
+-- Loops over lists of any length: ones that fill a list place by place (`Filling`, `Pasting`), compare two (`Comparing`), look through one (`Seeking`,
+-- `Placing`, `Checking`), or collect what its entries give (`Collecting`). Each record is a loop's invariant. Assumes nothing.
 use mathlib.Core.Path.{_≡_, refl, sym, ap, ap₂, _∙_, subst}
 use mathlib.Core.Bool.{Bool, true, false}
-use mathlib.Core.List.{List, [], _∷_, _++_}
+use mathlib.Core.Logic.{⊎-elim}
+use mathlib.Core.List.{List, [], _∷_, _++_, append-nil, List·Memᴰ·append-cases, Memᴰ·append-left, Memᴰ·append-right}
 use Prim.Native.Nat.{ℕ, zero, suc, _+_, _≤_, _<_}
 use native.Mathlib.Omega.{arith}
 use native.Mathlib.Numerals.{add-one}
 use lib.ListN.{length, take, drop, set, getD, replicate, length-set, drop-of-length-le}
 use lib.Seq.{paste, paste-zero, paste-suc, length-paste, take-suc, take-suc-set, take-all, drop-cons, set-at, length-take-le, append-snoc}
-use Rattle.monomial.specs.Lists.{any, all, place, pairwise, pointwise}
+use Rattle.monomial.specs.Lists.{any, all, place, pairwise, pointwise, gather}
+use Rattle.monomial.specs.Claims.{_⊆_}
+use Rattle.monomial.proofs.Members.{Gathered, gather-in, gather-out, gather-append, take-in}
 
 module _ {A : Type 0} (d : A) where
   -- ---- a loop that makes r the list t, and has come to place i
@@ -243,3 +246,39 @@ module _ {A : Type 0} (f : A → A → A) where
       units [] = refl
       units (y ∷ b) = ap₂ _∷_ (r y) (units b)
   pointwise-raise u r (x ∷ a) (suc i) s h = ap₂ _∷_ (r x) (pointwise-raise u r a i s (omega arith))
+
+-- ---- a loop that goes through l, and knows P of what f gives for the entries that it has met, in any order and with repeats
+abbrev pub OfMembers : {B : Type 0} → (List B → Type 0) → Type 0
+OfMembers {B} P = (a b : List B) → a ⊆ b → b ⊆ a → P a → P b
+
+module _ {A B : Type 0} (f : A → List B) (l : List A) where
+  pub record Collecting (P : List B → Type 0) (i : ℕ) : Type 0 where
+    pub within : i ≤ length l
+    pub holds : P (gather f (take i l))
+
+  pub collecting-start : (P : List B → Type 0) → P [] → Collecting P 0
+  unfolding gather
+  collecting-start P h = record { within = omega arith; holds = h }
+
+  -- what has been met so far, in the whole
+  pub collecting-sub : (i : ℕ) → gather f (take i l) ⊆ gather f l
+  collecting-sub i y h = let g : Gathered f y (take i l) = gather-out f (take i l) h in gather-in f l (take-in i l (g .member)) (g .inside)
+
+  turned : (a b : List B) → (a ++ b) ⊆ (b ++ a)
+  turned a b y h = ⊎-elim (λ k. Memᴰ·append-right b k) (λ k. Memᴰ·append-left a k) (List·Memᴰ·append-cases a h)
+
+  module _ {i : ℕ} (d : A) (h : i < length l) where
+    one-more : gather f (take (i + 1) l) ≡ gather f (take i l) ++ f (getD l i d)
+    unfolding gather
+    one-more =
+        rw (add-one i, take-suc l i d h)
+        (gather-append f (take i l) (getD l i d ∷ []) ∙ ap (λ (r : List B). gather f (take i l) ++ r) (append-nil (f (getD l i d))))
+
+    pub collecting-next : {P Q : List B → Type 0} → Collecting P i → OfMembers Q → ((m : List B) → P m → Q (f (getD l i d) ++ m)) → Collecting Q (i + 1)
+    collecting-next {P} {Q} c o more =
+        let old = gather f (take i l) in
+        let new = f (getD l i d) in
+        record { within = omega arith; holds = rw one-more (o (new ++ old) (old ++ new) (turned new old) (turned old new) (more old (c .holds))) }
+
+  pub collecting-end : {P : List B → Type 0} {i : ℕ} → Collecting P i → length l ≤ i → P (gather f l)
+  collecting-end {P} {i} c h = subst (λ (r : List A). P (gather f r)) (take-all i l h) (c .holds)

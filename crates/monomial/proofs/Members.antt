@@ -1,9 +1,9 @@
 -- Members of the lists that `any`, `keep` and `gather` speak of. Assumes nothing.
 use mathlib.Core.Path.{_≡_, refl, sym, ap, ap₂, subst, _∙_}
 use mathlib.Core.Logic.{⊎-elim}
-use mathlib.Core.Bool.{Bool}
+use mathlib.Core.Bool.{Bool, cond, _&&_, _||_}
 use mathlib.Core.List.{List, [], _∷_, List·Memᴰ·head, List·Memᴰ·tail, List·Memᴰ·cases-cons, List·Memᴰ·not-nil, List·Memᴰ·append-cases, Memᴰ·append-left, Memᴰ·append-right, _++_, map, append-assoc}
-use lib.ListN.{length, getD, take, replicate}
+use lib.ListN.{length, getD, take, drop, replicate}
 use Prim.Native.Nat.{ℕ, zero, suc, _<_, _≤_}
 use native.Mathlib.Omega.{arith}
 use lib.Dec.{T}
@@ -23,6 +23,10 @@ module _ {A : Type 0} where
   unfolding any
   any-in f {l = y ∷ l} (List·Memᴰ·head e) t = or-l (f y) (any f l) (subst (λ z. T (f z)) e t)
   any-in f {l = y ∷ l} (List·Memᴰ·tail h) t = or-r (f y) (any f l) (any-in f h t)
+
+  pub any-cons : (f : A → Bool) (x : A) (l : List A) → any f (x ∷ l) ≡ (f x || any f l)
+  unfolding any
+  any-cons f x l = refl
 
   -- an entry that passes
   pub record Passing (f : A → Bool) (l : List A) : Type 0 where
@@ -158,6 +162,23 @@ keep-swap f g (x ∷ l) = go (test (f x)) (test (g x)) (keep-swap f g l)
     go (failed a) (passed b) ih = simp (a, b) ih
     go (failed a) (failed b) ih = simp (a, b) ih
 
+-- two tests, one after the other
+pub keep-both : {A : Type 0} (f g : A → Bool) (l : List A) → keep f (keep g l) ≡ keep (λ x. g x && f x) l
+unfolding keep
+keep-both f g [] = refl
+keep-both f g (x ∷ l) = go (keep-both f g l) (test (g x)) (test (f x))
+  where
+    go : keep f (keep g l) ≡ keep (λ x. g x && f x) l → Tested (g x) → Tested (f x) → keep f (keep g (x ∷ l)) ≡ keep (λ x. g x && f x) (x ∷ l)
+    go ih (passed a) (passed b) = rw (a, b) (ap (_∷_ x) ih)
+    go ih (passed a) (failed b) = rw (a, b) ih
+    go ih (failed a) b = rw a ih
+
+-- a test that says the same of each entry
+pub keep-same : {A : Type 0} (f g : A → Bool) (l : List A) → ((x : A) → x ∈ l → f x ≡ g x) → keep f l ≡ keep g l
+unfolding keep
+keep-same f g [] e = refl
+keep-same {A} f g (x ∷ l) e = ap₂ (λ (b : Bool) (r : List A). cond b (x ∷ r) r) (e x here) (keep-same f g l (λ y h. e y (there h)))
+
 pub keep-length : {A : Type 0} (f : A → Bool) (l : List A) → length (keep f l) ≤ length l
 unfolding keep
 keep-length f [] = omega arith
@@ -170,6 +191,12 @@ pub gather-append : {A B : Type 0} (f : A → List B) (a b : List A) → gather 
 unfolding gather
 gather-append f [] b = refl
 gather-append f (x ∷ a) b = ap (λ l. f x ++ l) (gather-append f a b) ∙ sym (append-assoc (f x) (gather f a) (gather f b))
+
+-- each entry by itself
+pub gather-alone : {A : Type 0} (l : List A) → gather (λ x. x ∷ []) l ≡ l
+unfolding gather
+gather-alone [] = refl
+gather-alone (x ∷ l) = ap (_∷_ x) (gather-alone l)
 
 pub gather-same : {A B : Type 0} (f g : A → List B) (l : List A) → ((x : A) → x ∈ l → f x ≡ g x) → gather f l ≡ gather g l
 unfolding gather
@@ -204,3 +231,11 @@ take-more zero b l h k = absurd (List·Memᴰ·not-nil k)
 take-more (suc a) zero l h k = let z : ⊥ = omega arith in absurd z
 take-more (suc a) (suc b) [] h k = k
 take-more (suc a) (suc b) (y ∷ l) h k = ⊎-elim (λ e. List·Memᴰ·head e) (λ j. there (take-more a b l (omega arith) j)) (List·Memᴰ·cases-cons k)
+
+-- more entries, of which none passes
+pub keep-more : {A : Type 0} (f : A → Bool) (n b : ℕ) (l : List A) → n ≤ b → ((x : A) → x ∈ drop n l → T (f x) → ⊥) → keep f (take n l) ≡ keep f (take b l)
+unfolding keep
+keep-more f zero b l h e = sym (keep-none f (take b l) (λ x i. e x (take-in b l i)))
+keep-more f (suc n) zero l h e = let z : ⊥ = omega arith in absurd z
+keep-more f (suc n) (suc b) [] h e = refl
+keep-more {A} f (suc n) (suc b) (x ∷ l) h e = ap (λ (r : List A). cond (f x) (x ∷ r) r) (keep-more f n b l (omega arith) e)

@@ -6,11 +6,11 @@ use Rattle.monomial.specs.Claims.{_∈_, Rearranged}
 use Rattle.monomial.proofs.Members.{there}
 
 module _ {A : Type 0} where
-  between-in : (front back : List A) (x : A) {y : A} → (y ≡ x) ⊎ (y ∈ (front ++ back)) → y ∈ (front ++ (x ∷ back))
+  pub between-in : (front back : List A) (x : A) {y : A} → (y ≡ x) ⊎ (y ∈ (front ++ back)) → y ∈ (front ++ (x ∷ back))
   between-in front back x (inl e) = Memᴰ·append-right front (List·Memᴰ·head e)
   between-in front back x (inr h) = ⊎-elim (λ k. Memᴰ·append-left (x ∷ back) k) (λ k. Memᴰ·append-right front (there k)) (List·Memᴰ·append-cases front h)
 
-  between-out : (front back : List A) (x : A) {y : A} → y ∈ (front ++ (x ∷ back)) → (y ≡ x) ⊎ (y ∈ (front ++ back))
+  pub between-out : (front back : List A) (x : A) {y : A} → y ∈ (front ++ (x ∷ back)) → (y ≡ x) ⊎ (y ∈ (front ++ back))
   between-out front back x h =
       ⊎-elim (λ k. inr (Memᴰ·append-left back k))
       (λ k. ⊎-elim (λ e. inl e) (λ j. inr (Memᴰ·append-right front j)) (List·Memᴰ·cases-cons k))

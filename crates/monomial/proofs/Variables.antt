@@ -2,16 +2,17 @@
 use mathlib.Core.Path.{_≡_, refl, sym, ap, _∙_, subst}
 use mathlib.Core.Logic.{⊎-elim}
 use mathlib.Core.Bool.{Bool}
-use mathlib.Core.List.{[], _∷_, map, List·Memᴰ·cases-cons, List·Memᴰ·not-nil, Memᴰ·of-map}
+use mathlib.Core.List.{[], _∷_, map, List·Memᴰ·cases-cons, List·Memᴰ·not-nil, Memᴰ·cast, Memᴰ·of-map}
 use Prim.Native.Nat.{ℕ, zero, suc, _-_, _<_, _≤_}
 use native.Mathlib.Omega.{arith}
 use lib.Dec.{T}
-use lib.ListN.{length, getD, set, length-map, length-replicate}
+use lib.ListN.{length, getD, drop, set, length-map, length-replicate}
 use Rattle.monomial.specs.Lists.{keep}
 use Rattle.monomial.specs.Monomial.{Mono, one, vars, constants}
 use Rattle.monomial.specs.Product.{AtMost}
-use Rattle.monomial.specs.Claims.{_∈_}
+use Rattle.monomial.specs.Claims.{_∈_, Different}
 use Rattle.monomial.proofs.Tests.{Tested, passed, failed, test, is→T, is→nT}
+use Rattle.monomial.proofs.Different.{different-map}
 use Rattle.monomial.proofs.Members.{map-at, fill-at, keep-map, keep-none, keep-yes, keep-no}
 
 pub vars-length : (w : ℕ) → length (vars w) ≡ w
@@ -49,6 +50,29 @@ vars-fit b (suc w) h m k = ⊎-elim first (later (vars-fit b w h)) (List·Memᴰ
 
 pub constants-fit : (b w : ℕ) → 1 ≤ b → (m : Mono) → m ∈ constants w → (length m ≡ w) × AtMost b m
 constants-fit b w h m k = ⊎-elim (λ e. rw e (length-replicate w 0, one-fits b w)) (vars-fit b w h m) (List·Memᴰ·cases-cons k)
+
+-- no two of them are alike: of two variables one has the first exponent that the other lacks, and 1 has none
+pub vars-different : (w : ℕ) → Different (vars w)
+unfolding vars
+vars-different zero = tt
+vars-different (suc w) = (out, different-map (_∷_ 0) (vars w) (λ x y h k e. ap (drop 1) e) (vars-different w))
+  where
+    out : (1 ∷ one w) ∈ map (_∷_ 0) (vars w) → ⊥
+    out h = let p = Memᴰ·of-map (_∷_ 0) (vars w) h in let z : _≡_ {A = ℕ} 0 1 = ap (λ (m : Mono). getD m 0 0) (p .2) in omega arith
+
+one-apart : (w : ℕ) → one w ∈ vars w → ⊥
+unfolding vars
+one-apart zero h = List·Memᴰ·not-nil h
+one-apart (suc w) h = ⊎-elim first (λ k. later (one-apart w) (Memᴰ·of-map (_∷_ 0) (vars w) k)) (List·Memᴰ·cases-cons h)
+  where
+    first : 0 ∷ one w ≡ 1 ∷ one w → ⊥
+    first e = let z : _≡_ {A = ℕ} 0 1 = ap (λ (m : Mono). getD m 0 0) e in omega arith
+
+    later : (one w ∈ vars w → ⊥) → (y : Mono) × (y ∈ vars w) × (0 ∷ y ≡ 0 ∷ one w) → ⊥
+    later ih p = ih (Memᴰ·cast (sym (ap (drop 1) (p .2))) (p .1))
+
+pub constants-different : (w : ℕ) → Different (constants w)
+constants-different w = (one-apart w, vars-different w)
 
 -- a test that asks for an exponent of one variable is passed by one variable at the most
 pub vars-one : (w j : ℕ) (f : Mono → Bool) → ((x : Mono) → T (f x) → 0 < getD x j 0) → length (keep f (vars w)) ≤ 1

@@ -5,7 +5,7 @@ use mathlib.Core.List.{List, [], _∷_, map, List·Memᴰ·head, List·Memᴰ·c
 use Prim.Native.Nat.{ℕ, zero, suc, _<_, _≤_}
 use native.Mathlib.Omega.{arith}
 use lib.Dec.{T, leb}
-use lib.ListN.{getD, set, take}
+use lib.ListN.{getD, set, take, drop}
 use Rattle.monomial.specs.Lists.{pairwise, pointwise}
 use Rattle.monomial.specs.Monomial.{Mono, one, vars, constants}
 use Rattle.monomial.specs.Product.{mul, AtMost}
@@ -84,6 +84,28 @@ within-vars n (suc w) x h k = ⊎-elim (λ e. first n e k) (λ i. later n (λ j 
     later (suc j) ih g q =
         let b : Within j (q .0) = subst (Within (suc j)) (sym (q .2)) g in
         there (subst (λ (z : Mono). z ∈ take j (map (_∷_ 0) (vars w))) (q .2) (rw (take-map (_∷_ 0) j (vars w)) (Memᴰ·map (_∷_ 0) (ih j (q .0) (q .1) b))))
+
+drop-map : {A B : Type 0} (f : A → B) (n : ℕ) (l : List A) → drop n (map f l) ≡ map f (drop n l)
+drop-map f zero l = refl
+drop-map f (suc n) [] = refl
+drop-map f (suc n) (x ∷ l) = drop-map f n l
+
+-- a variable beyond xn holds itself
+pub vars-beyond : (n w : ℕ) (x : Mono) → x ∈ drop n (vars w) → Within n x → ⊥
+unfolding vars
+vars-beyond zero zero x h k = List·Memᴰ·not-nil h
+vars-beyond (suc n) zero x h k = List·Memᴰ·not-nil h
+vars-beyond zero (suc w) x h k = ⊎-elim first (λ i. later (vars-beyond zero w) (Memᴰ·of-map (_∷_ 0) (vars w) i)) (List·Memᴰ·cases-cons h)
+  where
+    first : x ≡ 1 ∷ one w → ⊥
+    first e = let b : AtMost 0 (1 ∷ one w) = rw e at k in omega (arith, b .0)
+
+    later : ((y : Mono) → y ∈ vars w → AtMost 0 y → ⊥) → (y : Mono) × (y ∈ vars w) × (0 ∷ y ≡ x) → ⊥
+    later ih q = let b : AtMost 0 (0 ∷ q .0) = rw (sym (q .2)) at k in ih (q .0) (q .1) (b .1)
+vars-beyond (suc n) (suc w) x h k = later (vars-beyond n w) (Memᴰ·of-map (_∷_ 0) (drop n (vars w)) (subst (λ l. x ∈ l) (drop-map (_∷_ 0) n (vars w)) h))
+  where
+    later : ((y : Mono) → y ∈ drop n (vars w) → Within n y → ⊥) → (y : Mono) × (y ∈ drop n (vars w)) × (0 ∷ y ≡ x) → ⊥
+    later ih q = ih (q .0) (q .1) (subst (Within (suc n)) (sym (q .2)) k)
 
 -- a constant that holds one of the first n variables holds no other
 raised-within : (n w i : ℕ) (z : Mono) → z ∈ vars w → i < n → 0 < getD z i 0 → Within n z

@@ -28,6 +28,11 @@ pub data Ascending {A : Type 0} (before : A → A → Bool) : List A → Type 0 
   empty : Ascending before []
   first : {x : A} {l : List A} → ((y : A) → y ∈ l → T (before x y)) → Ascending before l → Ascending before (x ∷ l)
 
+-- no entry occurs twice
+abbrev pub Different : {A : Type 0} → List A → Type 0
+Different [] = Unit {0}
+Different (x ∷ l) = (x ∈ l → ⊥) × Different l
+
 -- a list in another order: the first entry stands between two parts, which together are the rest in another order
 abbrev pub Rearranged : {A : Type 0} → List A → List A → Type 0
 Rearranged [] l' = l' ≡ []

@@ -8,6 +8,10 @@ pub mod Complete
 pub mod Runs
 pub mod Stops
 pub mod Begins
+pub mod Alike
+pub mod Closing
+pub mod Counting
 pub mod Smallest
+pub mod Heedless
 pub mod Unused
 pub mod Worked

@@ -1,9 +1,9 @@
 -- What the laws of the walk ask of its rules, and what the rules say of a child and of a set; document 01's rules keep all of it, whatever a
--- new monomial may be. Assumes nothing.
-use mathlib.Core.Path.{_≡_, refl, sym, ap, subst, fun-ext}
+-- new monomial may be. A panel's rules close by counting, which is no part of what counts. Assumes nothing.
+use mathlib.Core.Path.{_≡_, sym, ap, subst, fun-ext}
 use mathlib.Core.Logic.{_⊎_, inl, inr, ⊎-elim}
 use mathlib.Core.Bool.{Bool, true, false, _&&_, _||_}
-use mathlib.Core.List.{List, List·Memᴰ·not-nil, Memᴰ·cast}
+use mathlib.Core.List.{List, [], List·Memᴰ·not-nil, Memᴰ·cast}
 use Prim.Native.Nat.{ℕ, _-_, _<_, _≤_}
 use borrow.Author.Tests.{lt-leb, leb-true, leb-false}
 use lib.Dec.{T, leb, leb→le, le→leb}
@@ -17,15 +17,14 @@ use Rattle.monomial.proofs.Tests.{Tested, passed, failed, test, T→is, is→T,
 use Rattle.monomial.proofs.Rearranged.{rearranged-self, rearranged-in, rearranged-out}
 use Rattle.monomial.proofs.order.Laws.{mono-order}
 use Rattle.monomial.proofs.order.Ascending.{among-in, among-out}
-use Rattle.wiring.specs.Poly.{Poly}
 use Rattle.wiring.specs.Sockets.{panelOf, mayBe}
 use Rattle.wiring.specs.declared.panel.Panel.{Panel}
 use Rattle.wiring.specs.Signals.{signals}
 use Rattle.wiring.specs.Claims.{Free}
 use Rattle.wiring.proofs.sockets.Laws.{may-in, may-out, unmarked-may}
 use Rattle.wiring.proofs.signals.Laws.{set-in}
-use Rattle.walk.specs.Walk.{Rules, allowing, bare, rulesOf, child, opens, ends}
-use Rattle.walk.specs.Claims.{Orderly, Extends, Counts, Sparing}
+use Rattle.walk.specs.Walk.{Rules, allowing, bare, counted, rulesOf, child, opens, ends}
+use Rattle.walk.specs.Claims.{Orderly, Extends, Counts}
 use Rattle.walk.proofs.children.Laws.{child-sub, Grown, old, left, right, child-out, Placed, was, now, child-left, child-right}
 
 -- ---- the pairs that are tried are those of the nonsquare, in some order
@@ -54,6 +53,10 @@ module _ (r : Rules) where
 
     pub extends-upper : Extends r c t
     extends-upper = record { holds = sub; may = λ x h. ⊎-elim (λ k. inl (up x k)) (λ k. inr k) (e .may x h) }
+
+-- what is closed, and the order of the pairs, are no part of it
+pub extends-by : (r r' : Rules) → ((m : Mono) → T (r .may m) → T (r' .may m)) → (s t : List Mono) → Extends r s t → Extends r' s t
+extends-by r r' f s t e = record { holds = e .holds; may = λ m h. ⊎-elim (λ k. inl k) (λ k. inr (f m k)) (e .may m h) }
 
 -- a child is opened exactly where what it adds may be, and it has at most k monomials
 module _ (r : Rules) (n k : ℕ) (s : List Mono) (p : Mono × Mono) where
@@ -96,6 +99,10 @@ module _ (r : Rules) (n k : ℕ) (s ns : List Mono) where
   unfolding ends
   goes-on h e = rw (e, lt-leb k (length s) h)
 
+  pub closed-ends : r .closed (k - length s) (signals width n s) ns ≡ true → ends r n k s ns ≡ true
+  unfolding ends
+  closed-ends e = rw e
+
   pub at-its-level : k ≤ length s → ends r n k s ns ≡ true
   unfolding ends
   at-its-level h = T→is (ends r n k s ns) (or-r (r .closed (k - length s) (signals width n s) ns) (leb k (length s)) (le→leb k (length s) h))
@@ -112,12 +119,6 @@ module _ (may : Mono → Bool) where
   pub allowing-orderly : Orderly (allowing may)
   allowing-orderly v m = rearranged-self (pairs m)
 
-  pub allowing-goes-on : (n k : ℕ) (s ns : List Mono) → length s < k → ends (allowing may) n k s ns ≡ false
-  allowing-goes-on n k s ns h = goes-on (allowing may) n k s ns h refl
-
-  pub allowing-sparing : (n : ℕ) (fs : List (Poly Mono)) → Sparing (allowing may) n fs
-  allowing-sparing n fs room s t a b w e q h c = subst T (sym c) tt
-
   -- the lists that count are those whose monomials may be
   pub allowing-counts : (s : List Mono) → ((m : Mono) → m ∈ s → T (may m)) → Counts (allowing may) s
   allowing-counts s f = record { holds = λ x h. absurd (List·Memᴰ·not-nil h); may = λ x h. inr (f x h) }
@@ -131,12 +132,18 @@ bare-extends s = allowing-counts (λ m. true) s (λ m h. tt)
 
 -- by a panel's those without signals
 module _ (panel : Panel) (s : List Mono) where
+  abbrev open-rules : Rules
+  open-rules = allowing (mayBe panel)
+
   pub free-counts : Free (panel .marks) s → Counts (rulesOf panel) s
-  free-counts f = allowing-counts (mayBe panel) s (λ m h. may-in panel m (f m h))
+  free-counts f = extends-by open-rules (rulesOf panel) (λ m t. t) [] s (allowing-counts (mayBe panel) s (λ m h. may-in panel m (f m h)))
 
   pub counts-free : Counts (rulesOf panel) s → Free (panel .marks) s
-  counts-free c m h = may-out panel m (counts-allowed (mayBe panel) s c m h)
+  counts-free c m h = may-out panel m (counts-allowed (mayBe panel) s (extends-by (rulesOf panel) open-rules (λ m t. t) [] s c) m h)
 
--- with no marks they are document 01's
-pub unmarked-rules : (n : ℕ) → rulesOf (panelOf n 0) ≡ bare
-unmarked-rules n = ap allowing (fun-ext (unmarked-may n))
+-- with no marks everything may be: they are document 01's, closed by counting
+pub unmarked-open : (n : ℕ) → allowing (mayBe (panelOf n 0)) ≡ bare
+unmarked-open n = ap allowing (fun-ext (unmarked-may n))
+
+pub unmarked-rules : (n : ℕ) → rulesOf (panelOf n 0) ≡ counted bare
+unmarked-rules n = ap counted (unmarked-open n)

@@ -23,14 +23,14 @@ use Rattle.wiring.specs.Terms.{Record, records, system, CleanFor, CleanTerms}
 use Rattle.wiring.specs.Answers.{missing}
 use Rattle.wiring.specs.Claims.{Recordable, base}
 use Rattle.wiring.proofs.terms.Laws.{Fields, fields-out, clean-right, clean-for, exponents-everywhere}
-use Rattle.wiring.proofs.signals.Laws.{base-in, signals-cases}
+use Rattle.wiring.proofs.signals.Laws.{signals-cases}
 use Rattle.walk.specs.Walk.{Rules, child, found, opened}
 use Rattle.walk.specs.Turns.{Walked}
 use Rattle.walk.specs.Claims.{Orderly, Extends, Proper, Sound}
 use Rattle.walk.specs.Openings.{Inherited}
 use Rattle.walk.proofs.Rules.{extends-self, extends-on, opens-fits, opens-extends}
 use Rattle.walk.proofs.Openings.{steps-keep}
-use Rattle.walk.proofs.children.Laws.{Grown, old, left, right, child-out, Imaged, imaged, child-walked, walked-fits}
+use Rattle.walk.proofs.children.Laws.{Grown, old, left, right, child-out, child-new, Imaged, imaged, child-walked, walked-fits}
 
 -- ---- variables beyond xn
 pub base-within : (n : ℕ) (x : Mono) → x ∈ base n → Within n x
@@ -62,18 +62,13 @@ module _ (n : ℕ) (terms : List ℕ) (clean : CleanFor n terms) where
         subst (Within n) (i .from .is) (within-mul n (set (i .of) at e) (r .monomial) (within-set n (i .of) at e (omega arith) own) term)
 
     pub keeps-proper : (r : Rules) (k : ℕ) → Inherited r n fs k (Proper n)
-    keeps-proper r k s m p q h j f = record { new = λ x i. new-of x (child-out n s p i); within = λ x i. within-of x (child-out n s p i) }
+    keeps-proper r k s m p q h j f = record { new = child-new n s p (q .new); within = λ x i. within-of x (child-out n s p i) }
       where
         two : IsPair p m
         two = pairs-out p m j
 
         gap : Within n m
         gap = gap-within s q m h
-
-        new-of : (x : Mono) → Grown n s p x → x ∈ base n → ⊥
-        new-of x (old i) b = q .new x i b
-        new-of x (left e o) b = o (base-in n s b)
-        new-of x (right e o) b = o (base-in n s b)
 
         factor : (a b : Mono) → length a ≡ length b → mul a b ≡ m → Within n a
         factor a b l e = within-divides n a m (subst (λ (y : Mono). T (divides a y)) e (factor-divides a b l)) gap

@@ -3,7 +3,7 @@
 use mathlib.Core.Path.{_≡_, refl, sym, ap, _∙_, subst}
 use mathlib.Core.Logic.{⊎-elim}
 use mathlib.Core.Bool.{Bool, cond}
-use mathlib.Core.List.{List, [], _∷_, List·Memᴰ·not-nil}
+use mathlib.Core.List.{List, [], _∷_}
 use Prim.Native.Nat.{ℕ, zero, suc, _-_, _/_, _≤_}
 use native.Mathlib.Omega.{arith}
 use lib.Dec.{T, leb}
@@ -42,13 +42,14 @@ use Rattle.wiring.proofs.sockets.Laws.{may-same}
 use Rattle.wiring.proofs.answers.Exact.{panel-in}
 use Rattle.wiring.proofs.terms.Laws.{Fields, fields-out, clean-right, clean-widens, clean-for}
 use Rattle.wiring.proofs.signals.Laws.{base-in, set-in, signals-cases}
-use Rattle.walk.specs.Walk.{Rules, allowing, rulesOf, added, child, Step, opens, ends, tried, after, opened, level, Run, ended, spent, full, run}
+use Rattle.walk.specs.Walk.{Rules, allowing, counted, rulesOf, added, child, Step, opens, ends, tried, after, opened, level, Run, ended, spent, full, run}
 use Rattle.walk.specs.Plan.{Ending, settled, levels, plan, settingsRight, planned}
 use Rattle.walk.specs.Claims.{Orderly, Proper, Heedless}
 use Rattle.walk.proofs.children.Laws.{chosen-in, signals-wide, Grown, old, left, right, child-out, nonsquare-wide}
 use Rattle.walk.proofs.Steps.{tried-alike, after-alike}
 use Rattle.walk.proofs.Rules.{tries-out, allowing-orderly}
-use Rattle.walk.proofs.Sound.{within-base, empty-proper, gap-within, keeps-proper}
+use Rattle.walk.proofs.Sound.{within-base, gap-within, keeps-proper}
+use Rattle.walk.proofs.Heedless.{allowing-heedless, counted-heedless}
 
 -- V has more in it, but nothing more that says nothing of the further variables
 module _ (n b : ℕ) (more : n ≤ b) (s : List Mono) where
@@ -160,15 +161,7 @@ settled-same limit k f g (ended t (s ∷ l)) e = refl
 settled-same limit k f g spent e = refl
 settled-same limit k f g (full t) e = refl
 
--- ---- rules that heed no unused variable: of a set and nonsquares that hold none they say the same for n and for b variables
-pub allowing-heedless : (may : Mono → Bool) (n b : ℕ) → Heedless (allowing may) n b
-allowing-heedless may n b = record {
-  proper = empty-proper n;
-  wide = λ x i. absurd (List·Memᴰ·not-nil i);
-  closing = λ room s ns q w i x. refl;
-  trying = λ s m q w i x. refl;
-}
-
+-- ---- rules that heed no unused variable
 module _ (r : Rules) (o : Orderly r) (n b : ℕ) (heed : Heedless r n b) (terms : List ℕ) (more : n ≤ b) (few : b ≤ width) (clean : CleanFor n terms) where
   abbrev system-of : List (Poly Mono)
   system-of = system (records terms)
@@ -258,6 +251,7 @@ planned-same panel b cap limit terms size ranged more few clean =
     let low : 1 ≤ n = ranged .low in
     let wide : Ranged (widened panel b) = record { low = omega arith; high = few; known = λ i h. ranged .known i (omega arith) } in
     let own : CleanFor n terms = clean-for panel n terms (omega arith) clean in
-    let plans = plan-same (rulesOf panel) (allowing-orderly (mayBe panel)) n b (allowing-heedless (mayBe panel) n b) terms more few own limit (size / setBytes) cap in
-    let rules = ap (λ (may : Mono → Bool). plan (allowing may) b (system (records terms)) limit (size / setBytes) cap) (may-same (panel .n) b (panel .marks)) in
+    let heed : Heedless (rulesOf panel) n b = counted-heedless (allowing (mayBe panel)) n b more (allowing-heedless (mayBe panel) n b) in
+    let plans = plan-same (rulesOf panel) (allowing-orderly (mayBe panel)) n b heed terms more few own limit (size / setBytes) cap in
+    let rules = ap (λ (may : Mono → Bool). plan (counted (allowing may)) b (system (records terms)) limit (size / setBytes) cap) (may-same (panel .n) b (panel .marks)) in
     rw (panel-in panel ranged, panel-in (widened panel b) wide, clean, clean-widens panel (widened panel b) more (λ i e. e) (records terms) clean, plans ∙ rules)

@@ -1,5 +1,6 @@
 -- Planning computed by the definitions from the bytes of the term records: document 01's sums worked by hand, marked P, with every byte of the
--- buffer and the wiring of the first set, then each refusal and both sides of the limits, then signals. One table, one claim. Assumes nothing.
+-- buffer and the wiring of the first set, then each refusal and both sides of the limits, then signals, then what counting closes. The rows marked P
+-- keep their steps. One table, one claim. Assumes nothing.
 use mathlib.Core.Path.{_≡_, refl, sym, ap, _∙_}
 use mathlib.Core.List.{List, [], _∷_, _++_, map}
 use Prim.Native.Nat.{ℕ, _*_, _-_}
@@ -22,7 +23,8 @@ use Rattle.wiring.specs.Sets.{places, sizeOf, setOf, ascending, monomialRight, 
 use Rattle.wiring.specs.Wires.{firstOf, secondOf, row as rowOf, rowsFrom, wiring, wireRecord}
 use Rattle.wiring.specs.Answers.{firstUnmet, judged, recordJudged, verdict, listed, told, wired}
 use Rattle.wiring.specs.Panel.{setBytes}
-use Rattle.walk.specs.Walk.{added, child, opens, ends, tried, after, opened, level, kept, onward, run}
+use Rattle.counting.specs.Counting.{quotientsOf, count, insertDown, sortDown, counts, sum, mayDo, leastFrom, needed, closes}
+use Rattle.walk.specs.Walk.{allowing, added, child, opens, ends, tried, after, opened, level, kept, onward, run}
 use Rattle.walk.specs.Plan.{settled, levels, plan, setsBytes, said, settingsRight, planned}
 
 record Row : Type 0 where
@@ -39,6 +41,10 @@ plus equation m = equation ∷ 0 ∷ padded m ++ 1 ∷ 0 ∷ 0 ∷ 0 ∷ []
 
 unfoldable pub minus : ℕ → List ℕ → List ℕ
 minus equation m = equation ∷ 0 ∷ padded m ++ 255 ∷ 255 ∷ 255 ∷ 255 ∷ []
+
+-- with any coefficient
+term : ℕ → List ℕ → List ℕ → List ℕ
+term equation m coefficient = equation ∷ 0 ∷ padded m ++ coefficient
 
 -- a set record
 unfoldable pub set : List (List ℕ) → List ℕ
@@ -65,12 +71,30 @@ planning n = marking n 0
 usual : ℕ → List ℕ → Numbers → List (List (List ℕ)) → Row
 usual n = planning n 6 1000000 36000
 
+-- the same by the walk that closes nothing
+unclosing : ℕ → ℕ → List ℕ → Numbers → List (List (List ℕ)) → Row
+unclosing n marks terms numbers sets = record {
+  got = said (plan (allowing (mayBe (panelOf n marks))) n (system (records terms)) 1000000 1000 6) 36000;
+  want = record { said = numbers; bytes = gather set sets ++ replicate (36000 - 36 * length sets) 0 };
+}
+
 -- wiring a set into room for 224 records
 wiringOf : ℕ → List ℕ → List (List ℕ) → Numbers → List (List ℕ) → Row
 wiringOf n terms s numbers list = record {
   got = wired (panelOf n 0) terms (set s) 1792;
   want = record { said = numbers; bytes = gather (λ w. w) list ++ replicate (1792 - 8 * length list) 0 };
 }
+
+-- x1' = x1^4 + x1^2 x2^3, x2' = x1^3 x2
+saving : List ℕ
+saving = plus 1 (4 ∷ []) ++ plus 1 (2 ∷ 3 ∷ []) ++ plus 2 (3 ∷ 1 ∷ [])
+
+-- x' = yz - y + x^2 y + x, y' = 3xz + x - x^3 + y, z' = -2z - 2xyz
+fabrikant : List ℕ
+fabrikant =
+    plus 1 (0 ∷ 1 ∷ 1 ∷ []) ++ minus 1 (0 ∷ 1 ∷ []) ++ plus 1 (2 ∷ 1 ∷ []) ++ plus 1 (1 ∷ [])
+    ++ term 2 (1 ∷ 0 ∷ 1 ∷ []) (3 ∷ 0 ∷ 0 ∷ 0 ∷ []) ++ plus 2 (1 ∷ []) ++ minus 2 (3 ∷ []) ++ plus 2 (0 ∷ 1 ∷ [])
+    ++ term 3 (0 ∷ 0 ∷ 1 ∷ []) (254 ∷ 255 ∷ 255 ∷ 255 ∷ []) ++ term 3 (1 ∷ 1 ∷ 1 ∷ []) (254 ∷ 255 ∷ 255 ∷ 255 ∷ [])
 
 table : List Row
 table =
@@ -153,22 +177,37 @@ table =
     ∷ marking 3 4 6 1000000 72 (plus 1 (1 ∷ []) ++ plus 1 (1 ∷ 0 ∷ 1 ∷ []) ++ plus 2 (2 ∷ 0 ∷ 1 ∷ [])) (five 0 1 1 6 0) (((2 ∷ []) ∷ []) ∷ [])
     -- x1' = x1^3 + u x1, and x1' = x1^3 + u^2 x1
     ∷ marking 2 2 6 1000000 72 (plus 1 (3 ∷ []) ++ plus 1 (1 ∷ 1 ∷ [])) (five 0 1 1 6 0) (((2 ∷ []) ∷ []) ∷ [])
-    ∷ marking 2 2 6 1000000 72 (plus 1 (3 ∷ []) ++ plus 1 (1 ∷ 2 ∷ [])) (five 5 7 0 61 0) []
+    ∷ marking 2 2 6 1000000 72 (plus 1 (3 ∷ []) ++ plus 1 (1 ∷ 2 ∷ [])) (five 5 7 0 55 0) []
     -- a mark at n, and all marks
     ∷ marking 1 2 6 1 5 (plus 1 (2 ∷ [])) (five 1 0 0 0 0) []
     ∷ marking 6 18446744073709551615 6 1 5 [] (five 1 0 0 0 0) []
     -- every variable is a signal; then the equation of one is wrong, and comes before the repeat
     ∷ marking 6 63 6 1 37 [] (five 0 0 1 1 0) ([] ∷ [])
     ∷ marking 2 2 6 1 5 (plus 1 (2 ∷ []) ++ plus 2 (2 ∷ []) ++ plus 2 (2 ∷ [])) (five 3 0 0 0 2) []
+    -- closing saves steps, beside the walk that closes nothing; at the limit, and one less; with no room
+    ∷ usual 2 saving (five 0 2 1 24 0) (((1 ∷ 3 ∷ []) ∷ (3 ∷ []) ∷ []) ∷ [])
+    ∷ unclosing 2 0 saving (five 0 2 1 37 0) (((1 ∷ 3 ∷ []) ∷ (3 ∷ []) ∷ []) ∷ [])
+    ∷ planning 2 6 24 36 saving (five 0 2 1 24 0) (((1 ∷ 3 ∷ []) ∷ (3 ∷ []) ∷ []) ∷ [])
+    ∷ planning 2 6 23 36 saving (five 7 2 0 23 0) []
+    ∷ planning 2 6 1000000 0 saving (five 6 2 0 21 0) []
+    -- x1' = x1^3 + u^2 x1 again
+    ∷ unclosing 2 2 (plus 1 (3 ∷ []) ++ plus 1 (1 ∷ 2 ∷ [])) (five 5 7 0 61 0) []
+    -- document 001's example 2, Rabinovich-Fabrikant with a = b = 1
+    ∷ usual 3 fabrikant (five 0 3 1 70 0) (((0 ∷ 2 ∷ []) ∷ (1 ∷ 1 ∷ []) ∷ (2 ∷ []) ∷ []) ∷ [])
+    ∷ unclosing 3 0 fabrikant (five 0 3 1 88 0) (((0 ∷ 2 ∷ []) ∷ (1 ∷ 1 ∷ []) ∷ (2 ∷ []) ∷ []) ∷ [])
+    -- document 001's example 3, and with room for no set
+    ∷ usual 2 (plus 1 (0 ∷ 4 ∷ []) ++ plus 2 (2 ∷ [])) (five 0 3 1 145 0) (((0 ∷ 3 ∷ []) ∷ (1 ∷ 2 ∷ []) ∷ (3 ∷ []) ∷ []) ∷ [])
+    ∷ planning 2 6 1000000 0 (plus 1 (0 ∷ 4 ∷ []) ++ plus 2 (2 ∷ [])) (five 6 3 0 109 0) []
     ∷ []
 
 -- replies, buffers and lists are as written
 worked : map (λ r. r .got) table ≡ map (λ r. r .want) table
-unfolding table usual planning marking wiringOf plus minus set wire back padded planned settingsRight said setsBytes plan levels settled run onward
+unfolding table usual planning marking wiringOf unclosing saving fabrikant plus minus term set wire back padded planned settingsRight said setsBytes plan levels settled run onward
     kept level opened after ends tried opens child added cheaper chosen pairs divisors score setRecord wired told listed verdict recordJudged judged firstUnmet
     halved marked countRight panelRight free mayBe records lengthRight exponentsRight coefficientRight termRight faultFrom equation system places sizeOf setOf ascending monomialRight
     setRight firstOf secondOf rowOf rowsFrom wiring wireRecord signals factor inV2 unmet nonsquares partsFrom derivative coeff times support signed
-    unsigned isZero vars any some all keep place gather below pairwise pointwise dictionary insertBy arrangeBy
+    unsigned isZero vars any some all keep place gather below pairwise pointwise dictionary insertBy arrangeBy closes needed leastFrom mayDo sum counts
+    sortDown insertDown count quotientsOf
 worked = refl
 
 -- one reply does not do for all: x' = x^2 and x' = x^3 with cap 0 have different ones
@@ -180,7 +219,7 @@ pub two-systems : TwoSystems
 unfolding plus padded planned settingsRight said setsBytes plan levels settled run onward kept level opened after ends tried opens child added cheaper
     chosen pairs divisors score setRecord halved marked countRight panelRight free mayBe records lengthRight exponentsRight coefficientRight termRight faultFrom equation system signals
     factor inV2 unmet nonsquares partsFrom derivative coeff times support signed isZero vars any some all keep gather below pairwise pointwise
-    dictionary insertBy arrangeBy
+    dictionary insertBy arrangeBy closes needed leastFrom mayDo sum
 two-systems = record { square = refl; cube = refl }
 
 pub plan-not-constant : (x : Numbers) → ((panel : Panel) (most limit : ℕ) (terms : List ℕ) (size : ℕ) → x ≡ planned panel most limit terms size .said) → ⊥

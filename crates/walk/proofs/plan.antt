@@ -3,3 +3,4 @@ pub mod Laws
 pub mod Exact
 pub mod Records
 pub mod Sockets
+pub mod Closing

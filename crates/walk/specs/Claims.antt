@@ -1,7 +1,7 @@
 -- What is claimed of planning: the sets that a walk finds, when it ends and how, and that they are all smallest quadratic sets. Assumes nothing.
 use mathlib.Core.Path.{_≡_}
 use mathlib.Core.Logic.{_⊎_}
-use mathlib.Core.Bool.{true, cond}
+use mathlib.Core.Bool.{true, false, cond}
 use mathlib.Core.List.{List, [], _∷_, _++_}
 use Prim.Native.Nat.{ℕ, suc, _+_, _*_, _-_, _/_, _≤_, _<_}
 use lib.Dec.{T, eqb}
@@ -23,7 +23,7 @@ use Rattle.wiring.specs.Claims.{Wide, base, Measured, Breaks, Repeats, Flawless
 use Rattle.wiring.specs.declared.panel.Panel.{Panel}
 use Rattle.wiring.specs.declared.reply.Reply.{Reply}
 use Rattle.wiring.specs.declared.reply.Reply.the-variants.{Done, Setting, Length, Term, Twice, Nothing, Full, Spent, BadSet, NotQuadratic}
-use Rattle.walk.specs.Walk.{Finds, Rules, rulesOf, Step, found, other, level, walked, opened, Run, ended, spent, full}
+use Rattle.walk.specs.Walk.{Finds, Rules, rulesOf, Taken, Step, found, other, level, walked, opened, Run, ended, spent, full}
 use Rattle.walk.specs.Plan.{Ending, done, none, fullAt, spentAt, plan, setsBytes}
 use Rattle.walk.specs.Turns.{Walked}
 
@@ -173,6 +173,30 @@ module _ (r : Rules) (n : ℕ) (fs : List (Poly Mono)) (room cap : ℕ) where
   pub record SpentBy (limit : ℕ) : Type 0 where
     pub level : ℕ
     pub is : plan r n fs limit room cap ≡ spentAt level limit
+
+-- ---- two walks
+-- the same steps but for some that find nothing, which the first list leaves out
+pub data Pruned : List Step → List Step → Type 0 where
+  no-steps : Pruned [] []
+  same-step : (e : Step) {es fs : List Step} → Pruned es fs → Pruned (e ∷ es) (e ∷ fs)
+  left-out : (t : Taken) {es fs : List Step} → Pruned es fs → Pruned es (other t ∷ fs)
+
+-- by the rules r' each level up to the cap finds the sets that it finds by r, in no more steps: more exactly, some that find nothing are left out
+pub record Alike (r r' : Rules) (n : ℕ) (fs : List (Poly Mono)) (cap : ℕ) : Type 0 where
+  pub sets : (k : ℕ) → k ≤ cap → distinct (level r' n fs k) ≡ distinct (level r n fs k)
+  pub steps : (k : ℕ) → k ≤ cap → length (level r' n fs k) ≤ length (level r n fs k)
+  pub pruned : (k : ℕ) → k ≤ cap → Pruned (level r' n fs k) (level r n fs k)
+
+-- an ending e beside another: the same but for the steps, and these are not more; where the other's limit is spent, any with no more steps
+abbrev pub NoMore : Ending → Ending → Type 0
+NoMore e (done j u l) = (k : ℕ) × (k ≤ u) × (e ≡ done j k l)
+NoMore e (none j u) = (k : ℕ) × (k ≤ u) × (e ≡ none j k)
+NoMore e (fullAt j u) = (k : ℕ) × (k ≤ u) × (e ≡ fullAt j k)
+NoMore e (spentAt j u) = stepsOf e ≤ u
+
+-- the same rules, where nothing is closed
+abbrev pub unclosed : Rules → Rules
+unclosed r = record { may = r .may; closed = λ room v ns. false; tries = r .tries; start = r .start }
 
 -- ---- smallest
 -- Definition 1 for V of a list of monomials, by a derivation of them

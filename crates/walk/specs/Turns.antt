@@ -1,9 +1,10 @@
 -- What the functions of the walk ask and tell of a run. Assumes nothing.
 use mathlib.Core.Path.{_≡_}
 use mathlib.Core.Bool.{Bool, true, false}
-use mathlib.Core.List.{List, _∷_}
+use mathlib.Core.List.{List, [], _∷_}
 use Prim.Native.Nat.{ℕ, _*_, _/_, _≤_, _<_}
 use lib.ListN.{length}
+use Rattle.monomial.specs.Lists.{some}
 use Rattle.monomial.specs.Monomial.{Mono, width}
 use Rattle.monomial.specs.Product.{AtMost}
 use Rattle.monomial.specs.Claims.{_∈_}
@@ -14,7 +15,9 @@ use Rattle.wiring.specs.Quadratic.{nonsquares}
 use Rattle.wiring.specs.Signals.{signals}
 use Rattle.wiring.specs.Sets.{monomialsOf}
 use Rattle.wiring.specs.Terms.{records, system, CleanTerms}
+use Rattle.wiring.specs.Claims.{base}
 use Rattle.wiring.specs.declared.sets.Set.{Set}
+use Rattle.counting.specs.declared.verdict.Verdict.{Verdict}
 use Rattle.walk.specs.declared.children.Tried.{Tried}
 use Rattle.walk.specs.declared.walk.State.{State}
 use Rattle.walk.specs.declared.walk.Turn.{Turn}
@@ -52,14 +55,19 @@ pub record Showing (count : ℕ) (out : List ℕ) : Type 0 where
   pub finds : Finds
   pub shown : Shown finds count out
 
--- what the opener asks
-pub record Ready (n : ℕ) (terms : List ℕ) (level : ℕ) (set : Set) (count : ℕ) (out : List ℕ) : Type 0 where
+-- a set that may be opened at a level: none of its monomials is 1 or a variable
+pub record Openable (n : ℕ) (terms : List ℕ) (level : ℕ) (set : Set) : Type 0 where
   pub size : set .len ≡ length (monomialsOf set)
   pub within : set .len ≤ level
   pub low : level ≤ cards
   pub few : n ≤ width
   pub clean : CleanTerms terms
   pub walked : Walked (monomialsOf set)
+  pub new : (m : Mono) → m ∈ monomialsOf set → m ∈ base n → ⊥
+
+-- what the opener asks
+pub record Ready (n : ℕ) (terms : List ℕ) (level : ℕ) (set : Set) (count : ℕ) (out : List ℕ) : Type 0 where
+  pub opening : Openable n terms level set
   pub showing : Showing count out
 
 -- a found set, with the buffer that is to show it
@@ -72,11 +80,27 @@ pub record Splits (n : ℕ) (terms : List ℕ) (level : ℕ) (set : Set) (m : Mo
   pub below : set .len < level
   pub member : m ∈ nonsquares plain (signals width n (monomialsOf set)) (derivative plain (system (records terms)))
 
--- ---- what taking the step of an opening tells, by given rules
-module _ (r : Rules) (n : ℕ) (terms : List ℕ) (level limit : ℕ) (set : Set) (st : State) (out₀ : List ℕ) where
-  abbrev gaps : List Mono
+-- ---- what becomes of an opened set, by given rules
+module _ (r : Rules) (n : ℕ) (terms : List ℕ) (level : ℕ) (set : Set) where
+  abbrev pub gaps : List Mono
   gaps = nonsquares plain (signals width n (monomialsOf set)) (derivative plain (system (records terms)))
 
+  -- the set goes on with a nonsquare
+  pub record GoesOn (m : Mono) : Type 0 where
+    pub first : Mono
+    pub others : List Mono
+    pub are : gaps ≡ first ∷ others
+    pub on : ends r n level (monomialsOf set) (first ∷ others) ≡ false
+    pub is : m ≡ chosen first others
+
+  -- it is found, it goes no further, or it goes on
+  pub record Weighed (v : Verdict) : Type 0 where
+    pub finds : v .found ≡ true → gaps ≡ []
+    pub shuts : v .found ≡ false → v .split ≡ false → (some gaps ≡ true) × (ends r n level (monomialsOf set) gaps ≡ true)
+    pub splits : v .found ≡ false → v .split ≡ true → GoesOn (v .m .e)
+
+-- ---- what taking the step of an opening tells
+module _ (r : Rules) (n : ℕ) (terms : List ℕ) (level limit : ℕ) (set : Set) (st : State) (out₀ : List ℕ) where
   -- nothing follows: the turn is that of the opening, whatever the bound on the depth
   abbrev pub NothingFollows : Turn → List ℕ → Type 0
   NothingFollows turn out = (d : ℕ) (finds : Finds) → 0 < d → Shown finds (st .count) out₀
@@ -85,11 +109,7 @@ module _ (r : Rules) (n : ℕ) (terms : List ℕ) (level limit : ℕ) (set : Set
   -- the pairs of a nonsquare follow: the step is taken, the set goes on, and the buffer is as it was
   pub record PairsFollow (m : Mono) (out : List ℕ) : Type 0 where
     pub taken : st .steps < limit
-    pub first : Mono
-    pub others : List Mono
-    pub are : gaps ≡ first ∷ others
-    pub on : ends r n level (monomialsOf set) (first ∷ others) ≡ false
-    pub is : m ≡ chosen first others
+    pub goes : GoesOn r n terms level set m
     pub kept : out ≡ out₀
 
   abbrev pub SteppedBy : Bool → Opened → List ℕ → Type 0

@@ -1,5 +1,5 @@
 -- The walk as the list of its steps, by given rules and without a limit; and a run of that list under a limit of steps and of room. Document 01's
--- walk is that by the rules `bare`, a panel's that by `rulesOf`. Assumes nothing.
+-- walk is that by the rules `bare`, which close nothing; a panel's is that by `rulesOf`, which close by counting. Assumes nothing.
 use mathlib.Core.Bool.{Bool, true, false, cond, _&&_, _||_}
 use mathlib.Core.List.{List, [], _∷_}
 use Prim.Native.Nat.{ℕ, zero, suc, _+_, _-_}
@@ -16,6 +16,7 @@ use Rattle.wiring.specs.Derivative.{derivative}
 use Rattle.wiring.specs.Quadratic.{nonsquares}
 use Rattle.wiring.specs.Signals.{signals}
 use Rattle.wiring.specs.Choice.{chosen}
+use Rattle.counting.specs.Counting.{closes}
 
 -- a list of sets
 abbrev pub Finds : Type 0
@@ -48,9 +49,14 @@ allowing may = record { may = may; closed = λ room v ns. false; tries = λ v m.
 abbrev pub bare : Rules
 bare = allowing (λ m. true)
 
--- a panel's: no new monomial holds a signal
+-- given rules with the counting rule of document 001, section 5.1: a set is closed where its nonsquares need more monomials, of those that may be,
+-- than there is room for below the level
+abbrev pub counted : Rules → Rules
+counted r = record { may = r .may; closed = closes (r .may); tries = r .tries; start = r .start }
+
+-- a panel's: no new monomial holds a signal, and sets are closed by counting
 abbrev pub rulesOf : Panel → Rules
-rulesOf panel = allowing (mayBe panel)
+rulesOf panel = counted (allowing (mayBe panel))
 
 -- a step without a find: a pair is tried, or a set is opened that is not quadratic
 pub data Taken : Type 0 where

@@ -3,6 +3,7 @@ use super::walk;
 use super::walk::Frame;
 use super::walk::State;
 use super::walk::Turn;
+use counting::verdict::LIST_BYTES;
 use wiring::buffer;
 use wiring::panel::CARDS;
 use wiring::panel::MOST_STEPS;
@@ -39,11 +40,13 @@ fn settings_right(n: u64, marks: u64, cap: u64, limit: u64) -> bool
     limit <= MOST_STEPS
 }
 
-// The levels from 0 to the cap; the buffer is all zeros at the start.
+// The levels from 0 to the cap; the buffer is all zeros at the start. One list of nonsquares serves all sets: each is done with it before the next
+// is opened.
 fn climb(terms: &[u8], out: &mut [u8], panel: Panel, cap: usize, limit: u64) -> Reply
     requires { ⌜ (panel .n ≤ width) × ((cap ≤ cards) × (CleanTerms (now terms) × (now out ≡ replicate (length (now out)) 0))) ⌝ }
     ensures { λ r. ⌜ outcome r (now (out .exit)) ≡ said (plan (rulesOf panel) (panel .n) (system (records (now (terms .entry)))) limit (length (now (out .entry)) / setBytes) cap) (length (now (out .entry))) ⌝ }
 {
+    let mut list = [0u8; LIST_BYTES];
     let mut steps: u64 = 0;
     let mut k: usize = 0;
     while k <= cap {
@@ -52,7 +55,14 @@ fn climb(terms: &[u8], out: &mut [u8], panel: Panel, cap: usize, limit: u64) -> 
             level: k,
             limit,
         };
-        match walk::open(terms, out, f, Set::EMPTY, State { steps, count: 0 }) {
+        match walk::open(
+            terms,
+            out,
+            &mut list,
+            f,
+            Set::EMPTY,
+            State { steps, count: 0 },
+        ) {
             Turn::Going(s) => {
                 let count = s.count;
                 steps = s.steps;

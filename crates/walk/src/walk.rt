@@ -2,6 +2,8 @@
 use super::children;
 use super::listing;
 use super::listing::Kept;
+use counting::verdict;
+use counting::verdict::Verdict;
 use monomial::Monomial;
 use wiring::panel::Panel;
 use wiring::panel::TABLE_BYTES;
@@ -16,7 +18,8 @@ ghost use Rattle.wiring.specs.Terms.{records, system};
 ghost use Rattle.wiring.specs.Sets.{monomialsOf};
 ghost use Rattle.walk.specs.Walk.{Finds, rulesOf, opened, triedAll, run, kept};
 ghost use Rattle.walk.specs.Listing.{Shown};
-ghost use Rattle.walk.specs.Turns.{Tells, Ready, Splits, Found, Stepped};
+ghost use Rattle.counting.specs.Verdict.{listBytes};
+ghost use Rattle.walk.specs.Turns.{Tells, Openable, Ready, Splits, Found, Weighed, Stepped};
 
 // What stays the same through a level.
 pub struct Frame {
@@ -58,9 +61,27 @@ fn found(out: &mut [u8], set: Set, st: State) -> Turn
     }
 }
 
+// Whether a set is found, and else whether it goes on and with which nonsquare. At its level it only may be found: nothing is counted there.
+fn judge(terms: &[u8], list: &mut [u8], f: Frame, set: Set) -> Verdict
+    requires { ⌜ Openable (f .panel .n) (now terms) (f .level) set × (listBytes ≤ length (now list)) ⌝ }
+    ensures { λ r. ⌜ Weighed (rulesOf (f .panel)) (f .panel .n) (now (terms .entry)) (f .level) set r ⌝ }
+{
+    let v = signals::signals_of(f.panel.n, set);
+    let mut table = [0u8; TABLE_BYTES];
+    let used = signals::products_of(v, &mut table);
+    if f.level <= set.len {
+        return Verdict {
+            found: v.len <= quadratic::first_unmet(terms, v, &table[..used]),
+            split: false,
+            m: Monomial::ONE,
+        };
+    }
+    verdict::verdict_of(terms, list, f.panel, v, &table[..used], f.level - set.len)
+}
+
 // Takes the step of opening a set, and says what follows.
-fn take_step(terms: &[u8], out: &mut [u8], f: Frame, set: Set, st: State) -> Opened
-    requires { ⌜ Ready (f .panel .n) (now terms) (f .level) set (st .count) (now out) ⌝ }
+fn take_step(terms: &[u8], out: &mut [u8], list: &mut [u8], f: Frame, set: Set, st: State) -> Opened
+    requires { ⌜ Ready (f .panel .n) (now terms) (f .level) set (st .count) (now out) × (listBytes ≤ length (now list)) ⌝ }
     ensures { λ r. ⌜ Stepped (rulesOf (f .panel)) (f .panel .n) (now (terms .entry)) (f .level) (f .limit) set st (now (out .entry)) r (now (out .exit)) ⌝ }
 {
     let taken = st.steps;
@@ -75,40 +96,38 @@ fn take_step(terms: &[u8], out: &mut [u8], f: Frame, set: Set, st: State) -> Ope
         steps: taken + 1,
         count: st.count,
     };
-    let v = signals::signals_of(f.panel.n, set);
-    let mut table = [0u8; TABLE_BYTES];
-    let used = signals::products_of(v, &mut table);
-    if v.len <= quadratic::first_unmet(terms, v, &table[..used]) {
+    let o = judge(terms, list, f, set);
+    if o.found {
         return Opened {
             turn: found(out, set, next),
             split: false,
             m: Monomial::ONE,
         };
     }
-    if f.level <= set.len {
-        return Opened {
-            turn: Turn::Going(next),
-            split: false,
-            m: Monomial::ONE,
-        };
-    }
-    let p = quadratic::choose(terms, v, &table[..used]);
-    let m = p.m;
+    let split = o.split;
+    let m = o.m;
     Opened {
         turn: Turn::Going(next),
-        split: true,
+        split,
         m,
     }
 }
 
 // Opens a set: one step, and then its pairs.
-pub(crate) fn open(terms: &[u8], out: &mut [u8], f: Frame, set: Set, st: State) -> Turn
-    requires { ⌜ Ready (f .panel .n) (now terms) (f .level) set (st .count) (now out) ⌝ }
+pub(crate) fn open(
+    terms: &[u8],
+    out: &mut [u8],
+    list: &mut [u8],
+    f: Frame,
+    set: Set,
+    st: State,
+) -> Turn
+    requires { ⌜ Ready (f .panel .n) (now terms) (f .level) set (st .count) (now out) × (listBytes ≤ length (now list)) ⌝ }
     ensures { λ r. ⌜ ((d : ℕ) (finds : Finds) → f .level - set .len < d → Shown finds (st .count) (now (out .entry)) →
         Tells r (now (out .exit))
         (run (f .limit) (length (now (out .entry)) / setBytes) (opened (rulesOf (f .panel)) (f .panel .n) (system (records (now (terms .entry)))) (f .level) d (monomialsOf set)) (st .steps) finds)) ⌝ }
 {
-    let o = take_step(terms, out, f, set, st);
+    let o = take_step(terms, out, list, f, set, st);
     if !o.split {
         return o.turn;
     }
@@ -117,12 +136,20 @@ pub(crate) fn open(terms: &[u8], out: &mut [u8], f: Frame, set: Set, st: State) 
         steps: st.steps + 1,
         count: st.count,
     };
-    pairs(terms, out, f, set, m, next)
+    pairs(terms, out, list, f, set, m, next)
 }
 
 // Runs the factor pairs of m: one step each, and a child is walked to its end before the next pair.
-fn pairs(terms: &[u8], out: &mut [u8], f: Frame, set: Set, m: Monomial, st: State) -> Turn
-    requires { ⌜ Ready (f .panel .n) (now terms) (f .level) set (st .count) (now out) × Splits (f .panel .n) (now terms) (f .level) set (m .e) ⌝ }
+fn pairs(
+    terms: &[u8],
+    out: &mut [u8],
+    list: &mut [u8],
+    f: Frame,
+    set: Set,
+    m: Monomial,
+    st: State,
+) -> Turn
+    requires { ⌜ Ready (f .panel .n) (now terms) (f .level) set (st .count) (now out) × (Splits (f .panel .n) (now terms) (f .level) set (m .e) × (listBytes ≤ length (now list))) ⌝ }
     ensures { λ r. ⌜ ((d : ℕ) (finds : Finds) → f .level - set .len ≤ d → Shown finds (st .count) (now (out .entry)) →
         Tells r (now (out .exit))
         (run (f .limit) (length (now (out .entry)) / setBytes)
@@ -145,7 +172,7 @@ fn pairs(terms: &[u8], out: &mut [u8], f: Frame, set: Set, m: Monomial, st: Stat
         let t = children::offer(f.level, f.panel, v, set, a, m.over(a));
         if t.go {
             let c = t.set;
-            match open(terms, out, f, c, cur) {
+            match open(terms, out, list, f, c, cur) {
                 Turn::Going(s) => {
                     cur = s;
                 }

@@ -35,7 +35,7 @@ fn is_cheaper(a: Monomial, b: Monomial) -> bool
 }
 
 // The cheapest, once m is met too.
-pub(crate) fn cheapest(p: Pick, m: Monomial) -> Pick
+pub fn cheapest(p: Pick, m: Monomial) -> Pick
     ensures { λ r. ⌜ ((l : List Mono) → Best cheaper l p → Best cheaper (m .e ∷ l) r) ⌝ }
 {
     let old = p.m;

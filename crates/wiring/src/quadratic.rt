@@ -1,5 +1,4 @@
-// Nonsquares: whether a set is quadratic, which signal is the first that is not met, and which nonsquare is split.
-use super::choice;
+// Nonsquares: whether a set is quadratic, and which signal is the first that is not met.
 use super::choice::Pick;
 use super::coefficient;
 use super::derivative;
@@ -9,7 +8,7 @@ use super::signals::Signals;
 use monomial::Monomial;
 ghost use mathlib.Core.Path.{_≡_};
 ghost use mathlib.Core.Bool.{not};
-ghost use mathlib.Core.List.{List, _++_};
+ghost use mathlib.Core.List.{List};
 ghost use Prim.Native.Nat.{_+_, _*_, _≤_, _<_};
 ghost use lib.ListN.{length};
 ghost use Rattle.monomial.specs.Lists.{any, place};
@@ -19,13 +18,13 @@ ghost use Rattle.monomial.specs.Product.{AtMost};
 ghost use Rattle.wiring.specs.Panel.{termBytes, setExponent, mostSignals};
 ghost use Rattle.wiring.specs.Poly.{plain};
 ghost use Rattle.wiring.specs.Derivative.{derivative, image, offers};
-ghost use Rattle.wiring.specs.Quadratic.{products, unmet, lacking, nonsquares};
+ghost use Rattle.wiring.specs.Quadratic.{products, lacking};
 ghost use Rattle.wiring.specs.Signals.{Fitting, signalsOf, tabled};
 ghost use Rattle.wiring.specs.Terms.{recordAt, records, system, CleanTerms};
-ghost use Rattle.wiring.specs.Choice.{cheaper, Picked, Best, Offered};
+ghost use Rattle.wiring.specs.Choice.{Offered};
 
 // The monomial of record t in the derivative of z, where it has a coefficient and is not in V2. The total, which is dear, is asked last.
-fn nonsquare_of(terms: &[u8], t: usize, z: Monomial, sq: &[u8]) -> Pick
+pub fn nonsquare_of(terms: &[u8], t: usize, z: Monomial, sq: &[u8]) -> Pick
     requires { ⌜ CleanTerms (now terms) × ((termBytes * t + termBytes ≤ length (now terms)) × AtMost setExponent (z .e)) ⌝ }
     ensures { λ r. ⌜ Offered (offers (λ m. not (any (same m) (tabled (now (sq .entry))))) (system (records (now (terms .entry)))) (z .e) (recordAt (now (terms .entry)) t)) (image (recordAt (now (terms .entry)) t) (z .e)) r ⌝ }
 {
@@ -33,7 +32,7 @@ fn nonsquare_of(terms: &[u8], t: usize, z: Monomial, sq: &[u8]) -> Pick
         return Pick::NONE;
     }
     let m = derivative::image(terms, t, z);
-    if signals::is_product(sq, m) {
+    if signals::is_tabled(sq, m) {
         return Pick::NONE;
     }
     if coefficient::is_zero(derivative::total(terms, z, m)) {
@@ -74,39 +73,4 @@ pub fn first_unmet(terms: &[u8], v: Signals, sq: &[u8]) -> usize
         j += 1;
     }
     len
-}
-
-// The cheapest, once the nonsquares of the derivative of z are met too.
-fn choose_in(p: Pick, terms: &[u8], z: Monomial, sq: &[u8]) -> Pick
-    requires { ⌜ CleanTerms (now terms) × AtMost setExponent (z .e) ⌝ }
-    ensures { λ r. ⌜ ((v l : List Mono) → tabled (now (sq .entry)) ≡ products plain v → Best cheaper l p →
-        Best cheaper (unmet plain v (derivative plain (system (records (now (terms .entry)))) (z .e)) ++ l) r) ⌝ }
-{
-    let count = terms.len() / TERM_BYTES;
-    let mut best = p;
-    let mut t: usize = 0;
-    while t < count {
-        let p = nonsquare_of(terms, t, z, sq);
-        if p.some {
-            best = choice::cheapest(best, p.m);
-        }
-        t += 1;
-    }
-    best
-}
-
-// The nonsquare of a set that is split, where there is one.
-pub fn choose(terms: &[u8], v: Signals, sq: &[u8]) -> Pick
-    requires { ⌜ CleanTerms (now terms) × ((v .len ≤ mostSignals) × (Fitting setExponent (signalsOf v) × (tabled (now sq) ≡ products plain (signalsOf v)))) ⌝ }
-    ensures { λ r. ⌜ Picked (nonsquares plain (signalsOf v) (derivative plain (system (records (now (terms .entry)))))) r ⌝ }
-{
-    let len = v.len;
-    let mut best = Pick::NONE;
-    let mut j: usize = 0;
-    while j < len {
-        let z = v.m[j];
-        best = choose_in(best, terms, z, sq);
-        j += 1;
-    }
-    best
 }

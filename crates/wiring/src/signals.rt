@@ -83,8 +83,8 @@ pub fn products_of(v: Signals, table: &mut [u8]) -> usize
     at
 }
 
-// Whether m is in the table. It is lent: a copy for each question would cost more than the search.
-pub(crate) fn is_product(table: &[u8], m: Monomial) -> bool
+// Whether m is among the monomials of a table. It is lent: a copy for each question would cost more than the search.
+pub fn is_tabled(table: &[u8], m: Monomial) -> bool
     ensures { λ r. ⌜ r ≡ any (same (m .e)) (tabled (now (table .entry))) ⌝ }
 {
     let count = table.len() / WIDTH;

@@ -107,6 +107,15 @@ module _ (n : ℕ) (s : List Mono) (p : Mono × Mono) where
       (λ k. ⊎-elim (λ q. right (q .0) (λ j. q .1 (Memᴰ·cast (sym (q .0)) j))) (λ j. old j) (added-out (signals width n s) (p .1) s k))
       (added-out (signals width n s) (p .0) half h)
 
+  -- what is added is not in V, so neither 1 nor a variable
+  pub child-new : ((x : Mono) → x ∈ s → x ∈ base n → ⊥) → (x : Mono) → x ∈ child n s p → x ∈ base n → ⊥
+  child-new f x h b = go (child-out h)
+    where
+      go : Grown x → ⊥
+      go (old i) = f x i b
+      go (left e o) = o (base-in n s b)
+      go (right e o) = o (base-in n s b)
+
   pub child-asc : Ascending before s → Ascending before (child n s p)
   unfolding child
   child-asc a = added-asc (signals width n s) (p .0) half (added-asc (signals width n s) (p .1) s a)

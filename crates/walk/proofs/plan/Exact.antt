@@ -34,11 +34,12 @@ use Rattle.wiring.proofs.sets.Exact.{record-length}
 use Rattle.wiring.proofs.sockets.Slopes.{slope-is}
 use Rattle.wiring.proofs.terms.Laws.{clean-for}
 use Rattle.wiring.proofs.answers.Exact.{panel-in, panel-out}
-use Rattle.walk.specs.Walk.{rulesOf}
+use Rattle.walk.specs.Walk.{allowing, rulesOf}
 use Rattle.walk.specs.Plan.{Ending, done, none, fullAt, spentAt, plan, setsBytes, said, settingsRight, planned}
 use Rattle.walk.specs.Claims.{Barren, Ends, Lacks, Fills, Spends, Fate, Listed, InRange, Accepted, setsAt, PlanSays, planLeaves, NoneBelow, Planned, Finished, Counts}
 use Rattle.walk.proofs.Stops.{fate, fate-exact, done-exact}
-use Rattle.walk.proofs.Rules.{allowing-orderly, allowing-sparing, free-counts, counts-free}
+use Rattle.walk.proofs.Rules.{allowing-orderly, free-counts, counts-free}
+use Rattle.walk.proofs.Counting.{counted-sparing}
 use Rattle.walk.proofs.children.Laws.{empty-walked}
 use Rattle.walk.proofs.Sound.{empty-proper}
 use Rattle.walk.proofs.Smallest.{none-smaller, plan-done, none-smaller-by, finished-by}
@@ -81,10 +82,13 @@ module _ (panel : Panel) (cap limit : ℕ) (terms : List ℕ) (size : ℕ) where
     unfolding planned
     with-fault m f e = rw (range-in panel cap limit r, length-exact terms .1 m, e)
 
+  -- accepted input is answered as its walk ends
+  pub planned-walk : Accepted panel cap limit terms
+      → planned panel cap limit terms size ≡ said (plan (rulesOf panel) (panel .n) (system (records terms)) limit (size / setBytes) cap) size
+  planned-walk a = with-fault (a .range) (a .measured) Clean (clean-exact panel (records terms) beyond .1 (a .flawless))
+
   with-ending : Accepted panel cap limit terms → (e : Ending) → Fate (rulesOf panel) (panel .n) fs limit (size / setBytes) cap e → planned panel cap limit terms size ≡ said e size
-  with-ending a e f =
-      with-fault (a .range) (a .measured) Clean (clean-exact panel (records terms) beyond .1 (a .flawless))
-      ∙ ap (λ (x : Ending). said x size) (fate-exact (rulesOf panel) (panel .n) fs limit (size / setBytes) cap e .1 f)
+  with-ending a e f = planned-walk a ∙ ap (λ (x : Ending). said x size) (fate-exact (rulesOf panel) (panel .n) fs limit (size / setBytes) cap e .1 f)
 
   planned-is : (r : Reply) → PlanSays panel cap limit terms size r → planned panel cap limit terms size ≡ outcome r (planLeaves panel terms size r)
   unfolding said
@@ -204,7 +208,7 @@ module _ (panel : Panel) (cap limit : ℕ) (terms : List ℕ) (size : ℕ) where
   none-below : Accepted panel cap limit terms → (j : ℕ) → Barren (rulesOf panel) (panel .n) (system (records terms)) j → NoneBelow panel terms j
   none-below a j b s w f q =
       none-smaller-by (rulesOf panel) (panel .n) (derivative plain fs) (derivativeIn panel terms) (slope-counts a) j
-      (none-smaller (rulesOf panel) (allowing-orderly (mayBe panel)) empty (panel .n) fs (allowing-sparing (mayBe panel) (panel .n) fs) j b)
+      (none-smaller (rulesOf panel) (allowing-orderly (mayBe panel)) empty (panel .n) fs (counted-sparing (allowing (mayBe panel)) (panel .n) fs) j b)
       s w (free-counts panel s f) q
 
   pub plan-lacks : (o k : ℕ) (bytes : List ℕ) → outcome (Nothing o k) bytes ≡ planned panel cap limit terms size → (o ≡ suc cap) × NoneBelow panel terms o
@@ -246,7 +250,7 @@ module _ (panel : Panel) (cap limit : ℕ) (terms : List ℕ) (size : ℕ) where
           finished-by (rulesOf panel) (panel .n) (derivative plain system-of) (derivativeIn panel terms) (slope-counts panel cap limit terms size a)
           system-of cap limit (size / setBytes) o k (setsAt panel terms o)
           (plan-done (rulesOf panel) (allowing-orderly (mayBe panel)) empty-walked (panel .n) (empty-proper (panel .n)) terms few
-          (clean-for panel (panel .n) terms (omega arith) (clean-of a)) (allowing-sparing (mayBe panel) (panel .n) system-of)
+          (clean-for panel (panel .n) terms (omega arith) (clean-of a)) (counted-sparing (allowing (mayBe panel)) (panel .n) system-of)
           cap limit (size / setBytes) (a .range .capped) o k (setsAt panel terms o) ending)
 
   -- the buffer keeps its length

@@ -38,6 +38,10 @@ pub said-done : (order steps : ℕ) (sets : Finds) (size : ℕ)
 unfolding said
 said-done order steps sets size = refl
 
+pub said-none : (order steps size : ℕ) → refused (reply.Nothing order steps) size ≡ said (none order steps) size
+unfolding said
+said-none order steps size = refl
+
 pub said-full : (order steps size : ℕ) → refused (reply.Full order steps) size ≡ said (fullAt order steps) size
 unfolding said
 said-full order steps size = refl

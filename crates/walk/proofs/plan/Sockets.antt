@@ -1,4 +1,5 @@
--- Sockets fed from outside, of a plan: no reply depends on what the equation of such a signal would be, and with no marks planning is document 01's. Assumes nothing.
+-- Sockets fed from outside, of a plan: no reply depends on what the equation of such a signal would be, and with no marks planning is document 01's
+-- with the counting rule. Assumes nothing.
 use mathlib.Core.Path.{_≡_}
 use mathlib.Core.Bool.{cond, _&&_}
 use mathlib.Core.List.{List}
@@ -18,7 +19,7 @@ use Rattle.wiring.specs.Answers.{unlessFault}
 use Rattle.wiring.specs.Claims.{Wide, Free, LeftLinked, Driven}
 use Rattle.wiring.proofs.sockets.Driven.{quadratic-driven}
 use Rattle.wiring.proofs.sockets.Unmarked.{unmarked-all}
-use Rattle.walk.specs.Walk.{bare}
+use Rattle.walk.specs.Walk.{bare, counted}
 use Rattle.walk.specs.Plan.{plan, said, settingsRight, planned}
 use Rattle.walk.specs.Claims.{setsAt, NoneBelow, Planned, DrivenPlan}
 use Rattle.walk.proofs.Rules.{unmarked-rules}
@@ -39,9 +40,9 @@ module _ (panel : Panel) (terms : List ℕ) (gs : List (Poly Mono)) (d : Driven 
     all = λ s w free l. p .all s w free (quadratic-driven (panel .marks) (system (records terms)) gs d (signals width (panel .n) s) .1 l);
   }
 
--- ---- no marks: the settings are document 01's, and the walk is by its rules; the tests of the records are those of `Unmarked`
+-- ---- no marks: the settings are document 01's, and the walk is by its rules, closed by counting; the tests of the records are those of `Unmarked`
 pub unmarked-planned : (n cap limit : ℕ) (terms : List ℕ) (size : ℕ) → planned (panelOf n 0) cap limit terms size
-    ≡ (let walk = said (plan bare n (system (records terms)) limit (size / setBytes) cap) size in
+    ≡ (let walk = said (plan (counted bare) n (system (records terms)) limit (size / setBytes) cap) size in
     let read = unlessFault (λ r. refused r size) (fault (panelOf n 0) (records terms)) walk in
     let long = cond (lengthRight terms) read (refused Length size) in
     cond (countRight n && leb cap cards && leb 1 limit && leb limit mostSteps) long (refused Setting size))

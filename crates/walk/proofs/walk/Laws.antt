@@ -24,10 +24,9 @@ use Rattle.wiring.specs.Poly.{Poly, plain}
 use Rattle.wiring.specs.Derivative.{derivative}
 use Rattle.wiring.specs.Quadratic.{nonsquares}
 use Rattle.wiring.specs.Signals.{signals, Fitting}
-use Rattle.wiring.specs.Choice.{chosen, Picked}
+use Rattle.wiring.specs.Choice.{chosen}
 use Rattle.wiring.specs.Terms.{records, system}
 use Rattle.wiring.specs.Sets.{monomialsOf}
-use Rattle.wiring.specs.declared.choice.Pick.{Pick}
 use Rattle.wiring.specs.declared.sets.Set.{Set}
 use Rattle.wiring.proofs.choice.Laws.{chosen-best}
 use Rattle.wiring.proofs.signals.Laws.{signals-fitting, fitting-weaken}
@@ -190,17 +189,6 @@ open-tells r n fs k limit room taken finds s (suc d) size m l turn out h t e g f
     (sym (open-split r n fs k limit room taken finds s d m l t e g)) (f d (omega arith))
 
 -- ---- the nonsquare that was picked
-pub record Choice (ns : List Mono) (p : Pick) : Type 0 where
-  pub first : Mono
-  pub others : List Mono
-  pub are : ns ≡ first ∷ others
-  pub is : p .m .e ≡ chosen first others
-
-pub picked-choice : (ns : List Mono) (p : Pick) → T (some ns) → Picked ns p → Choice ns p
-unfolding some
-picked-choice [] p t h = absurd t
-picked-choice (m ∷ l) p t h = record { first = m; others = l; are = refl; is = h .1 }
-
 pub choice-member : (ns : List Mono) (m first : Mono) (others : List Mono) → ns ≡ first ∷ others → m ≡ chosen first others → m ∈ ns
 choice-member ns m first others e i =
     subst (λ (l : List Mono). m ∈ l) (sym e) (subst (λ (x : Mono). x ∈ (first ∷ others)) (sym i) (chosen-best first others .0))

@@ -31,7 +31,7 @@ use Rattle.walk.specs.Walk.{Finds, Rules, child, opens, Step, triedAll, 
 use Rattle.walk.specs.Listing.{Shown}
 use Rattle.walk.specs.Turns.{Child, Tells, Showing, Ready, PairsFollow, Splits}
 use Rattle.walk.proofs.Rules.{opens-fits, below-its-level}
-use Rattle.walk.proofs.children.Laws.{not-both, split-longer, nonsquare-fits, child-walked}
+use Rattle.walk.proofs.children.Laws.{not-both, split-longer, nonsquare-fits, child-walked, child-new}
 use Rattle.walk.proofs.walk.Laws.{open-tells, choice-member}
 
 -- a divisor that leads its pair, and the pair
@@ -52,7 +52,7 @@ module _ (n : ℕ) (terms : List ℕ) (level : ℕ) (set : Set) (m : Mono) (coun
     (ready : Ready n terms level set count out₀) (splits : Splits n terms level set m) where
   -- six exponents, and not 1: 1 is the product of 1 and 1, so it is in V2
   pub gap-wide : length m ≡ width
-  gap-wide = nonsquare-fits terms (ready .clean) n (monomialsOf set) (ready .walked) m (splits .member) .0
+  gap-wide = nonsquare-fits terms (ready .opening .clean) n (monomialsOf set) (ready .opening .walked) m (splits .member) .0
 
   pub gap-proper : m ≡ one (length m) → ⊥
   gap-proper e =
@@ -65,9 +65,9 @@ module _ (n : ℕ) (terms : List ℕ) (level : ℕ) (set : Set) (m : Mono) (coun
     -- the child that is opened is larger, and again a set of the walk
     pub child-more : set .len < r .set .len
     child-more =
-        let longer = split-longer n (system (records terms)) (monomialsOf set) m (ready .walked .recorded .ascending) (splits .member) (a, quo m a) (pair-member a m t l) in
+        let longer = split-longer n (system (records terms)) (monomialsOf set) m (ready .opening .walked .recorded .ascending) (splits .member) (a, quo m a) (pair-member a m t l) in
         let e : r .set .len ≡ length (child n (monomialsOf set) (a, quo m a)) = c .size go in
-        omega (arith, ready .size)
+        omega (arith, ready .opening .size)
 
     pub child-within : r .set .len ≤ level
     child-within =
@@ -79,15 +79,18 @@ module _ (n : ℕ) (terms : List ℕ) (level : ℕ) (set : Set) (m : Mono) (coun
     child-ready count' out showing =
         let e : r .set .len ≡ length (child n (monomialsOf set) (a, quo m a)) = c .size go in
         let h : r .set .len ≤ level = child-within in
-        let few : length (child n (monomialsOf set) (a, quo m a)) ≤ cards = omega (arith, ready .low) in
-        let w = child-walked terms (ready .clean) n (monomialsOf set) (ready .walked) m (splits .member) (a, quo m a) (pair-member a m t l) few in
+        let few : length (child n (monomialsOf set) (a, quo m a)) ≤ cards = omega (arith, ready .opening .low) in
+        let w = child-walked terms (ready .opening .clean) n (monomialsOf set) (ready .opening .walked) m (splits .member) (a, quo m a) (pair-member a m t l) few in
         record {
-          size = e ∙ sym (ap length (c .is go));
-          within = h;
-          low = ready .low;
-          few = ready .few;
-          clean = ready .clean;
-          walked = rw (c .is go) w;
+          opening = record {
+            size = e ∙ sym (ap length (c .is go));
+            within = h;
+            low = ready .opening .low;
+            few = ready .opening .few;
+            clean = ready .opening .clean;
+            walked = rw (c .is go) w;
+            new = rw (c .is go) (child-new n (monomialsOf set) (a, quo m a) (ready .opening .new));
+          };
           showing = showing;
         }
 
@@ -109,8 +112,8 @@ module _ (r : Rules) (n : ℕ) (terms : List ℕ) (level limit : ℕ) (set : Set
     (m : Mono) (out : List ℕ) (sp : PairsFollow r n terms level limit set st out₀ m out) where
   pub split-member : Splits n terms level set m
   split-member = record {
-    below = omega (arith, ready .size, below-its-level r n level (monomialsOf set) (sp .first ∷ sp .others) (sp .on));
-    member = choice-member _ m (sp .first) (sp .others) (sp .are) (sp .is);
+    below = omega (arith, ready .opening .size, below-its-level r n level (monomialsOf set) (sp .goes .first ∷ sp .goes .others) (sp .goes .on));
+    member = choice-member _ m (sp .goes .first) (sp .goes .others) (sp .goes .are) (sp .goes .is);
   }
 
   pub split-ready : Ready n terms level set (st .count) out
@@ -125,11 +128,11 @@ module _ (r : Rules) (n : ℕ) (terms : List ℕ) (level limit : ℕ) (set : Set
       → (d : ℕ) (finds : Finds) → level - set .len < d → Shown finds (st .count) out₀
       → Tells turn out' (run limit (length out₀ / setBytes) (opened r n (system (records terms)) level d (monomialsOf set)) (st .steps) finds)
   split-tells turn out' f d finds h sh =
-      open-tells r n (system (records terms)) level limit (length out₀ / setBytes) (st .steps) finds (monomialsOf set) d (set .len) (sp .first) (sp .others) turn out'
-      h (sp .taken) (sp .are) (sp .on) (λ g k. follows g (f g finds k))
+      open-tells r n (system (records terms)) level limit (length out₀ / setBytes) (st .steps) finds (monomialsOf set) d (set .len) (sp .goes .first) (sp .goes .others) turn out'
+      h (sp .taken) (sp .goes .are) (sp .goes .on) (λ g k. follows g (f g finds k))
     where
       said : List ℕ → Mono → ℕ → Type 0
       said o y g = Tells turn out' (run limit (length o / setBytes) (split-steps g y) (st .steps + 1) finds)
 
-      follows : (g : ℕ) → (Shown finds (st .count) out → said out m g) → said out₀ (chosen (sp .first) (sp .others)) g
-      follows g q = subst (λ (y : Mono). said out₀ y g) (sp .is) (subst (λ (o : List ℕ). Shown finds (st .count) o → said o m g) (sp .kept) q sh)
+      follows : (g : ℕ) → (Shown finds (st .count) out → said out m g) → said out₀ (chosen (sp .goes .first) (sp .goes .others)) g
+      follows g q = subst (λ (y : Mono). said out₀ y g) (sp .goes .is) (subst (λ (o : List ℕ). Shown finds (st .count) o → said o m g) (sp .kept) q sh)

@@ -14,6 +14,7 @@ use Rattle.monomial.specs.Divisors.{score}
 use Rattle.monomial.specs.Claims.{_⊆_, Ascending, Order, Compared, less, equal, more}
 use Rattle.monomial.proofs.Tests.{or-l, or-r, or-e, and-l, and-r, and-i, cond-cases, is→T, is→nT}
 use Rattle.monomial.proofs.Members.{here, there}
+use Rattle.monomial.proofs.Loops.{OfMembers}
 use Rattle.monomial.proofs.order.Laws.{ℕ-order, mono-order}
 use Rattle.monomial.proofs.order.Ascending.{head-first}
 use Rattle.wiring.specs.declared.choice.Pick.{Pick}
@@ -41,6 +42,9 @@ module _ {earlier : Mono → Mono → Bool} (o : Order same earlier) where
   pub best-members : (b : Bool) (l r : List Mono) (m : Mono) → l ⊆ r → r ⊆ l → BestOf earlier b l m → BestOf earlier b r m
   best-members false l r m lr rl n = λ y h. n y (rl y h)
   best-members true l r m lr rl b = (lr m (b .0), λ y h. b .1 y (rl y h))
+
+  pub best-collects : (p : Pick) → OfMembers (λ l. Best earlier l p)
+  best-collects p l r lr rl b = best-members (p .some) l r (p .m .e) lr rl b
 
   -- two that are the best of the same members are equal
   pub best-one : (l r : List Mono) (a b : Mono) → l ⊆ r → r ⊆ l → BestOf earlier true l a → BestOf earlier true r b → a ≡ b

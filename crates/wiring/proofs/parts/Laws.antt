@@ -44,7 +44,7 @@ module _ (rs : List Record) (z : Mono) where
     unfolding gives
     gives-out r t = (and-i (leb 1 (power r z)) true (and-l (leb 1 (power r z)) (f (image r z)) t) tt, and-r (leb 1 (power r z)) (f (image r z)) t)
 
-    pub given-sub : imaged (gives f z) rs z rs ⊆ keep f (images rs z)
+    pub given-sub : imaged (gives f z) z rs ⊆ keep f (images rs z)
     unfolding images
     given-sub m h =
         let q : (r : Record) × (r ∈ keep (gives f z) rs) × (image r z ≡ m) = Memᴰ·of-map (λ r. image r z) (keep (gives f z) rs) h in
@@ -53,7 +53,7 @@ module _ (rs : List Record) (z : Mono) where
         let i = Memᴰ·map (λ r. image r z) (keep-in (gives every z) rs (k .0) (g .0)) in
         Memᴰ·cast (sym (q .2)) (keep-in f (images rs z) (arrange-in mono-order (map (λ r. image r z) (keep (gives every z) rs)) i) (g .1))
 
-    pub images-sub : keep f (images rs z) ⊆ imaged (gives f z) rs z rs
+    pub images-sub : keep f (images rs z) ⊆ imaged (gives f z) z rs
     unfolding images
     images-sub m h =
         let k = keep-out f (images rs z) h in

@@ -3,23 +3,29 @@ use mathlib.Core.Path.{_≡_, refl, sym, ap, ap₂, subst, _∙_}
 use mathlib.Core.Logic.{_⊎_, ⊎-elim}
 use mathlib.Core.Bool.{Bool, true, false}
 use mathlib.Core.List.{List, [], _∷_, _++_, map, append-nil, List·Memᴰ·not-nil, List·Memᴰ·append-cases, Memᴰ·append-left, Memᴰ·append-right, Memᴰ·of-map}
-use Prim.Native.Nat.{ℕ, zero, suc, _+_, _*_, _/_, _<_, _≤_}
+use Prim.Native.Nat.{ℕ, zero, suc, _+_, _-_, _*_, _/_, _<_, _≤_}
 use native.Mathlib.Omega.{arith}
 use native.Mathlib.Numerals.{add-one}
 use native.Mathlib.Nat.{mul-le-mul-left, mul-le-mul-right}
-use lib.ListN.{length, getD, take, drop, set, length-append, length-map, length-set, drop-of-length-le, List·getD-append}
-use lib.Seq.{paste, length-take-le, getD-take, take-set-lt, take-suc-set, take-all, take-paste, length-paste, drop-cons, append-snoc, getD-append-add, ext-getD}
-use Rattle.monomial.specs.Lists.{any, gather, below}
+use borrow.Author.Tests.{ltb-true, ltb-false}
+use lib.ListN.{length, getD, take, drop, set, length-append, length-map, length-set, length-drop, drop-of-length-le, take-append-drop, List·getD-append}
+use lib.Dec.{ltb}
+use lib.Seq.{paste, take-append-le, drop-append-le, drop-at, getD-at, length-take-le, getD-take, take-set-lt, take-suc-set, take-all, take-paste, length-paste, drop-cons, append-snoc, getD-append-add, ext-getD}
+use Rattle.monomial.specs.Lists.{any, keep, gather, below}
 use Rattle.monomial.specs.Monomial.{Mono, one, vars, constants, width}
 use Rattle.monomial.specs.Product.{mul, AtMost, FitsBytes}
 use Rattle.monomial.specs.declared.Monomial.{Monomial}
-use Rattle.monomial.specs.Claims.{_∈_}
+use Rattle.monomial.specs.Quotient.{divides}
+use Rattle.monomial.specs.Claims.{_∈_, Different, Within}
+use Rattle.monomial.proofs.Tests.{Tested, passed, failed, test}
 use Rattle.monomial.proofs.Loops.{Seeking, seeking-start, seeking-found, seeking-on, seeking-ends, pointwise-length}
-use Rattle.monomial.proofs.Members.{here, there, take-in, gather-append, map-at}
-use Rattle.monomial.proofs.Counting.{at-in, below-length, below-at}
+use Rattle.monomial.proofs.Members.{here, there, take-in, keep-append, keep-more, gather-append, map-at}
+use Rattle.monomial.proofs.Counting.{at-in, below-length, below-out, below-at}
 use Rattle.monomial.proofs.Strips.{strip-length, strip-at}
 use Rattle.monomial.proofs.product.Laws.{atMost-weaken, atMost-mul}
-use Rattle.monomial.proofs.Variables.{constants-fit, vars-length}
+use Rattle.monomial.proofs.Different.{different-take, different-append}
+use Rattle.monomial.proofs.Within.{within-divides, vars-beyond}
+use Rattle.monomial.proofs.Variables.{constants-fit, constants-different, vars-length}
 use Rattle.wiring.specs.Panel.{cards, mostSignals, tableBytes, mostProducts}
 use Rattle.wiring.specs.Poly.{Kind, plain}
 use Rattle.wiring.specs.Quadratic.{products}
@@ -159,6 +165,25 @@ module _ (n : ℕ) where
   unfolding signals
   signals-cases s h = List·Memᴰ·append-cases (base n) h
 
+-- it begins with 1
+pub signals-begin : (n : ℕ) (s : List Mono) → signals width n s ≡ one width ∷ (take n (vars width) ++ s)
+unfolding signals
+signals-begin n s = refl
+
+-- it has no member twice where none of the set is 1 or a variable: these are different
+pub signals-different : (n : ℕ) (s : List Mono) → Different s → ((m : Mono) → m ∈ s → m ∈ base n → ⊥) → Different (signals width n s)
+unfolding signals
+signals-different n s once new = different-append (base n) s (different-take (suc n) (constants width) (constants-different width)) once (λ x i j. new x j i)
+
+-- with more variables the same members divide a monomial that holds none of them
+pub signals-divisors : (n b : ℕ) → n ≤ b → (s : List Mono) (m : Mono) → Within n m
+    → keep (λ x. divides x m) (signals width n s) ≡ keep (λ x. divides x m) (signals width b s)
+unfolding signals
+signals-divisors n b more s m w =
+    let f : Mono → Bool = λ x. divides x m in
+    let e : keep f (base n) ≡ keep f (base b) = keep-more f (suc n) (suc b) (constants width) (omega arith) (λ x h t. vars-beyond n width x h (within-divides n x m t w)) in
+    keep-append f (base n) s ∙ ap (λ (l : List Mono). l ++ keep f s) e ∙ sym (keep-append f (base b) s)
+
 -- ---- two loops that write V of n variables and the first len places of u: the constants, then the set
 pub record Signalling (n len : ℕ) (u m : List Monomial) (at : ℕ) : Type 0 where
   pub variables : n ≤ width
@@ -216,6 +241,11 @@ product-of-two v i j d f h k =
 
 -- ---- V2
 module _ {M : Type 0} (k : Kind M) where
+  -- the first row, and the others
+  pub products-rows : (x : M) (v : List M) → products k (x ∷ v) ≡ map (k .mul x) (x ∷ v) ++ products k v
+  unfolding products
+  products-rows x v = refl
+
   pub products-length : (v : List M) → length (products k v) + length (products k v) ≡ length v * suc (length v)
   unfolding products
   products-length [] = refl
@@ -249,6 +279,15 @@ pub tabled-at : (bytes : List ℕ) (i : ℕ) (d : Mono) → i < length bytes / w
 unfolding tabled
 tabled-at bytes i d h = below-at (λ j. take width (drop (width * j) bytes)) (length bytes / width) i d h
 
+-- each has the panel's width
+pub tabled-wide : (bytes : List ℕ) → Wide (tabled bytes)
+unfolding tabled
+tabled-wide bytes m h =
+    let p = Memᴰ·of-map (λ i. take width (drop (width * i) bytes)) (below (length bytes / width)) h in
+    let few : p .0 < length bytes / width = below-out (length bytes / width) (p .0) (p .1) in
+    let long : length (drop (width * p .0) bytes) ≡ length bytes - width * p .0 = length-drop (width * p .0) bytes in
+    ap length (sym (p .2)) ∙ length-take-le width (drop (width * p .0) bytes) (omega arith)
+
 pub tabled-flat : (l : List Mono) → Wide l → tabled (flat l) ≡ l
 tabled-flat l w = ext-getD [] (tabled (flat l)) l many at
   where
@@ -264,6 +303,71 @@ tabled-flat l w = ext-getD [] (tabled (flat l)) l many at
         tabled-at (flat l) i [] few
         ∙ ap (λ (u : List ℕ). take width (drop (width * i) u)) (sym (append-nil (flat l)))
         ∙ strip-at (λ m. m) width l w [] i [] (omega (arith, many))
+
+-- a monomial more behind n of them
+pub tabled-more : (bytes : List ℕ) (n : ℕ) (x : Mono) → length bytes ≡ width * n → length x ≡ width → tabled (bytes ++ x) ≡ tabled bytes ++ (x ∷ [])
+tabled-more bytes n x l w = ext-getD [] (tabled (bytes ++ x)) (tabled bytes ++ (x ∷ [])) alike at
+  where
+    many : length (tabled bytes) ≡ n
+    many = tabled-length bytes ∙ omega (arith, l)
+
+    longer : length (bytes ++ x) ≡ width * n + width
+    longer = length-append bytes x ∙ omega (arith, l, w)
+
+    alike : length (tabled (bytes ++ x)) ≡ length (tabled bytes ++ (x ∷ []))
+    alike = omega (arith, tabled-length (bytes ++ x), longer, many, length-append (tabled bytes) (x ∷ []))
+
+    old : (i : ℕ) → i < n → getD (tabled (bytes ++ x)) i [] ≡ getD (tabled bytes ++ (x ∷ [])) i []
+    old i h =
+        tabled-at (bytes ++ x) i [] (omega (arith, longer))
+        ∙ ap (take width) (drop-append-le (width * i) bytes x (omega (arith, l)))
+        ∙ take-append-le width (drop (width * i) bytes) x (omega (arith, l, length-drop (width * i) bytes))
+        ∙ sym (List·getD-append (tabled bytes) (x ∷ []) [] i (omega (arith, many)) ∙ tabled-at bytes i [] (omega (arith, l)))
+
+    new : getD (tabled (bytes ++ x)) n [] ≡ getD (tabled bytes ++ (x ∷ [])) n []
+    new =
+        tabled-at (bytes ++ x) n [] (omega (arith, longer))
+        ∙ ap (take width) (drop-at bytes x (width * n) l)
+        ∙ take-all width x (omega (arith, w))
+        ∙ sym (getD-at (tabled bytes) x [] [] n many)
+
+    at : (i : ℕ) → i < length (tabled (bytes ++ x)) → getD (tabled (bytes ++ x)) i [] ≡ getD (tabled bytes ++ (x ∷ [])) i []
+    at i h = go (test (ltb i n))
+      where
+        go : Tested (ltb i n) → getD (tabled (bytes ++ x)) i [] ≡ getD (tabled bytes ++ (x ∷ [])) i []
+        go (passed e) = old i (ltb-true i n e)
+        go (failed e) =
+            let q : n ≡ i = omega (arith, ltb-false i n e, tabled-length (bytes ++ x), longer) in
+            subst (λ (k : ℕ). getD (tabled (bytes ++ x)) k [] ≡ getD (tabled bytes ++ (x ∷ [])) k []) q new
+
+-- the first monomials that lie side by side in bytes
+pub tabled-take : (bytes : List ℕ) (n : ℕ) → width * n ≤ length bytes → tabled (take (width * n) bytes) ≡ take n (tabled bytes)
+tabled-take bytes n h = ext-getD [] (tabled front) (take n (tabled bytes)) alike at
+  where
+    front : List ℕ
+    front = take (width * n) bytes
+
+    long : length front ≡ width * n
+    long = length-take-le (width * n) bytes h
+
+    many : length (tabled front) ≡ n
+    many = tabled-length front ∙ omega (arith, long)
+
+    alike : length (tabled front) ≡ length (take n (tabled bytes))
+    alike = many ∙ sym (length-take-le n (tabled bytes) (omega (arith, tabled-length bytes)))
+
+    at : (i : ℕ) → i < length (tabled front) → getD (tabled front) i [] ≡ getD (take n (tabled bytes)) i []
+    at i k =
+        let few : i < n = omega (arith, many) in
+        let near : width * i ≤ length front = omega (arith, long) in
+        let room : width ≤ length (drop (width * i) front) = omega (arith, long, length-drop (width * i) front) in
+        let same : take width (drop (width * i) (front ++ drop (width * n) bytes)) ≡ take width (drop (width * i) front) =
+        ap (take width) (drop-append-le (width * i) front (drop (width * n) bytes) near) ∙ take-append-le width (drop (width * i) front) (drop (width * n) bytes) room in
+        tabled-at front i [] (omega (arith, long))
+        ∙ sym same
+        ∙ ap (λ (l : List ℕ). take width (drop (width * i) l)) (take-append-drop (width * n) bytes)
+        ∙ sym (tabled-at bytes i [] (omega arith))
+        ∙ sym (getD-take n (tabled bytes) i [] few)
 
 -- a loop that looks through a table for a monomial that passes f, and has come to place i
 module _ (f : Mono → Bool) (bytes : List ℕ) {i : ℕ} (s : Seeking f (tabled bytes) i) where

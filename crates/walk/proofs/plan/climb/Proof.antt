@@ -1,10 +1,11 @@
 -- `climb` meets its contract: no set is found below level k, and the levels from k on are the plan (`Climbing`). Assumes nothing.
-use mathlib.Core.Path.{refl, _∙_}
-use mathlib.Core.List.{[]}
+use mathlib.Core.Path.{_≡_, refl, sym, _∙_}
+use mathlib.Core.List.{[], List·Memᴰ·not-nil}
 use Prim.Native.Nat.{_+_, _-_}
 use native.Mathlib.Omega.{arith}
 use lib.ListN.{length}
 use Rattle.wiring.specs.Terms.{records, system}
+use Rattle.counting.specs.Verdict.{listBytes}
 use Rattle.walk.specs.Walk.{rulesOf}
 use Rattle.walk.proofs.plan.Laws.{Climbing, shown-none, climb-start, climb-none, climb-on, climb-done, climb-spent, climb-full}
 use borrow.Author.Needs.{needs}
@@ -13,51 +14,59 @@ use Rattle.walk.proofs.children.Laws.{empty-walked}
 use Rattle.walk.proofs.plan.climb.Tie as tie
 
 abbrev Inv-loop : tie.InvT-loop
-Inv-loop terms out₀ panel cap limit steps₀ k₀ out steps k = Climbing (rulesOf panel) (panel .n) (system (records terms)) limit cap (length out₀) k steps out
+Inv-loop terms out₀ panel cap limit list₀ steps₀ k₀ out list steps k = Climbing (rulesOf panel) (panel .n) (system (records terms)) limit cap (length out₀) k steps out × (length list ≡ listBytes)
 
 abbrev μ-loop : tie.MeasureT-loop
-μ-loop terms out₀ panel cap limit steps₀ k₀ out steps k = cap + 1 - k
+μ-loop terms out₀ panel cap limit list₀ steps₀ k₀ out list steps k = cap + 1 - k
 
 loop-holds : tie.Need-loop-holds Inv-loop μ-loop
 loop-holds c =
     let s = c .before .before in
     let a = s .args in
-    climb-start (rulesOf (a .panel)) (a .panel .n) (system (records (a .terms .now))) (a .limit) (a .cap) (length (a .out .now)) (a .out .now) refl (s .pre .1 .1 .1) (omega arith)
+    (climb-start (rulesOf (a .panel)) (a .panel .n) (system (records (a .terms .now))) (a .limit) (a .cap) (length (a .out .now)) (a .out .now) refl (s .pre .1 .1 .1) (omega arith), refl)
+
+slice-aggregate-open : tie.Need-slice-aggregate-open Inv-loop μ-loop
+slice-aggregate-open c = sym (c .before .before .before .loop .inv .1)
 
 open-requires : tie.Need-open-requires Inv-loop μ-loop
 open-requires c κs =
-    let start = c .before .before .before .before .before in
+    let start = c .before .before .before .before .before .before in
     let p = start .pre in
-    let k = c .before .before .loop in
-    record {
-      size = refl;
-      within = omega arith;
-      low = omega (arith, p .1 .0, c .before .loop-test .taken);
-      few = p .0;
-      clean = p .1 .1 .0;
-      walked = empty-walked;
-      showing = record { finds = []; shown = shown-none (k .out) (k .inv .blank) };
-    }
+    let k = c .before .before .before .loop in (
+      record {
+        opening = record {
+          size = refl;
+          within = omega arith;
+          low = omega (arith, p .1 .0, c .before .before .loop-test .taken);
+          few = p .0;
+          clean = p .1 .1 .0;
+          walked = empty-walked;
+          new = λ m h. absurd (List·Memᴰ·not-nil h);
+        };
+        showing = record { finds = []; shown = shown-none (k .out) (k .inv .0 .blank) };
+      },
+      omega (arith, k .inv .1),
+    )
 
 enum-known-s : tie.Need-enum-known-s Inv-loop μ-loop
 enum-known-s c = search needs
 
 same-length : tie.Need-same-length Inv-loop μ-loop
 same-length c =
-    let at-open = c .before .before .before .before .before .before in
-    let at-loop = at-open .before .before .before in
-    at-open .«open» .kept .1 .0 ∙ at-loop .loop .inv .long
+    let at-open = c .before .before .before .before .before .before .before in
+    let at-loop = at-open .before .before .before .before in
+    at-open .«open» .kept .1 .0 ∙ at-loop .loop .inv .0 .long
 
 returns : tie.Need-returns Inv-loop μ-loop
 returns c =
-    let at-open = c .before .before .before .before .before .before in
-    let at-loop-test = at-open .before .before in
+    let at-open = c .before .before .before .before .before .before .before in
+    let at-loop-test = at-open .before .before .before in
     let at-loop = at-loop-test .before in
     let k = at-loop .loop in
     let r = at-open .«open» in
     let low = at-loop-test .loop-test .taken in
     let s = c .before .before .s .given in
-    climb-done (k .inv) low (r .result) (r .last .1 .0) (r .ensures) (r .kept .1 .0) (s .0 .0) (s .1) (c .if1 .taken)
+    climb-done (k .inv .0) low (r .result) (r .last .1 .0) (r .ensures) (r .kept .1 .0) (s .0 .0) (s .1) (c .if1 .taken)
 
 enum-told : tie.Need-enum-told Inv-loop μ-loop
 enum-told c = search needs
@@ -67,21 +76,21 @@ clear-requires c κs = search needs
 
 same-length-2 : tie.Need-same-length-2 Inv-loop μ-loop
 same-length-2 c =
-    let at-open = c .before .before .before .before .before .before .before .before in
-    let at-loop = at-open .before .before .before in
+    let at-open = c .before .before .before .before .before .before .before .before .before in
+    let at-loop = at-open .before .before .before .before in
     c .before .before .clear .kept .0 ∙ at-open .«open» .kept .1 .0
-    ∙ at-loop .loop .inv .long
+    ∙ at-loop .loop .inv .0 .long
 
 returns-2 : tie.Need-returns-2 Inv-loop μ-loop
 returns-2 c =
     let at-enum-told = c .before .before .before .before in
-    let at-open = at-enum-told .before .before .before .before in
-    let at-loop-test = at-open .before .before in
+    let at-open = at-enum-told .before .before .before .before .before in
+    let at-loop-test = at-open .before .before .before in
     let at-loop = at-loop-test .before in
     let k = at-loop .loop in
     let r = at-open .«open» in
     let low = at-loop-test .loop-test .taken in
-    climb-spent (k .inv) low (r .result) (r .last .1 .0) (r .ensures) (r .kept .1 .0) _ (c .before .before .clear .ensures)
+    climb-spent (k .inv .0) low (r .result) (r .last .1 .0) (r .ensures) (r .kept .1 .0) _ (c .before .before .clear .ensures)
     (at-enum-told .enum-told .given .1)
 
 enum-known-taken : tie.Need-enum-known-taken Inv-loop μ-loop
@@ -92,22 +101,22 @@ clear-requires-2 c κs = search needs
 
 same-length-3 : tie.Need-same-length-3 Inv-loop μ-loop
 same-length-3 c =
-    let at-open = c .before .before .before .before .before .before .before .before .before in
-    let at-loop = at-open .before .before .before in
+    let at-open = c .before .before .before .before .before .before .before .before .before .before in
+    let at-loop = at-open .before .before .before .before in
     c .before .before .clear2 .kept .0 ∙ at-open .«open» .kept .1 .0
-    ∙ at-loop .loop .inv .long
+    ∙ at-loop .loop .inv .0 .long
 
 returns-3 : tie.Need-returns-3 Inv-loop μ-loop
 returns-3 c =
     let at-taken = c .before .before .before .before .before in
-    let at-open = at-taken .before .before .before .before in
-    let at-loop-test = at-open .before .before in
+    let at-open = at-taken .before .before .before .before .before in
+    let at-loop-test = at-open .before .before .before in
     let at-loop = at-loop-test .before in
     let k = at-loop .loop in
     let r = at-open .«open» in
     let low = at-loop-test .loop-test .taken in
     let t = at-taken .taken .given in
-    climb-full (k .inv) low (r .result) (r .last .1 .0) (r .ensures) (r .kept .1 .0) _ (c .before .before .clear2 .ensures) (t .0 .0) (t .1)
+    climb-full (k .inv .0) low (r .result) (r .last .1 .0) (r .ensures) (r .kept .1 .0) _ (c .before .before .clear2 .ensures) (t .0 .0) (t .1)
 
 add-k : tie.Need-add-k Inv-loop μ-loop
 add-k c = search needs
@@ -117,20 +126,20 @@ loop-less c = search needs
 
 loop-again : tie.Need-loop-again Inv-loop μ-loop
 loop-again c =
-    let at-open = c .before .before .before .before .before .before in
-    let at-loop-test = at-open .before .before in
+    let at-open = c .before .before .before .before .before .before .before in
+    let at-loop-test = at-open .before .before .before in
     let at-loop = at-loop-test .before in
     let k = at-loop .loop in
     let r = at-open .«open» in
     let low = at-loop-test .loop-test .taken in
     let s = c .before .before .s .given in
-    climb-on (k .inv) low (r .result) (r .last .1 .0) (r .ensures) (r .kept .1 .0) (s .0 .0) (s .1) (c .if1 .left)
+    (climb-on (k .inv .0) low (r .result) (r .last .1 .0) (r .ensures) (r .kept .1 .0) (s .0 .0) (s .1) (c .if1 .left), r .kept .1 .1 .0 ∙ k .inv .1)
 
 same-length-4 : tie.Need-same-length-4 Inv-loop μ-loop
-same-length-4 c = c .before .loop .inv .long
+same-length-4 c = c .before .loop .inv .0 .long
 
 returns-4 : tie.Need-returns-4 Inv-loop μ-loop
-returns-4 c = climb-none (c .before .loop .inv) (c .loop-test .left)
+returns-4 c = climb-none (c .before .loop .inv .0) (c .loop-test .left)
 
 pub climb-spec : {M : Type 1} → statement M
 climb-spec =
@@ -139,6 +148,7 @@ climb-spec =
     Inv-loop
     μ-loop
     loop-holds
+    slice-aggregate-open
     open-requires
     enum-known-s
     same-length

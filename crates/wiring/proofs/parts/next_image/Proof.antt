@@ -1,4 +1,4 @@
--- `next_image` meets its contract: the loop keeps the best of what the records give (`Meeting`). Assumes nothing.
+-- `next_image` meets its contract: the loop keeps the best of what the records give (`Collecting`). Assumes nothing.
 use mathlib.Core.Path.{_≡_, refl, sym, _∙_}
 use mathlib.Core.Logic.{⊎-elim}
 use Prim.Native.Nat.{_/_, _-_, _<_}
@@ -7,11 +7,15 @@ use lib.ListN.{length}
 use Rattle.wiring.specs.Derivative.{image, gives, images}
 use Rattle.wiring.specs.Terms.{recordAt, records}
 use Rattle.wiring.proofs.terms.Laws.{records-length}
+use mathlib.Core.List.{List·Memᴰ·not-nil}
 use Rattle.monomial.specs.Lists.{keep}
+use Rattle.monomial.specs.Order.{before}
+use Rattle.monomial.proofs.Loops.{Collecting, collecting-start}
 use Rattle.monomial.proofs.order.Laws.{mono-order}
 use Rattle.monomial.proofs.order.Ascending.{keep-asc}
-use Rattle.wiring.specs.Choice.{beyond}
-use Rattle.wiring.proofs.quadratic.Records.{at-record, Meeting, meeting-start, meeting-same, meeting-more, meeting-heads}
+use Rattle.wiring.specs.Choice.{beyond, Best}
+use Rattle.wiring.proofs.choice.Laws.{best-collects}
+use Rattle.wiring.proofs.quadratic.Records.{at-record, met, meets-none, meets-one, meets-heads}
 use Rattle.wiring.proofs.parts.Laws.{images-asc, given-sub, images-sub}
 use borrow.Author.Needs.{needs}
 use Rattle.wiring.specs.Panel.{termBytes}
@@ -19,13 +23,13 @@ use Rattle.wiring.proofs.parts.next_image.Statement.{statement}
 use Rattle.wiring.proofs.parts.next_image.Tie as tie
 
 abbrev Inv-loop : tie.InvT-loop
-Inv-loop terms z last count best₀ t₀ best t = (count ≡ length terms / termBytes) × Meeting (gives (beyond last) (z .e)) (records terms) (z .e) mono-order best₀ t best
+Inv-loop terms z last count best₀ t₀ best t = (count ≡ length terms / termBytes) × Collecting (met (gives (beyond last) (z .e)) (z .e)) (records terms) (λ l. Best before l best) t
 
 abbrev μ-loop : tie.MeasureT-loop
 μ-loop terms z last count best₀ t₀ best t = count - t
 
 loop-holds : tie.Need-loop-holds Inv-loop μ-loop
-loop-holds c = (refl, meeting-start _ _ _ mono-order _)
+loop-holds c = (refl, collecting-start _ _ _ (λ y h. List·Memᴰ·not-nil h))
 
 following-requires : tie.Need-following-requires Inv-loop μ-loop
 following-requires c κs =
@@ -56,9 +60,9 @@ loop-again c =
           (λ w.
           let same-image = at-record (λ r. image r (a .z .e)) l (k .t) (omega arith) ∙ sym (c .before .following .ensures .is (w .0 .taken)) in
           rw (w .2)
-          (meeting-more f (records l) (a .z .e) mono-order _ (k .t) (k .best) _ (recordAt l (k .t)) (k .inv .1) few (told ∙ w .0 .taken)
+          (meets-one f (a .z .e) (records l) (recordAt l (k .t)) few (k .inv .1) (best-collects mono-order (w .1 .result)) (told ∙ w .0 .taken)
           (λ m b. rw same-image (w .1 .ensures m b))))
-          (λ w. rw (w .1) (meeting-same f (records l) (a .z .e) mono-order _ (k .t) (k .best) (recordAt l (k .t)) (k .inv .1) few (told ∙ w .0 .left)))
+          (λ w. rw (w .1) (meets-none f (a .z .e) (records l) (recordAt l (k .t)) few (k .inv .1) (best-collects mono-order (k .best)) (told ∙ w .0 .left)))
           (c .if1 .came),
     )
 
@@ -68,7 +72,7 @@ returns c =
     let l = a .terms .now in
     let k = c .before .loop in
     let test = beyond (a .last) in
-    meeting-heads (gives test (a .z .e)) (records l) (a .z .e) _ (k .t) (k .best) refl (k .inv .1) (omega (arith, records-length l))
+    meets-heads (gives test (a .z .e)) (a .z .e) (records l) (k .t) (k .best) (k .inv .1) (omega (arith, records-length l))
     (keep test (images (records l) (a .z .e))) (keep-asc test (images (records l) (a .z .e)) (images-asc (records l) (a .z .e)))
     (given-sub (records l) (a .z .e) test) (images-sub (records l) (a .z .e) test)
 

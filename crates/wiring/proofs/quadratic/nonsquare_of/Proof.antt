@@ -35,8 +35,8 @@ image-requires c κs =
     let low = c .if1 .left in
     (s .pre .0, (s .pre .1 .0, (omega arith, atMost-weaken (s .args .z .e) (omega arith) (s .pre .1 .1))))
 
-is-product-requires : tie.Need-is-product-requires
-is-product-requires c κs = search needs
+is-tabled-requires : tie.Need-is-tabled-requires
+is-tabled-requires c κs = search needs
 
 returns-2 : tie.Need-returns-2
 returns-2 c =
@@ -48,7 +48,7 @@ returns-2 c =
     let x = at-power .power in
     let m = c .before .before .image in
     offered-fails (λ m. not (any (same m) (tabled (a .sq .now)))) (system (records l)) (a .z .e) (recordAt l (a .t)) (x .result) (m .result .e)
-    (x .ensures) (at-if1 .if1 .left) (m .ensures) _ (ap not (sym (c .before .is-product .ensures) ∙ c .if2 .taken)) refl
+    (x .ensures) (at-if1 .if1 .left) (m .ensures) _ (ap not (sym (c .before .is-tabled .ensures) ∙ c .if2 .taken)) refl
 
 total-requires : tie.Need-total-requires
 total-requires c κs =
@@ -61,8 +61,8 @@ is-zero-requires c κs = search needs
 returns-3 : tie.Need-returns-3
 returns-3 c =
     let at-if2 = c .before .before .before in
-    let at-is-product = at-if2 .before in
-    let at-image = at-is-product .before in
+    let at-is-tabled = at-if2 .before in
+    let at-image = at-is-tabled .before in
     let at-if1 = at-image .before in
     let at-power = at-if1 .before in
     let start = at-power .before .before .before in
@@ -75,13 +75,13 @@ returns-3 c =
     let zero = ap isZero (sym (sum .ensures) ∙ sym same-sum) ∙ sym (c .before .is-zero .ensures) ∙ c .if3 .taken in
     offered-zero (λ m. not (any (same m) (tabled (a .sq .now)))) (system (records l)) (a .z .e) (recordAt l (a .t)) (x .result) (m .result .e)
     (x .ensures) (at-if1 .if1 .left) (m .ensures) _
-    (ap not (sym (at-is-product .is-product .ensures) ∙ at-if2 .if2 .left)) zero refl
+    (ap not (sym (at-is-tabled .is-tabled .ensures) ∙ at-if2 .if2 .left)) zero refl
 
 returns-4 : tie.Need-returns-4
 returns-4 c =
     let at-if2 = c .before .before .before in
-    let at-is-product = at-if2 .before in
-    let at-image = at-is-product .before in
+    let at-is-tabled = at-if2 .before in
+    let at-image = at-is-tabled .before in
     let at-if1 = at-image .before in
     let at-power = at-if1 .before in
     let start = at-power .before .before .before in
@@ -94,7 +94,7 @@ returns-4 c =
     let other = ap isZero (sym (sum .ensures) ∙ sym same-sum) ∙ sym (c .before .is-zero .ensures) ∙ c .if3 .left in
     offered-here (λ m. not (any (same m) (tabled (a .sq .now)))) (system (records l)) (a .z .e) (recordAt l (a .t)) (x .result) (m .result .e)
     (x .ensures) (at-if1 .if1 .left) (m .ensures) _
-    (ap not (sym (at-is-product .is-product .ensures) ∙ at-if2 .if2 .left)) other refl refl
+    (ap not (sym (at-is-tabled .is-tabled .ensures) ∙ at-if2 .if2 .left)) other refl refl
 
 pub nonsquare-of-spec : {M : Type 1} → statement M
 nonsquare-of-spec =
@@ -103,7 +103,7 @@ nonsquare-of-spec =
     power-requires
     returns
     image-requires
-    is-product-requires
+    is-tabled-requires
     returns-2
     total-requires
     is-zero-requires

@@ -1,4 +1,4 @@
--- `is_product` meets its contract: the loop looks through the monomials of the table (`Seeking`). Assumes nothing.
+-- `is_tabled` meets its contract: the loop looks through the monomials of the table (`Seeking`). Assumes nothing.
 use mathlib.Core.Path.{_≡_, refl, sym, ap, _∙_}
 use Prim.Native.Nat.{_/_, _-_}
 use native.Mathlib.Omega.{arith}
@@ -9,8 +9,8 @@ use Rattle.wiring.specs.Signals.{tabled}
 use Rattle.wiring.proofs.signals.Laws.{tabled-found, tabled-on, tabled-ends}
 use borrow.Author.Needs.{needs}
 use Rattle.monomial.specs.Monomial.{width}
-use Rattle.wiring.proofs.signals.is_product.Statement.{statement}
-use Rattle.wiring.proofs.signals.is_product.Tie as tie
+use Rattle.wiring.proofs.signals.is_tabled.Statement.{statement}
+use Rattle.wiring.proofs.signals.is_tabled.Tie as tie
 
 abbrev Inv-loop : tie.InvT-loop
 Inv-loop table m count i₀ i = (count ≡ length table / width) × Seeking (same (m .e)) (tabled table) i
@@ -59,8 +59,8 @@ returns-2 c =
     let a = c .before .before .before .args in
     tabled-ends (same (a .m .e)) (a .table .now) (c .before .loop .inv .1) (omega arith)
 
-pub is-product-spec : {M : Type 1} → statement M
-is-product-spec =
+pub is-tabled-spec : {M : Type 1} → statement M
+is-tabled-spec =
     tie.close
     (tie.spec
     Inv-loop

@@ -1,0 +1,2 @@
+-- What follows for an opened set below its level.
+pub mod Laws
