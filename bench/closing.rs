@@ -8,6 +8,7 @@ mod clock;
 mod groups;
 mod panel;
 #[cfg(proved)]
+#[macro_use]
 mod proved;
 mod systems;
 mod walk;
@@ -58,26 +59,7 @@ const PAIRS: &[(usize, usize)] = &[
 ];
 
 #[cfg(before)]
-fn before(n: u64, marks: u64, cap: u64, limit: u64, terms: &[u8], out: &mut [u8]) -> [u64; 5] {
-    unsafe extern "C" {
-        fn before_plan(
-            n: u64,
-            marks: u64,
-            cap: u64,
-            limit: u64,
-            terms: *const u8,
-            terms_len: usize,
-            out: *mut u8,
-            out_len: usize,
-            five: *mut [u64; 5],
-        );
-    }
-    let (from, len) = (terms.as_ptr(), terms.len());
-    let mut five = [0; 5];
-    // The slices and the five numbers are apart and live through the call, and nothing more is asked of the caller.
-    unsafe { before_plan(n, marks, cap, limit, from, len, out.as_mut_ptr(), out.len(), &mut five) };
-    five
-}
+planning!(before, before_plan);
 
 // A system's replies, without the rule and with it, and the seconds of each walk.
 struct Walked {

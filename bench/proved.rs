@@ -1,17 +1,6 @@
 // The proved functions, from the static library. A lent slice is a pointer and a length, as include/planner.h says.
 
 unsafe extern "C" {
-    fn siragumon_plan(
-        n: u64,
-        marks: u64,
-        cap: u64,
-        limit: u64,
-        terms: *const u8,
-        terms_len: usize,
-        out: *mut u8,
-        out_len: usize,
-        five: *mut [u64; 5],
-    );
     fn siragumon_wire(
         n: u64,
         marks: u64,
@@ -38,11 +27,32 @@ unsafe extern "C" {
 
 // In each call the slices and the five numbers are apart and live through it, and nothing more is asked of the caller.
 
-pub fn plan(n: u64, marks: u64, cap: u64, limit: u64, terms: &[u8], out: &mut [u8]) -> [u64; 5] {
-    let mut five = [0; 5];
-    unsafe { siragumon_plan(n, marks, cap, limit, terms.as_ptr(), terms.len(), out.as_mut_ptr(), out.len(), &mut five) };
-    five
+// Planning, by the name that it has in its archive.
+macro_rules! planning {
+    ($name:ident, $symbol:ident) => {
+        pub fn $name(n: u64, marks: u64, cap: u64, limit: u64, terms: &[u8], out: &mut [u8]) -> [u64; 5] {
+            unsafe extern "C" {
+                fn $symbol(
+                    n: u64,
+                    marks: u64,
+                    cap: u64,
+                    limit: u64,
+                    terms: *const u8,
+                    terms_len: usize,
+                    out: *mut u8,
+                    out_len: usize,
+                    five: *mut [u64; 5],
+                );
+            }
+            let (from, len) = (terms.as_ptr(), terms.len());
+            let mut five = [0; 5];
+            unsafe { $symbol(n, marks, cap, limit, from, len, out.as_mut_ptr(), out.len(), &mut five) };
+            five
+        }
+    };
 }
+
+planning!(plan, siragumon_plan);
 
 // Wiring and thinning are lent the same.
 type OnSet = unsafe extern "C" fn(u64, u64, *const u8, usize, *const u8, usize, *mut u8, usize, *mut [u64; 5]);

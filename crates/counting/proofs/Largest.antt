@@ -2,11 +2,11 @@
 -- by levels; and that j may do exactly where the least number that may do is at most j. Assumes nothing.
 use mathlib.Core.Path.{_≡_, refl, sym, ap, _∙_, subst}
 use mathlib.Core.Logic.{_⊎_, inl, inr, ⊎-elim}
-use mathlib.Core.Bool.{Bool, true, cond}
+use mathlib.Core.Bool.{Bool, true}
 use mathlib.Core.List.{List, [], _∷_, _++_, map, List·Memᴰ·head, List·Memᴰ·cases-cons, List·Memᴰ·not-nil}
 use Prim.Native.Nat.{ℕ, zero, suc, _+_, _*_, _-_, _/_, _<_, _≤_}
 use native.Mathlib.Omega.{arith}
-use borrow.Author.Tests.{leb-true, leb-false, le-leb, lt-leb, ltb-true, ltb-false}
+use borrow.Author.Tests.{leb-true, leb-false, ltb-true, ltb-false}
 use lib.Dec.{T, leb, ltb, leb→le, le→leb, ltb→lt, lt→ltb}
 use lib.ListN.{length, take, length-append}
 use Rattle.monomial.specs.Lists.{keep, gather, arrangeBy}
@@ -17,9 +17,11 @@ use Rattle.monomial.specs.Claims.{_∈_, _⊆_, Ascending, empty, first, Rearra
 use Rattle.monomial.proofs.Tests.{Tested, passed, failed, test, is→T, is→nT, cond-cases, same-test}
 use Rattle.monomial.proofs.Members.{here, there, keep-none, keep-append, Gathered, gather-in, gather-out, gather-append, gather-same, map-same}
 use Rattle.monomial.proofs.Rearranged.{rearranged-in, rearranged-out}
+use Rattle.monomial.proofs.Different.{rearranged-length}
 use Rattle.monomial.proofs.order.Laws.{mono-order}
 use Rattle.monomial.proofs.order.Ascending.{arrange-asc, arrange-in, arrange-out, sub-length, sub-equal}
 use Rattle.counting.specs.Counting.{quotientsOf, count, insertDown, sortDown, counts, sum, mayDo, leastFrom, needed, closes, upTo}
+use Rattle.counting.proofs.UpTo.{upTo-low, upTo-high, upTo-suc}
 
 -- ---- numbers, the largest first
 abbrev pub falls : ℕ → ℕ → Bool
@@ -151,26 +153,6 @@ some-most c f (x ∷ l) j h = go j h (some-most c f l) (test (f x))
         rw e (omega arith)
 
 -- ---- sums of the first, level by level
-upTo-zero : (b : ℕ) → upTo 0 b ≡ 0
-unfolding upTo
-upTo-zero b = rw (le-leb 0 b (omega arith)) refl
-
-upTo-none : (a : ℕ) → upTo a 0 ≡ 0
-unfolding upTo
-upTo-none a = go (test (leb a 0))
-  where
-    go : Tested (leb a 0) → cond (leb a 0) a 0 ≡ 0
-    go (passed e) = let h : a ≤ 0 = leb-true a 0 e in rw e (omega arith)
-    go (failed e) = rw e refl
-
-upTo-suc : (a b : ℕ) → upTo (suc a) (suc b) ≡ suc (upTo a b)
-unfolding upTo
-upTo-suc a b = go (test (leb a b))
-  where
-    go : Tested (leb a b) → cond (leb (suc a) (suc b)) (suc a) (suc b) ≡ suc (cond (leb a b) a b)
-    go (passed e) = let h : a ≤ b = leb-true a b e in rw (e, le-leb (suc a) (suc b) (omega arith)) refl
-    go (failed e) = let h : b < a = leb-false a b e in rw (e, lt-leb (suc a) (suc b) (omega arith)) refl
-
 -- numbers that are at most j leave nothing
 pub sum-gone : (t j : ℕ) (l : List ℕ) → ((x : ℕ) → x ∈ l → x ≤ j) → sum (take t (map (λ c. c - j) l)) ≡ 0
 unfolding sum
@@ -185,8 +167,8 @@ sum-gone (suc t) j (x ∷ l) h =
 pub sum-levels : (t j : ℕ) (l : List ℕ) → Ascending falls l
     → sum (take t (map (λ c. c - j) l)) ≡ upTo t (length (keep (ltb j) l)) + sum (take t (map (λ c. c - suc j) l))
 unfolding sum keep
-sum-levels zero j l a = omega (arith, upTo-zero (length (keep (ltb j) l)))
-sum-levels (suc t) j [] a = omega (arith, upTo-none (suc t))
+sum-levels zero j l a = omega (arith, upTo-high 0 (length (keep (ltb j) l)) (omega arith))
+sum-levels (suc t) j [] a = omega (arith, upTo-low (suc t) 0 (omega arith))
 sum-levels (suc t) j (x ∷ l) (first h a) = go (sum-levels t j l a) (test (ltb j x))
   where
     above : ℕ
@@ -195,7 +177,7 @@ sum-levels (suc t) j (x ∷ l) (first h a) = go (sum-levels t j l a) (test (ltb 
     go : sum (take t (map (λ c. c - j) l)) ≡ upTo t above + sum (take t (map (λ c. c - suc j) l)) → Tested (ltb j x)
         → sum (take (suc t) (map (λ c. c - j) (x ∷ l))) ≡ upTo (suc t) (length (keep (ltb j) (x ∷ l))) + sum (take (suc t) (map (λ c. c - suc j) (x ∷ l)))
     go ih (passed e) = let k : j < x = ltb-true j x e in rw e (omega (arith, upTo-suc t above))
-    go ih (failed e) = rw (e, none) (omega (arith, upTo-none (suc t), gone j (omega arith), gone (suc j) (omega arith)))
+    go ih (failed e) = rw (e, none) (omega (arith, upTo-low (suc t) 0 (omega arith), gone j (omega arith), gone (suc j) (omega arith)))
       where
         low : x ≤ j
         low = ltb-false j x e
@@ -302,13 +284,6 @@ needed-room may v ns t = same-test (ltb t need) (ltb made (length ns)) into back
         go (failed e) = lt→ltb t need (leb-false need t e)
 
 -- ---- nonsquares in another order
-rearranged-length : {A : Type 0} (l l' : List A) → Rearranged l l' → length l ≡ length l'
-rearranged-length [] l' q = ap length (sym q)
-rearranged-length (x ∷ l) l' q =
-    let ih : length l ≡ length (q .0 ++ q .1) = rearranged-length l (q .0 ++ q .1) (q .3) in
-    let e : length l' ≡ length (q .0 ++ (x ∷ q .1)) = ap length (q .2) in
-    omega (arith, length-append (q .0) (q .1), length-append (q .0) (x ∷ q .1))
-
 -- a test keeps as many of what is gathered
 module _ {A B : Type 0} (f : B → Bool) (g : A → List B) where
   kept : List A → ℕ

@@ -2,7 +2,7 @@
 -- none of them. Assumes nothing.
 use mathlib.Core.Path.{refl}
 use mathlib.Core.Bool.{Bool}
-use mathlib.Core.List.{List, List·Memᴰ·not-nil}
+use mathlib.Core.List.{List·Memᴰ·not-nil}
 use Prim.Native.Nat.{ℕ, _≤_}
 use Rattle.monomial.specs.Monomial.{Mono, width}
 use Rattle.wiring.specs.Signals.{signals}

@@ -15,7 +15,8 @@ use Rattle.monomial.specs.Quotient.{divides, quo}
 use Rattle.monomial.proofs.Tests.{and-l, and-r}
 use Rattle.monomial.proofs.Members.{keep-none}
 use Rattle.counting.specs.Counting.{hits, begins, upTo}
-use Rattle.counting.proofs.counting.Hits.{hits-few, upTo-low, upTo-within, upTo-more}
+use Rattle.counting.proofs.UpTo.{upTo-low, upTo-within, upTo-more}
+use Rattle.counting.proofs.counting.Hits.{hits-few}
 
 module _ (may : Mono → Bool) (v : List Mono) (often : ℕ) where
   -- ---- test by test

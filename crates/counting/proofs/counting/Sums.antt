@@ -7,18 +7,18 @@ use Prim.Native.Nat.{ℕ, suc, _+_, _-_, _*_, _/_, _<_, _≤_}
 use native.Mathlib.Omega.{arith}
 use native.Mathlib.Numerals.{add-one}
 use native.Mathlib.Nat.{le-trans, mul-le-mul-left, mul-le-mul-right, mul-div-le, div-one}
-use borrow.Author.Tests.{lt-ltb, le-ltb, ltb-true, ltb-false}
+use borrow.Author.Tests.{lt-ltb, le-ltb, ltb-false}
 use lib.Dec.{T, ltb, ltb→lt, lt→ltb, leb→le}
 use lib.ListN.{length, take, length-map}
 use Rattle.monomial.specs.Lists.{keep, gather, arrangeBy}
 use Rattle.monomial.specs.Monomial.{Mono}
 use Rattle.monomial.specs.Order.{same, before}
 use Rattle.monomial.specs.Claims.{_∈_, Ascending, first}
-use Rattle.monomial.proofs.Tests.{same-test}
+use Rattle.monomial.proofs.Tests.{Tested, passed, failed, test, is→T, same-test}
 use Rattle.monomial.proofs.Members.{here, keep-in, keep-out, keep-map}
 use Rattle.counting.specs.Counting.{quotientsOf, count, counts, sum, frequent, upTo, closes}
+use Rattle.counting.proofs.UpTo.{upTo-none}
 use Rattle.counting.proofs.Largest.{falls, sort-falls, sort-keeps, sum-gone, sum-levels, sum-below, needed-room}
-use Rattle.counting.proofs.counting.Hits.{upTo-none}
 
 module _ (may : Mono → Bool) (v l : List Mono) where
   -- the counts of the quotients, the largest first
@@ -40,18 +40,15 @@ module _ (may : Mono → Bool) (v l : List Mono) where
 
   -- where no quotient occurs so often, each count is less
   pub none-frequent : (j : ℕ) → frequent may v l (suc j) ≡ 0 → (x : ℕ) → x ∈ tally → x ≤ j
-  none-frequent j e x h = go (test-less j x)
+  none-frequent j e x h = go (test (ltb j x))
     where
       some : (r : List ℕ) → x ∈ r → length r ≡ 0 → ⊥
       some [] m z = List·Memᴰ·not-nil m
       some (y ∷ r) m z = omega arith
 
-      test-less : (j x : ℕ) → (b : Bool) × (ltb j x ≡ b)
-      test-less j x = (ltb j x, refl)
-
-      go : (b : Bool) × (ltb j x ≡ b) → x ≤ j
-      go (true, t) = absurd (some (keep (ltb j) tally) (keep-in (ltb j) tally h (lt→ltb j x (ltb-true j x t))) (frequent-counts j ∙ e))
-      go (false, t) = ltb-false j x t
+      go : Tested (ltb j x) → x ≤ j
+      go (passed t) = absurd (some (keep (ltb j) tally) (keep-in (ltb j) tally h (is→T (ltb j x) t)) (frequent-counts j ∙ e))
+      go (failed t) = ltb-false j x t
 
   -- where one does, the largest count is as much
   pub one-frequent : (j : ℕ) → 1 ≤ frequent may v l (suc j) → j < sum (take 1 tally)

@@ -12,7 +12,7 @@ use Rattle.wiring.specs.Signals.{tabled}
 use Rattle.wiring.specs.Sockets.{mayBe}
 use Rattle.wiring.proofs.signals.Laws.{tabled-length}
 use Rattle.counting.specs.Counting.{frequent}
-use Rattle.counting.proofs.counting.Hits.{upTo-none, upTo-some}
+use Rattle.counting.proofs.UpTo.{upTo-none, upTo-some}
 use Rattle.counting.proofs.counting.Sums.{closes-few, closes-sum, closes-rare, closes-one, twos-small, share-less, share-whole}
 use borrow.Author.Needs.{needs}
 use Rattle.counting.proofs.counting.closes.Statement.{statement}
