@@ -67,13 +67,8 @@ const CLOSING_ROUND: usize = 8;
 /// The first so many cases that a seed gives.
 pub fn batch(seed: u64, count: usize) -> Vec<Case> {
     let closing = count / CLOSING_ROUND;
-    let mut others = first_others(seed, count - closing).into_iter();
-    let mut closing = first_closing(seed, closing).into_iter();
-    let case = |number: usize| match number % CLOSING_ROUND {
-        0 => closing.next().expect("one of each eight"),
-        _ => others.next().expect("seven of each eight"),
-    };
-    (1..=count).map(case).collect()
+    let others = first_others(seed, count - closing);
+    with_last(CLOSING_ROUND, others, first_closing(seed, closing))
 }
 
 /// Of each three of the others the last has marks.
@@ -81,13 +76,8 @@ const MARKED_ROUND: usize = 3;
 
 fn first_others(seed: u64, count: usize) -> Vec<Case> {
     let marked = count / MARKED_ROUND;
-    let mut without = first_unmarked(seed, count - marked).into_iter();
-    let mut with = first_marked(seed, marked).into_iter();
-    let case = |number: usize| match number % MARKED_ROUND {
-        0 => with.next().expect("one of each three"),
-        _ => without.next().expect("two of each three"),
-    };
-    (1..=count).map(case).collect()
+    let without = first_unmarked(seed, count - marked);
+    with_last(MARKED_ROUND, without, first_marked(seed, marked))
 }
 
 /// Of each eight cases without marks the seventh is one of thinning, and the last
@@ -96,13 +86,19 @@ const ROUND: usize = 8;
 
 fn first_unmarked(seed: u64, count: usize) -> Vec<Case> {
     let (thinnings, wirings) = ((count + 1) / ROUND, count / ROUND);
-    let mut thin = first_thinnings(seed, thinnings).into_iter();
-    let mut wire = first_wirings(seed, wirings).into_iter();
-    let mut other = first_cases(seed, &PLANNING, count - thinnings - wirings).into_iter();
-    let case = |number: usize| match number % ROUND {
-        7 => thin.next().expect("one of each eight"),
-        0 => wire.next().expect("one of each eight"),
-        _ => other.next().expect("six of each eight"),
+    let other = first_cases(seed, &PLANNING, count - thinnings - wirings);
+    let seven = with_last(ROUND - 1, other, first_thinnings(seed, thinnings));
+    with_last(ROUND, seven, first_wirings(seed, wirings))
+}
+
+/// Both runs as one, each in its order: of each round of cases the last is one of
+/// `last`.
+fn with_last(round: usize, others: Vec<Case>, last: Vec<Case>) -> Vec<Case> {
+    let count = others.len() + last.len();
+    let (mut others, mut last) = (others.into_iter(), last.into_iter());
+    let case = |number: usize| match number % round {
+        0 => last.next().expect("one of each round"),
+        _ => others.next().expect("the rest of each round"),
     };
     (1..=count).map(case).collect()
 }
