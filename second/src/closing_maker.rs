@@ -5,6 +5,7 @@
 use crate::batch::{Case, MOST_CASE_BUFFER};
 use crate::maker::{Ask, Maker, Mix};
 use crate::panel::{CARDS, MOST_CAP, SET_BYTES};
+use crate::random::Random;
 use crate::records::write_terms;
 use crate::system::System;
 use crate::systems::{self, Outside};
@@ -27,35 +28,31 @@ pub const CLOSING: Mix = Mix {
 
 impl Maker {
     fn around_six_terms(&mut self) {
-        let system = systems::six_terms(&mut self.random);
-        self.around(&system);
+        self.around(systems::six_terms, Outside::Nothing);
     }
 
     fn around_six_terms_and_signals(&mut self) {
-        let system = systems::six_terms(&mut self.random);
-        let fed = Outside::Signals.feed(&mut self.random, system);
-        self.around(&fed);
+        self.around(systems::six_terms, Outside::Signals);
     }
 
     fn around_any(&mut self) {
-        let system = systems::any(&mut self.random);
-        self.around(&system);
+        self.around(systems::any, Outside::Nothing);
     }
 
     fn around_any_with_signals(&mut self) {
-        let system = systems::any(&mut self.random);
-        let fed = Outside::Signals.feed(&mut self.random, system);
-        self.around(&fed);
+        self.around(systems::any, Outside::Signals);
     }
 
-    /// The cases around a system's own walk.
-    fn around(&mut self, system: &System) {
+    /// The cases around the own walk of a system that is made and fed so.
+    fn around(&mut self, made: fn(&mut Random) -> System, outside: Outside) {
+        let system = made(&mut self.random);
+        let system = outside.feed(&mut self.random, system);
         let cap = match self.random.below(10) {
             0..=4 => MOST_CAP,
             _ => self.random.between(1, CARDS) as u64,
         };
         let generous = self.random.pick(&[300, 1_000, 1_000, 3_000]);
-        self.around_the_plan(system, cap, generous);
+        self.around_the_plan(&system, cap, generous);
     }
 
     /// A walk that would be spent if hopeless sets were tried, and ends: the limit

@@ -1,7 +1,7 @@
 -- The counting argument of document 001, section 5.1, over lists: where each nonsquare is a new monomial times a member of V, or a product of two new
 -- ones, the new ones are at least as many as the rule says. Assumes nothing.
 use mathlib.Core.Path.{_≡_, refl, sym, ap, _∙_, subst}
-use mathlib.Core.Logic.{_⊎_, inl, inr, ⊎-elim}
+use mathlib.Core.Logic.{_⊎_, inl, inr}
 use mathlib.Core.Bool.{Bool, not}
 use mathlib.Core.List.{List, [], _∷_, _++_, map, List·Memᴰ·cases-cons, List·Memᴰ·not-nil, Memᴰ·append-left, Memᴰ·append-right, Memᴰ·cast, Memᴰ·map}
 use Prim.Native.Nat.{ℕ, suc, _+_, _*_, _/_, _≤_}
@@ -14,7 +14,7 @@ use Rattle.monomial.specs.Order.{same, before}
 use Rattle.monomial.specs.Product.{mul}
 use Rattle.monomial.specs.Claims.{_∈_, _⊆_, Ascending}
 use Rattle.monomial.proofs.Tests.{Tested, passed, failed, test, is→T, is→nT, or-e}
-use Rattle.monomial.proofs.Members.{here, there, any-in, any-out, any-cons, keep-in, keep-out, keep-none, keep-append, keep-length}
+use Rattle.monomial.proofs.Members.{here, there, any-in, any-out, any-cons, keep-in, keep-out, keep-none, keep-append, keep-length, keep-split, keep-either, keep-some}
 use Rattle.monomial.proofs.order.Laws.{mono-order}
 use Rattle.monomial.proofs.order.Ascending.{keep-asc, arrange-asc, arrange-in, arrange-length, sub-length, sub-equal, among-in, among-out}
 use Rattle.monomial.proofs.product.Laws.{mul-comm}
@@ -23,42 +23,6 @@ use Rattle.counting.specs.Counting.{quotientsOf, count, sortDown, counts
 use Rattle.counting.proofs.Largest.{some-most, least-le}
 use Rattle.counting.proofs.counting.Laws.{share-in}
 use Rattle.counting.proofs.counting.Quotients.{quotient-in}
-
--- ---- how many a test keeps
-module _ {A : Type 0} where
-  pub keep-split : (f : A → Bool) (l : List A) → length (keep f l) + length (keep (λ x. not (f x)) l) ≡ length l
-  unfolding keep
-  keep-split f [] = omega arith
-  keep-split f (x ∷ l) = go (keep-split f l) (test (f x))
-    where
-      go : length (keep f l) + length (keep (λ x. not (f x)) l) ≡ length l → Tested (f x)
-          → length (keep f (x ∷ l)) + length (keep (λ x. not (f x)) (x ∷ l)) ≡ suc (length l)
-      go ih (passed e) = rw e (omega arith)
-      go ih (failed e) = rw e (omega arith)
-
-  -- what passes one of two tests is no more than what passes the one and what passes the other
-  keep-either : (f g h : A → Bool) (l : List A) → ((x : A) → T (f x) → T (g x) ⊎ T (h x)) → length (keep f l) ≤ length (keep g l) + length (keep h l)
-  unfolding keep
-  keep-either f g h [] s = omega arith
-  keep-either f g h (x ∷ l) s = go (keep-either f g h l s) (test (f x)) (test (g x)) (test (h x))
-    where
-      go : length (keep f l) ≤ length (keep g l) + length (keep h l) → Tested (f x) → Tested (g x) → Tested (h x)
-          → length (keep f (x ∷ l)) ≤ length (keep g (x ∷ l)) + length (keep h (x ∷ l))
-      go ih (passed a) (passed b) (passed c) = rw (a, b, c) (omega arith)
-      go ih (passed a) (passed b) (failed c) = rw (a, b, c) (omega arith)
-      go ih (passed a) (failed b) (passed c) = rw (a, b, c) (omega arith)
-      go ih (passed a) (failed b) (failed c) = absurd (⊎-elim (is→nT (g x) b) (is→nT (h x) c) (s x (is→T (f x) a)))
-      go ih (failed a) (passed b) (passed c) = rw (a, b, c) (omega arith)
-      go ih (failed a) (passed b) (failed c) = rw (a, b, c) (omega arith)
-      go ih (failed a) (failed b) (passed c) = rw (a, b, c) (omega arith)
-      go ih (failed a) (failed b) (failed c) = rw (a, b, c) (omega arith)
-
-  keep-some : (f : A → Bool) {x : A} (l : List A) → x ∈ l → T (f x) → 1 ≤ length (keep f l)
-  keep-some f {x} l h t = go (keep f l) (keep-in f l h t)
-    where
-      go : (r : List A) → x ∈ r → 1 ≤ length r
-      go [] m = absurd (List·Memᴰ·not-nil m)
-      go (y ∷ r) m = omega arith
 
 -- ---- products of two new monomials
 triangle : List Mono → List Mono

@@ -3,21 +3,20 @@
 use mathlib.Core.Path.{_≡_, refl, sym, ap, _∙_, subst}
 use mathlib.Core.Logic.{_⊎_, inl, inr, ⊎-elim}
 use mathlib.Core.Bool.{Bool, true}
-use mathlib.Core.List.{List, [], _∷_, _++_, map, List·Memᴰ·head, List·Memᴰ·cases-cons, List·Memᴰ·not-nil}
+use mathlib.Core.List.{List, [], _∷_, map, List·Memᴰ·head, List·Memᴰ·cases-cons, List·Memᴰ·not-nil}
 use Prim.Native.Nat.{ℕ, zero, suc, _+_, _*_, _-_, _/_, _<_, _≤_}
 use native.Mathlib.Omega.{arith}
 use borrow.Author.Tests.{leb-true, leb-false, ltb-true, ltb-false}
 use lib.Dec.{T, leb, ltb, leb→le, le→leb, ltb→lt, lt→ltb}
-use lib.ListN.{length, take, length-append}
+use lib.ListN.{length, take}
 use Rattle.monomial.specs.Lists.{keep, gather, arrangeBy}
 use Rattle.monomial.specs.Monomial.{Mono}
 use Rattle.monomial.specs.Order.{same, before}
 use Rattle.monomial.specs.Quotient.{divides, quo}
 use Rattle.monomial.specs.Claims.{_∈_, _⊆_, Ascending, empty, first, Rearranged}
 use Rattle.monomial.proofs.Tests.{Tested, passed, failed, test, is→T, is→nT, cond-cases, same-test}
-use Rattle.monomial.proofs.Members.{here, there, keep-none, keep-append, Gathered, gather-in, gather-out, gather-append, gather-same, map-same}
-use Rattle.monomial.proofs.Rearranged.{rearranged-in, rearranged-out}
-use Rattle.monomial.proofs.Different.{rearranged-length}
+use Rattle.monomial.proofs.Members.{here, there, keep-none, gather-sub, gather-same, map-same}
+use Rattle.monomial.proofs.Rearranged.{rearranged-in, rearranged-out, rearranged-length, kept-rearranged}
 use Rattle.monomial.proofs.order.Laws.{mono-order}
 use Rattle.monomial.proofs.order.Ascending.{arrange-asc, arrange-in, arrange-out, sub-length, sub-equal}
 use Rattle.counting.specs.Counting.{quotientsOf, count, insertDown, sortDown, counts, sum, mayDo, leastFrom, needed, closes, upTo}
@@ -284,27 +283,6 @@ needed-room may v ns t = same-test (ltb t need) (ltb made (length ns)) into back
         go (failed e) = lt→ltb t need (leb-false need t e)
 
 -- ---- nonsquares in another order
--- a test keeps as many of what is gathered
-module _ {A B : Type 0} (f : B → Bool) (g : A → List B) where
-  kept : List A → ℕ
-  kept l = length (keep f (gather g l))
-
-  kept-append : (a b : List A) → kept (a ++ b) ≡ kept a + kept b
-  unfolding kept
-  kept-append a b =
-      ap length (ap (keep f) (gather-append g a b) ∙ keep-append f (gather g a) (gather g b)) ∙ length-append (keep f (gather g a)) (keep f (gather g b))
-
-  kept-more : (x : A) (l : List A) → kept (x ∷ l) ≡ length (keep f (g x)) + kept l
-  unfolding kept gather
-  kept-more x l = ap length (keep-append f (g x) (gather g l)) ∙ length-append (keep f (g x)) (keep f (gather g l))
-
-  kept-rearranged : (l l' : List A) → Rearranged l l' → kept l ≡ kept l'
-  kept-rearranged [] l' q = ap kept (sym q)
-  kept-rearranged (x ∷ l) l' q =
-      let ih : kept l ≡ kept (q .0 ++ q .1) = kept-rearranged l (q .0 ++ q .1) (q .3) in
-      let e : kept l' ≡ kept (q .0 ++ (x ∷ q .1)) = ap kept (q .2) in
-      omega (arith, kept-more x l, kept-append (q .0) (q .1), kept-append (q .0) (x ∷ q .1), kept-more x (q .1))
-
 module _ (g : Mono → List Mono) (l l' : List Mono) (q : Rearranged l l') where
   abbrev those : List Mono
   those = gather g l
@@ -312,22 +290,22 @@ module _ (g : Mono → List Mono) (l l' : List Mono) (q : Rearranged l l') where
   abbrev others : List Mono
   others = gather g l'
 
-  gathered-in : those ⊆ others
-  gathered-in y h = let x : Gathered g y l = gather-out g l h in gather-in g l' (rearranged-in l l' q (x .entry) (x .member)) (x .inside)
+  into : those ⊆ others
+  into = gather-sub g l l' (rearranged-in l l' q)
 
-  gathered-out : others ⊆ those
-  gathered-out y h = let x : Gathered g y l' = gather-out g l' h in gather-in g l (rearranged-out l l' q (x .entry) (x .member)) (x .inside)
+  back : others ⊆ those
+  back = gather-sub g l' l (rearranged-out l l' q)
 
   -- the same members, each as often
   arranged-same : arrangeBy same before those ≡ arrangeBy same before others
   arranged-same =
       sub-equal mono-order (arrangeBy same before those) (arrangeBy same before others) (arrange-asc mono-order those) (arrange-asc mono-order others)
-      (λ y h. arrange-in mono-order others (gathered-in y (arrange-out mono-order those h)))
+      (λ y h. arrange-in mono-order others (into y (arrange-out mono-order those h)))
       (sub-length mono-order (arrangeBy same before others) (arrangeBy same before those) (arrange-asc mono-order others) (arrange-asc mono-order those)
-      (λ y h. arrange-in mono-order those (gathered-out y (arrange-out mono-order others h))))
+      (λ y h. arrange-in mono-order those (back y (arrange-out mono-order others h))))
 
   count-same : (x : Mono) → count those x ≡ count others x
-  unfolding count kept
+  unfolding count
   count-same x = kept-rearranged (same x) g l l' q
 
   counts-rearranged : counts those ≡ counts others

@@ -1,41 +1,37 @@
 -- Lists without repeats: they are no longer than any list that has their entries, and two with the same entries are one list in another order.
 -- Assumes nothing.
-use mathlib.Core.Path.{_≡_, refl, sym, ap, _∙_, subst}
+use mathlib.Core.Path.{_≡_, refl, sym, ap, subst}
 use mathlib.Core.Logic.{inl, inr, ⊎-elim}
 use mathlib.Core.Bool.{Bool}
 use mathlib.Core.List.{List, [], _∷_, _++_, map, List·Memᴰ·head, List·Memᴰ·cases-cons, List·Memᴰ·not-nil, Memᴰ·cast, Memᴰ·of-map, List·Memᴰ·append-cases}
 use Prim.Native.Nat.{ℕ, zero, suc, _+_, _≤_}
 use native.Mathlib.Omega.{arith}
-use lib.ListN.{length, take, length-append}
+use lib.ListN.{length, take}
 use Rattle.monomial.specs.Lists.{keep}
 use Rattle.monomial.specs.Claims.{_∈_, _⊆_, Ascending, Different, Rearranged, Order}
 use Rattle.monomial.proofs.Tests.{Tested, passed, failed, test}
 use Rattle.monomial.proofs.Members.{here, there, keep-out, take-in}
-use Rattle.monomial.proofs.Rearranged.{between-in, between-out}
+use Rattle.monomial.proofs.Rearranged.{between-in, between-out, between-length}
 use Rattle.monomial.proofs.order.Ascending.{head-first, tail-asc}
 
 module _ {A : Type 0} where
   -- ---- an entry, and the two parts of the list beside it
-  pub record Standing (x : A) (l : List A) : Type 0 where
+  pub record Parted (x : A) (l : List A) : Type 0 where
     pub front : List A
     pub back : List A
     pub is : l ≡ front ++ (x ∷ back)
 
-  pub standing : (x : A) (l : List A) → x ∈ l → Standing x l
-  standing x [] h = absurd (List·Memᴰ·not-nil h)
-  standing x (y ∷ l) h = ⊎-elim first (λ k. later (standing x l k)) (List·Memᴰ·cases-cons h)
+  pub parted : (x : A) (l : List A) → x ∈ l → Parted x l
+  parted x [] h = absurd (List·Memᴰ·not-nil h)
+  parted x (y ∷ l) h = ⊎-elim first (λ k. later (parted x l k)) (List·Memᴰ·cases-cons h)
     where
-      first : x ≡ y → Standing x (y ∷ l)
+      first : x ≡ y → Parted x (y ∷ l)
       first e = record { front = []; back = l; is = ap (λ z. z ∷ l) (sym e) }
 
-      later : Standing x l → Standing x (y ∷ l)
+      later : Parted x l → Parted x (y ∷ l)
       later s = record { front = y ∷ s .front; back = s .back; is = ap (_∷_ y) (s .is) }
 
-  -- a list with an entry more is one longer
-  pub between-length : (front back : List A) (x : A) → length (front ++ (x ∷ back)) ≡ suc (length (front ++ back))
-  between-length front back x = omega (arith, length-append front (x ∷ back), length-append front back)
-
-  module _ (x : A) (l : List A) (s : Standing x l) where
+  module _ (x : A) (l : List A) (s : Parted x l) where
     abbrev pub rest : List A
     rest = s .front ++ s .back
 
@@ -67,7 +63,7 @@ module _ {A : Type 0} where
   pub different-length : (s t : List A) → Different s → s ⊆ t → length s ≤ length t
   different-length [] t d sub = omega arith
   different-length (x ∷ s) t d sub =
-      let p : Standing x t = standing x t (sub x here) in
+      let p : Parted x t = parted x t (sub x here) in
       let ih : length s ≤ length (rest x t p) = different-length s (rest x t p) (d .1) (rest-has x t p s (d .0) (λ y h. sub y (there h))) in
       omega (arith, ap length (p .is), between-length (p .front) (p .back) x)
 
@@ -78,7 +74,7 @@ module _ {A : Type 0} where
       none [] h = refl
       none (y ∷ t) h = absurd (List·Memᴰ·not-nil (h y here))
   different-rearranged (x ∷ s) t d f st ts =
-      let p : Standing x t = standing x t (st x here) in
+      let p : Parted x t = parted x t (st x here) in
       let apart = different-rest (p .front) (p .back) x (subst Different (p .is) f) in
       let into : s ⊆ rest x t p = rest-has x t p s (d .0) (λ y h. st y (there h)) in
       let back : rest x t p ⊆ s = λ y h. ⊎-elim (λ e. absurd (apart .0 (Memᴰ·cast (sym e) h))) (λ k. k) (List·Memᴰ·cases-cons (ts y (rest-sub x t p y h))) in
@@ -110,12 +106,6 @@ module _ {A : Type 0} where
   different-append [] b d e apart = e
   different-append (x ∷ a) b d e apart =
       (λ h. ⊎-elim (d .0) (apart x here) (List·Memᴰ·append-cases a h), different-append a b (d .1) e (λ y i j. apart y (there i) j))
-
-  pub rearranged-length : (l l' : List A) → Rearranged l l' → length l ≡ length l'
-  rearranged-length [] l' q = ap length (sym q)
-  rearranged-length (x ∷ l) l' q =
-      let ih : length l ≡ length (q .0 ++ q .1) = rearranged-length l (q .0 ++ q .1) (q .3) in
-      ap suc ih ∙ sym (between-length (q .0) (q .1) x) ∙ ap length (sym (q .2))
 
 -- an ascending list has none
 pub ascending-different : {A : Type 0} {same before : A → A → Bool} (o : Order same before) (l : List A) → Ascending before l → Different l

@@ -2,8 +2,7 @@
 -- `Placing`, `Checking`), or collect what its entries give (`Collecting`). Each record is a loop's invariant. Assumes nothing.
 use mathlib.Core.Path.{_≡_, refl, sym, ap, ap₂, _∙_, subst}
 use mathlib.Core.Bool.{Bool, true, false}
-use mathlib.Core.Logic.{⊎-elim}
-use mathlib.Core.List.{List, [], _∷_, _++_, append-nil, List·Memᴰ·append-cases, Memᴰ·append-left, Memᴰ·append-right}
+use mathlib.Core.List.{List, [], _∷_, _++_, append-nil}
 use Prim.Native.Nat.{ℕ, zero, suc, _+_, _≤_, _<_}
 use native.Mathlib.Omega.{arith}
 use native.Mathlib.Numerals.{add-one}
@@ -11,7 +10,7 @@ use lib.ListN.{length, take, drop, set, getD, replicate, length-set, drop-of-len
 use lib.Seq.{paste, paste-zero, paste-suc, length-paste, take-suc, take-suc-set, take-all, drop-cons, set-at, length-take-le, append-snoc}
 use Rattle.monomial.specs.Lists.{any, all, place, pairwise, pointwise, gather}
 use Rattle.monomial.specs.Claims.{_⊆_}
-use Rattle.monomial.proofs.Members.{Gathered, gather-in, gather-out, gather-append, take-in}
+use Rattle.monomial.proofs.Members.{append-turned, gather-sub, gather-append, take-in}
 
 module _ {A : Type 0} (d : A) where
   -- ---- a loop that makes r the list t, and has come to place i
@@ -262,10 +261,7 @@ module _ {A B : Type 0} (f : A → List B) (l : List A) where
 
   -- what has been met so far, in the whole
   pub collecting-sub : (i : ℕ) → gather f (take i l) ⊆ gather f l
-  collecting-sub i y h = let g : Gathered f y (take i l) = gather-out f (take i l) h in gather-in f l (take-in i l (g .member)) (g .inside)
-
-  turned : (a b : List B) → (a ++ b) ⊆ (b ++ a)
-  turned a b y h = ⊎-elim (λ k. Memᴰ·append-right b k) (λ k. Memᴰ·append-left a k) (List·Memᴰ·append-cases a h)
+  collecting-sub i = gather-sub f (take i l) l (λ x h. take-in i l h)
 
   module _ {i : ℕ} (d : A) (h : i < length l) where
     one-more : gather f (take (i + 1) l) ≡ gather f (take i l) ++ f (getD l i d)
@@ -278,7 +274,7 @@ module _ {A B : Type 0} (f : A → List B) (l : List A) where
     collecting-next {P} {Q} c o more =
         let old = gather f (take i l) in
         let new = f (getD l i d) in
-        record { within = omega arith; holds = rw one-more (o (new ++ old) (old ++ new) (turned new old) (turned old new) (more old (c .holds))) }
+        record { within = omega arith; holds = rw one-more (o (new ++ old) (old ++ new) (append-turned new old) (append-turned old new) (more old (c .holds))) }
 
   pub collecting-end : {P : List B → Type 0} {i : ℕ} → Collecting P i → length l ≤ i → P (gather f l)
   collecting-end {P} {i} c h = subst (λ (r : List A). P (gather f r)) (take-all i l h) (c .holds)

@@ -1,15 +1,15 @@
 -- Members of the lists that `any`, `keep` and `gather` speak of. Assumes nothing.
 use mathlib.Core.Path.{_≡_, refl, sym, ap, ap₂, subst, _∙_}
-use mathlib.Core.Logic.{⊎-elim}
-use mathlib.Core.Bool.{Bool, cond, _&&_, _||_}
+use mathlib.Core.Logic.{_⊎_, ⊎-elim}
+use mathlib.Core.Bool.{Bool, not, cond, _&&_, _||_}
 use mathlib.Core.List.{List, [], _∷_, List·Memᴰ·head, List·Memᴰ·tail, List·Memᴰ·cases-cons, List·Memᴰ·not-nil, List·Memᴰ·append-cases, Memᴰ·append-left, Memᴰ·append-right, _++_, map, append-assoc}
 use lib.ListN.{length, getD, take, drop, replicate}
-use Prim.Native.Nat.{ℕ, zero, suc, _<_, _≤_}
+use Prim.Native.Nat.{ℕ, zero, suc, _+_, _<_, _≤_}
 use native.Mathlib.Omega.{arith}
 use lib.Dec.{T}
 use Rattle.monomial.specs.Lists.{any, some, all, keep, gather}
-use Rattle.monomial.specs.Claims.{_∈_}
-use Rattle.monomial.proofs.Tests.{and-l, and-r, and-i, or-l, or-r, or-e, cond-cases, T→is, nT→is, Tested, passed, failed, test}
+use Rattle.monomial.specs.Claims.{_∈_, _⊆_}
+use Rattle.monomial.proofs.Tests.{and-l, and-r, and-i, or-l, or-r, or-e, cond-cases, T→is, nT→is, is→T, is→nT, Tested, passed, failed, test}
 
 module _ {A : Type 0} where
   pub here : {x : A} {l : List A} → x ∈ (x ∷ l)
@@ -110,6 +110,14 @@ module _ {A : Type 0} where
   keep-none f [] h = refl
   keep-none f (x ∷ l) h = rw (nT→is (f x) (h x here)) (keep-none f l (λ y m. h y (there m)))
 
+-- ---- two lists, one behind the other
+module _ {A : Type 0} where
+  pub append-sub : {a b c d : List A} → a ⊆ b → c ⊆ d → (a ++ c) ⊆ (b ++ d)
+  append-sub {a} {b} {c} {d} ab cd y h = ⊎-elim (λ k. Memᴰ·append-left d (ab y k)) (λ k. Memᴰ·append-right b (cd y k)) (List·Memᴰ·append-cases a h)
+
+  pub append-turned : (a b : List A) → (a ++ b) ⊆ (b ++ a)
+  append-turned a b y h = ⊎-elim (λ k. Memᴰ·append-right b k) (λ k. Memᴰ·append-left a k) (List·Memᴰ·append-cases a h)
+
 -- ---- gather
 module _ {A B : Type 0} (f : A → List B) where
   pub gather-in : {x : A} {y : B} (l : List A) → x ∈ l → y ∈ f x → y ∈ gather f l
@@ -130,6 +138,9 @@ module _ {A B : Type 0} (f : A → List B) where
     where
       later : Gathered y l → Gathered y (a ∷ l)
       later g = record { entry = g .entry; member = there (g .member); inside = g .inside }
+
+  pub gather-sub : (a b : List A) → a ⊆ b → gather f a ⊆ gather f b
+  gather-sub a b ab y h = let g : Gathered y a = gather-out a h in gather-in b (ab (g .entry) (g .member)) (g .inside)
 
 -- ---- keep, entry by entry
 pub keep-append : {A : Type 0} (f : A → Bool) (a b : List A) → keep f (a ++ b) ≡ keep f a ++ keep f b
@@ -185,6 +196,42 @@ keep-length f [] = omega arith
 keep-length f (x ∷ l) =
     let ih : length (keep f l) ≤ length l = keep-length f l in
     cond-cases (λ r. length r ≤ suc (length l)) (f x) (x ∷ keep f l) (keep f l) (λ t. omega arith) (λ t. omega arith)
+
+-- what passes a test, and what fails it
+pub keep-split : {A : Type 0} (f : A → Bool) (l : List A) → length (keep f l) + length (keep (λ x. not (f x)) l) ≡ length l
+unfolding keep
+keep-split f [] = omega arith
+keep-split f (x ∷ l) = go (keep-split f l) (test (f x))
+  where
+    go : length (keep f l) + length (keep (λ x. not (f x)) l) ≡ length l → Tested (f x)
+        → length (keep f (x ∷ l)) + length (keep (λ x. not (f x)) (x ∷ l)) ≡ suc (length l)
+    go ih (passed e) = rw e (omega arith)
+    go ih (failed e) = rw e (omega arith)
+
+-- what passes one of two tests is no more than what passes the one and what passes the other
+pub keep-either : {A : Type 0} (f g h : A → Bool) (l : List A) → ((x : A) → T (f x) → T (g x) ⊎ T (h x)) → length (keep f l) ≤ length (keep g l) + length (keep h l)
+unfolding keep
+keep-either f g h [] s = omega arith
+keep-either f g h (x ∷ l) s = go (keep-either f g h l s) (test (f x)) (test (g x)) (test (h x))
+  where
+    go : length (keep f l) ≤ length (keep g l) + length (keep h l) → Tested (f x) → Tested (g x) → Tested (h x)
+        → length (keep f (x ∷ l)) ≤ length (keep g (x ∷ l)) + length (keep h (x ∷ l))
+    go ih (passed a) (passed b) (passed c) = rw (a, b, c) (omega arith)
+    go ih (passed a) (passed b) (failed c) = rw (a, b, c) (omega arith)
+    go ih (passed a) (failed b) (passed c) = rw (a, b, c) (omega arith)
+    go ih (passed a) (failed b) (failed c) = absurd (⊎-elim (is→nT (g x) b) (is→nT (h x) c) (s x (is→T (f x) a)))
+    go ih (failed a) (passed b) (passed c) = rw (a, b, c) (omega arith)
+    go ih (failed a) (passed b) (failed c) = rw (a, b, c) (omega arith)
+    go ih (failed a) (failed b) (passed c) = rw (a, b, c) (omega arith)
+    go ih (failed a) (failed b) (failed c) = rw (a, b, c) (omega arith)
+
+-- where an entry passes
+pub keep-some : {A : Type 0} (f : A → Bool) {x : A} (l : List A) → x ∈ l → T (f x) → 1 ≤ length (keep f l)
+keep-some {A} f {x} l h t = go (keep f l) (keep-in f l h t)
+  where
+    go : (r : List A) → x ∈ r → 1 ≤ length r
+    go [] m = absurd (List·Memᴰ·not-nil m)
+    go (y ∷ r) m = omega arith
 
 -- ---- gather, list by list
 pub gather-append : {A B : Type 0} (f : A → List B) (a b : List A) → gather f (a ++ b) ≡ gather f a ++ gather f b

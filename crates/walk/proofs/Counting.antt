@@ -13,7 +13,7 @@ use Rattle.monomial.specs.Monomial.{Mono, width}
 use Rattle.monomial.specs.Order.{same, before}
 use Rattle.monomial.specs.Claims.{_∈_, Ascending}
 use Rattle.monomial.proofs.Tests.{Tested, passed, failed, test, is→T, is→nT}
-use Rattle.monomial.proofs.Members.{keep-in, keep-out}
+use Rattle.monomial.proofs.Members.{keep-in, keep-out, keep-split}
 use Rattle.monomial.proofs.order.Laws.{mono-order}
 use Rattle.monomial.proofs.order.Ascending.{keep-asc, sub-length, among-in, among-out}
 use Rattle.monomial.proofs.product.Laws.{mul-comm}
@@ -29,7 +29,7 @@ use Rattle.wiring.proofs.quadratic.Laws.{Factors, inV2-in, unmet-out, Nonsquare
 use Rattle.wiring.proofs.signals.Laws.{base-in, set-in, signals-cases}
 use Rattle.counting.specs.Counting.{needed}
 use Rattle.counting.proofs.Largest.{closes-out}
-use Rattle.counting.proofs.Enough.{keep-split, Made, one, two, enough}
+use Rattle.counting.proofs.Enough.{Made, one, two, enough}
 use Rattle.walk.specs.Walk.{Rules, counted}
 use Rattle.walk.specs.Turns.{Walked}
 use Rattle.walk.specs.Claims.{Orderly, Extends, Sparing, QuadraticList, unclosed, Alike}

@@ -15,7 +15,7 @@ use Rattle.monomial.specs.Order.{same, before}
 use Rattle.monomial.specs.Product.{mul}
 use Rattle.monomial.specs.Quotient.{divides, quo}
 use Rattle.monomial.specs.Claims.{_∈_, _⊆_, Different}
-use Rattle.monomial.proofs.Tests.{Tested, passed, failed, test, T→is, is→T, nT→is, is→nT, and-l, and-r, and-i, same-test}
+use Rattle.monomial.proofs.Tests.{Tested, passed, failed, test, T→is, is→T, nT→is, is→nT, and-l, and-r, and-i, and-true, same-test}
 use Rattle.monomial.proofs.Members.{here, keep-in, keep-out, keep-none, keep-append, keep-map, keep-both, keep-same, Gathered, gather-out}
 use Rattle.monomial.proofs.Loops.{pointwise-length}
 use Rattle.monomial.proofs.Different.{different-keep, different-append, different-map, different-same, ascending-different}
@@ -282,7 +282,3 @@ module _ (may : Mono → Bool) (v : List Mono) (wide : Wide v) where
     news-frequent often l =
         news-all often l l [] refl
         ∙ ap length (keep-same (λ q. frequents often l q && fresh often l [] q) (frequents often l) (arrangeBy same before (gather (quotientsOf may v) l)) (λ q h. and-true (frequents often l q)))
-      where
-        and-true : (b : Bool) → (b && true) ≡ b
-        and-true true = refl
-        and-true false = refl

@@ -2,7 +2,7 @@
 use mathlib.Core.Path.{_≡_, sym, ap, _∙_, subst}
 use mathlib.Core.Logic.{⊎-elim}
 use mathlib.Core.Bool.{true, false}
-use mathlib.Core.List.{List, [], _∷_, _++_, List·Memᴰ·head, List·Memᴰ·cases-cons, List·Memᴰ·not-nil, List·Memᴰ·append-cases, Memᴰ·append-left, Memᴰ·append-right, Memᴰ·cast}
+use mathlib.Core.List.{List, [], _∷_, _++_, List·Memᴰ·cases-cons, List·Memᴰ·not-nil, List·Memᴰ·append-cases, Memᴰ·append-left, Memᴰ·cast}
 use Prim.Native.Nat.{ℕ, _+_, _*_, _<_, _≤_}
 use native.Mathlib.Omega.{arith}
 use lib.ListN.{length, getD, take}
@@ -11,11 +11,11 @@ use Rattle.monomial.specs.Lists.{any, gather, below}
 use Rattle.monomial.specs.Monomial.{Mono, width}
 use Rattle.monomial.specs.Order.{same}
 use Rattle.monomial.specs.Claims.{_∈_, _⊆_, Different, Rearranged}
-use Rattle.monomial.proofs.Tests.{is→T, is→nT}
-use Rattle.monomial.proofs.Members.{here, there, gather-in, gather-out}
+use Rattle.monomial.proofs.Tests.{is→T, is→nT, is-not}
+use Rattle.monomial.proofs.Members.{there, append-sub, append-turned, gather-in, gather-out}
 use Rattle.monomial.proofs.Counting.{at-in}
-use Rattle.monomial.proofs.Rearranged.{rearranged-in, rearranged-out}
-use Rattle.monomial.proofs.Different.{different-more, different-length, different-rearranged, rearranged-length, ascending-different}
+use Rattle.monomial.proofs.Rearranged.{rearranged-in, rearranged-out, rearranged-length}
+use Rattle.monomial.proofs.Different.{different-more, different-length, different-rearranged, ascending-different}
 use Rattle.monomial.proofs.Loops.{OfMembers, Collecting, collecting-next, collecting-sub, collecting-end}
 use Rattle.monomial.proofs.order.Laws.{mono-order}
 use Rattle.monomial.proofs.order.Ascending.{among-in, among-out}
@@ -26,7 +26,7 @@ use Rattle.wiring.specs.Quadratic.{products, unmet, nonsquares}
 use Rattle.wiring.specs.Signals.{tabled}
 use Rattle.wiring.specs.Choice.{cheaper, Picked, Best, Offered}
 use Rattle.wiring.specs.declared.choice.Pick.{Pick}
-use Rattle.wiring.proofs.signals.Laws.{tabled-length, tabled-more}
+use Rattle.wiring.proofs.signals.Tables.{tabled-length, tabled-more}
 use Rattle.wiring.proofs.quadratic.Laws.{nonsquares-in, nonsquares-out, nonsquares-asc}
 use Rattle.wiring.proofs.quadratic.Records.{outside, passing, offering, offered-in, offered-sub, passing-sub, passing-unmet, met, met-all, meets-none, meets-one}
 use Rattle.wiring.proofs.choice.Laws.{picked}
@@ -99,35 +99,26 @@ module _ {most len : ℕ} {bytes : List ℕ} (w : Lent most len bytes) (m : Mono
         record {
           few = omega arith;
           different = subst Different (sym is) (different-more old m (w .different) new);
-          inside = λ y k. to-front old y (subst (λ (l : List Mono). y ∈ l) is k);
-          all = λ y k. subst (λ (l : List Mono). y ∈ l) (sym is) (to-end old y k);
+          inside = λ y k. append-turned old (m ∷ []) y (subst (λ (l : List Mono). y ∈ l) is k);
+          all = λ y k. subst (λ (l : List Mono). y ∈ l) (sym is) (append-turned (m ∷ []) old y k);
         }
-      where
-        to-end : (l : List Mono) → (m ∷ l) ⊆ (l ++ (m ∷ []))
-        to-end l y k = ⊎-elim (λ q. Memᴰ·append-right l (List·Memᴰ·head q)) (λ j. Memᴰ·append-left (m ∷ []) j) (List·Memᴰ·cases-cons k)
-
-        to-front : (l : List Mono) → (l ++ (m ∷ [])) ⊆ (m ∷ l)
-        to-front l y k =
-            ⊎-elim (λ j. there j) (λ j. ⊎-elim (λ q. List·Memᴰ·head q) (λ n. absurd (List·Memᴰ·not-nil n)) (List·Memᴰ·cases-cons j)) (List·Memᴰ·append-cases l k)
 
 -- ---- what is answered
 module _ {l : List Mono} {most : ℕ} {bytes : List ℕ} (g : Gathered) where
   pub notes-all : g .over ≡ false → Holds l most (g .len) bytes → Notes l most g bytes
-  notes-all o h = record { all = λ e. h; more = λ e. absurd (is→nT (g .over) o (is→T (g .over) e)) }
+  notes-all o h = record { all = λ e. h; more = λ e. absurd (is-not (g .over) e o) }
 
   pub notes-more : g .over ≡ true → Exceeds l most → Notes l most g bytes
-  notes-more o x = record { all = λ e. absurd (is→nT (g .over) e (is→T (g .over) o)); more = λ e. x }
+  notes-more o x = record { all = λ e. absurd (is-not (g .over) o e); more = λ e. x }
 
 -- ---- monomials more on top of what the list held
 module _ {met : List Mono} {most len : ℕ} {bytes : List ℕ} (h : Holds met most len bytes) (new : List Mono) where
-  over-in : (new ++ listed len bytes) ⊆ (new ++ met)
-  over-in y k = ⊎-elim (λ j. Memᴰ·append-left met j) (λ j. Memᴰ·append-right new (h .inside y j)) (List·Memᴰ·append-cases new k)
-
-  over-out : (new ++ met) ⊆ (new ++ listed len bytes)
-  over-out y k = ⊎-elim (λ j. Memᴰ·append-left (listed len bytes) j) (λ j. Memᴰ·append-right new (h .all y j)) (List·Memᴰ·append-cases new k)
+  same-new : new ⊆ new
+  same-new y k = k
 
   pub holds-over : (len' : ℕ) (now : List ℕ) → Holds (new ++ listed len bytes) most len' now → Holds (new ++ met) most len' now
-  holds-over len' now k = holds-members most len' now (new ++ listed len bytes) (new ++ met) over-in over-out k
+  holds-over len' now k =
+      holds-members most len' now (new ++ listed len bytes) (new ++ met) (append-sub same-new (h .inside)) (append-sub same-new (h .all)) k
 
   pub exceeds-over : (all : List Mono) → new ⊆ all → met ⊆ all → Exceeds (new ++ listed len bytes) most → Exceeds all most
   exceeds-over all n m x =
@@ -136,7 +127,7 @@ module _ {met : List Mono} {most len : ℕ} {bytes : List ℕ} (h : Holds met mo
 -- ---- the nonsquares of one derivative, through the records: l0 was listed before
 module _ (l0 : List Mono) where
   beside : (a b : List Mono) → a ⊆ b → (a ++ l0) ⊆ (b ++ l0)
-  beside a b ab y k = ⊎-elim (λ j. Memᴰ·append-left l0 (ab y j)) (λ j. Memᴰ·append-right b j) (List·Memᴰ·append-cases a k)
+  beside a b ab = append-sub ab (λ y k. k)
 
   pub holds-beside : (most len : ℕ) (bytes : List ℕ) → OfMembers (λ l. Holds (l ++ l0) most len bytes)
   holds-beside most len bytes a b ab ba h = holds-members most len bytes (a ++ l0) (b ++ l0) (beside a b ab) (beside b a ba) h
@@ -225,7 +216,7 @@ module _ (v : List Mono) (d : Mono → Poly Mono) where
       pub gathering-over : (g : Gathered) (now : List ℕ) → g .over ≡ true → Exceeds (unmetOf z ++ listed len bytes) most → Gathers most ns g now
       gathering-over g now o x =
           record {
-            all = λ e. absurd (is→nT (g .over) e (is→T (g .over) o));
+            all = λ e. absurd (is-not (g .over) o e);
             more = λ e.
                 let y : Exceeds ns most = exceeds-over (c .holds) (unmetOf z) ns own (λ m k. gathered-in m (collecting-sub unmetOf v j m k)) x in
                 let long : length (y .some) ≤ length ns = different-length (y .some) ns (y .different) (y .inside) in

@@ -16,7 +16,7 @@ use Rattle.monomial.specs.Monomial.{Mono, one, width}
 use Rattle.monomial.specs.Order.{same, before}
 use Rattle.monomial.specs.Product.{mul}
 use Rattle.monomial.specs.Claims.{_∈_, _⊆_, Ascending, Different, Rearranged}
-use Rattle.monomial.proofs.Tests.{is→T, is→nT}
+use Rattle.monomial.proofs.Tests.{is-not}
 use Rattle.monomial.proofs.Members.{here, there, keep-out, keep-none, Gathered, gather-out}
 use Rattle.monomial.proofs.Different.{different-length, different-keep, ascending-different}
 use Rattle.monomial.proofs.order.Laws.{mono-order}
@@ -30,7 +30,8 @@ use Rattle.wiring.specs.Signals.{signalsOf, tabled}
 use Rattle.wiring.specs.Choice.{Picked}
 use Rattle.wiring.specs.declared.choice.Pick.{Pick}
 use Rattle.wiring.specs.declared.signals.Signals.{Signals}
-use Rattle.wiring.proofs.signals.Laws.{products-rows, tabled-length, tabled-take}
+use Rattle.wiring.proofs.signals.Tables.{tabled-length, tabled-take}
+use Rattle.wiring.proofs.signals.Products.{products-rows}
 use Rattle.counting.specs.Counting.{quotientsOf, count, leastFrom, needed, shares, hits, frequent, closes}
 use Rattle.counting.specs.Verdict.{mostListed, Weighing, Split, Judged}
 use Rattle.counting.specs.declared.verdict.Verdict.{Verdict}
@@ -56,9 +57,9 @@ first-row v rest sq b w e h =
 -- ---- more nonsquares than a list need hold
 module _ (may : Mono → Bool) (v : List Mono) (wide : Wide v) (once : Different v) (ns : List Mono) (up : Ascending before ns) where
   -- a quotient occurs at most once for each member of V
-  hits-members : (q : Mono) → length q ≡ width → hits v q ns ≤ length v
+  hits-most : (q : Mono) → length q ≡ width → hits v q ns ≤ length v
   unfolding hits
-  hits-members q long =
+  hits-most q long =
       let few : length (keep (shares v q) ns) ≤ length (map (λ x. mul x q) v) =
       different-length (keep (shares v q) ns) (map (λ x. mul x q) v) (different-keep (shares v q) ns (ascending-different mono-order ns up)) inside in
       omega (arith, length-map v (λ (x : Mono). mul x q))
@@ -80,7 +81,7 @@ module _ (may : Mono → Bool) (v : List Mono) (wide : Wide v) (once : Different
           let g : Gathered (quotientsOf may v) q ns = gather-out (quotientsOf may v) ns (arrange-out mono-order qs h) in
           let i : IsQuotient may v wide (g .entry) q = quotient-out may v wide (g .entry) q (g .inside) in
           let many : suc (length v) ≤ count qs q = leb→le (suc (length v)) (count qs q) t in
-          let few : hits v q ns ≤ length v = hits-members q (i .long) in
+          let few : hits v q ns ≤ length v = hits-most q (i .long) in
           let z : ⊥ = omega (arith, quotient-count may v wide once q (i .long) (i .allowed) ns) in
           z
 
@@ -123,8 +124,8 @@ module _ {terms sq : List ℕ} {v : Signals} {room : ℕ} (w : Weighing terms v 
   wide : Wide (signalsOf v)
   wide x h = w .fitting x h .0
 
-  pub row-fits : width * v .len ≤ length sq
-  row-fits =
+  pub first-row-fits : width * v .len ≤ length sq
+  first-row-fits =
       let rest : List Mono = w .rest in
       let row : List Mono = map (mul (one width)) (one width ∷ rest) in
       let many : length (tabled sq) ≡ length row + length (products plain rest) = ap length (w .table ∙ ap (products plain) (w .begins) ∙ products-rows plain (one width) rest) ∙ length-append row (products plain rest) in
@@ -132,13 +133,13 @@ module _ {terms sq : List ℕ} {v : Signals} {room : ℕ} (w : Weighing terms v 
       let size : length (signalsOf v) ≡ suc (length rest) = ap length (w .begins) in
       omega (arith, tabled-length sq)
 
-  row-is : tabled (take (width * v .len) sq) ≡ signalsOf v
-  row-is =
+  first-row-is : tabled (take (width * v .len) sq) ≡ signalsOf v
+  first-row-is =
       let e : width * length (signalsOf v) ≡ width * v .len = ap (λ (k : ℕ). width * k) full in
-      ap (λ (k : ℕ). tabled (take k sq)) (sym e) ∙ first-row (signalsOf v) (w .rest) sq (w .begins) wide (w .table) (omega (arith, row-fits))
+      ap (λ (k : ℕ). tabled (take k sq)) (sym e) ∙ first-row (signalsOf v) (w .rest) sq (w .begins) wide (w .table) (omega (arith, first-row-fits))
 
-  pub row-different : Different (tabled (take (width * v .len) sq))
-  row-different = subst Different (sym row-is) (w .different)
+  pub first-row-different : Different (tabled (take (width * v .len) sq))
+  first-row-different = subst Different (sym first-row-is) (w .different)
 
   module _ (may : Mono → Bool) (ns : List Mono) where
     -- more than the list may hold
@@ -150,31 +151,28 @@ module _ {terms sq : List ℕ} {v : Signals} {room : ℕ} (w : Weighing terms v 
 
     -- what is said of the list holds of the nonsquares
     pub list-closes : (l : List Mono) → Rearranged ns l → closes may room (tabled (take (width * v .len) sq)) l ≡ closes may room (signalsOf v) ns
-    list-closes l r = ap (λ (z : List Mono). closes may room z l) row-is ∙ sym (closes-rearranged may room (signalsOf v) ns l r)
+    list-closes l r = ap (λ (z : List Mono). closes may room z l) first-row-is ∙ sym (closes-rearranged may room (signalsOf v) ns l r)
 
 -- ---- the answers
 module _ (may : Mono → Bool) (room : ℕ) (v ns : List Mono) (r : Verdict) where
   pub judged-found : r .found ≡ true → length ns ≡ 0 → Judged may room v ns r
-  judged-found f e = record { finds = λ t. none ns e; shuts = λ t u. absurd (both-ways f t); splits = λ t u. absurd (both-ways f t) }
+  judged-found f e = record { finds = λ t. none ns e; shuts = λ t u. absurd (is-not (r .found) f t); splits = λ t u. absurd (is-not (r .found) f t) }
     where
       none : (l : List Mono) → length l ≡ 0 → l ≡ []
       none [] z = refl
       none (x ∷ l) z = let n : ⊥ = omega arith in absurd n
 
-      both-ways : r .found ≡ true → r .found ≡ false → ⊥
-      both-ways a b = is→nT (r .found) b (is→T (r .found) a)
-
   pub judged-closed : r .found ≡ false → r .split ≡ false → closes may room v ns ≡ true → Judged may room v ns r
   judged-closed f s e = record {
-    finds = λ t. absurd (is→nT (r .found) f (is→T (r .found) t));
+    finds = λ t. absurd (is-not (r .found) t f);
     shuts = λ t u. e;
-    splits = λ t u. absurd (is→nT (r .split) s (is→T (r .split) u));
+    splits = λ t u. absurd (is-not (r .split) u s);
   }
 
   pub judged-split : (p : Pick) → r .found ≡ false → r .split ≡ true → r .m .e ≡ p .m .e → 0 < length ns → closes may room v ns ≡ false → Picked ns p → Judged may room v ns r
   judged-split p f s m some on picked = record {
-    finds = λ t. absurd (is→nT (r .found) f (is→T (r .found) t));
-    shuts = λ t u. absurd (is→nT (r .split) u (is→T (r .split) s));
+    finds = λ t. absurd (is-not (r .found) t f);
+    shuts = λ t u. absurd (is-not (r .split) s u);
     splits = λ t u. go ns refl picked;
   }
     where

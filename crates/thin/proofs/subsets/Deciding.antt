@@ -13,7 +13,7 @@ use Rattle.wiring.specs.Panel.{cards, setExponent}
 use Rattle.wiring.specs.Signals.{Fitting}
 use Rattle.wiring.specs.Sets.{monomialsOf}
 use Rattle.wiring.specs.declared.sets.Set.{Set}
-use Rattle.wiring.proofs.signals.Laws.{entry, front-length, front-at, front-drop}
+use Rattle.wiring.proofs.signals.Arrays.{entry, front-length, front-at, front-drop}
 use Rattle.thin.specs.declared.subsets.Best.{Best}
 use Rattle.thin.specs.Subsets.{subsets, Sifting, Bounded, undecided, Deciding}
 use Rattle.thin.proofs.subsets.Laws.{behind-none, behind-first}

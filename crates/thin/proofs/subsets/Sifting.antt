@@ -13,7 +13,7 @@ use Rattle.wiring.specs.Sets.{monomialsOf}
 use Rattle.wiring.specs.Answers.{Judgeable}
 use Rattle.wiring.specs.Claims.{Wide}
 use Rattle.wiring.specs.declared.sets.Set.{Set}
-use Rattle.wiring.proofs.signals.Laws.{front-length}
+use Rattle.wiring.proofs.signals.Arrays.{front-length}
 use Rattle.wiring.specs.Terms.{records, system}
 use Rattle.walk.specs.Walk.{Finds}
 use Rattle.thin.specs.declared.subsets.Best.{Best}

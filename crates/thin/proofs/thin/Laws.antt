@@ -18,7 +18,7 @@ use Rattle.wiring.specs.declared.panel.Panel.{Panel}
 use Rattle.wiring.specs.declared.reply.Reply.{Reply}
 use Rattle.wiring.specs.declared.reply.Reply.the-variants.{Done, Full}
 use Rattle.wiring.specs.declared.sets.Set.{Set}
-use Rattle.wiring.proofs.signals.Laws.{front-length}
+use Rattle.wiring.proofs.signals.Arrays.{front-length}
 use Rattle.walk.specs.Walk.{Finds}
 use Rattle.walk.specs.Plan.{Ending, done, fullAt, setsBytes, said}
 use Rattle.walk.proofs.plan.Laws.{said-done, said-full}

@@ -23,7 +23,8 @@ use Rattle.wiring.specs.Panel.{cards}
 use Rattle.wiring.specs.Signals.{signals, front}
 use Rattle.wiring.specs.Sets.{monomialsOf}
 use Rattle.wiring.specs.declared.sets.Set.{Set}
-use Rattle.wiring.proofs.signals.Laws.{set-in, entry, front-length, front-at, front-set}
+use Rattle.wiring.proofs.signals.Arrays.{entry, front-length, front-at, front-set}
+use Rattle.wiring.proofs.signals.Laws.{set-in}
 use Rattle.walk.specs.declared.children.Tried.{Tried}
 use Rattle.walk.specs.Walk.{Rules, added, child, opens}
 use Rattle.walk.specs.Turns.{Child}

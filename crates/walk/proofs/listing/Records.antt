@@ -21,7 +21,7 @@ use Rattle.wiring.specs.Panel.{cards, setBytes}
 use Rattle.wiring.specs.Signals.{front, flat}
 use Rattle.wiring.specs.Sets.{setRecord, setOf}
 use Rattle.wiring.specs.Claims.{Wide}
-use Rattle.wiring.proofs.signals.Laws.{entry, front-at}
+use Rattle.wiring.proofs.signals.Arrays.{entry, front-at}
 use Rattle.wiring.proofs.sets.Exact.{record-is, record-holds}
 use Rattle.walk.specs.Listing.{Recorded}
 use Rattle.walk.proofs.listing.Laws.{gather-last}

@@ -6,12 +6,12 @@ use mathlib.Core.List.{List, _++_}
 use Prim.Native.Nat.{ℕ, _+_, _-_, _/_, _<_, _≤_}
 use native.Mathlib.Omega.{arith}
 use borrow.Author.Tests.{leb-true, leb-false}
-use lib.Dec.{T, leb}
+use lib.Dec.{leb}
 use lib.ListN.{length, take}
 use Rattle.monomial.specs.Lists.{some}
 use Rattle.monomial.specs.Monomial.{Mono, vars, width}
 use Rattle.monomial.specs.Claims.{Different}
-use Rattle.monomial.proofs.Tests.{is→nT}
+use Rattle.monomial.proofs.Tests.{is→nT, is-not}
 use Rattle.monomial.proofs.Members.{some-none}
 use Rattle.monomial.proofs.Different.{ascending-different}
 use Rattle.monomial.proofs.order.Laws.{mono-order}
@@ -60,7 +60,7 @@ module _ (panel : Panel) (terms : List ℕ) (level : ℕ) (set : Set) (o : Opena
       first-some (panel .n) fs own at first (omega (arith, leb-false len at (sym f ∙ t), o .size, signals-length (panel .n) own (o .few))),
       at-its-level (rulesOf panel) (panel .n) level own (missing (panel .n) fs own) (omega (arith, o .size)),
     );
-    splits = λ t u. absurd (subst T (sym u ∙ s) tt);
+    splits = λ t u. absurd (is-not (r .split) u s);
   }
 
   -- below it: what is asked of the counting rule

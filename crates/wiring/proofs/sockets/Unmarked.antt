@@ -1,13 +1,13 @@
 -- With no marks every test is document 01's: nothing that the definitions ask for is another. Assumes nothing.
 use mathlib.Core.Path.{_≡_, ap, fun-ext}
-use mathlib.Core.Bool.{Bool, true, not, _&&_}
+use mathlib.Core.Bool.{Bool, not, _&&_}
 use mathlib.Core.List.{List}
 use Prim.Native.Nat.{ℕ, _-_}
 use lib.Dec.{eqb, leb}
 use Rattle.monomial.specs.Lists.{any}
 use Rattle.monomial.specs.Monomial.{Mono, constants, width}
 use Rattle.monomial.specs.Order.{same}
-use Rattle.monomial.proofs.Tests.{is→T, same-test, and-l, and-i}
+use Rattle.monomial.proofs.Tests.{is→T, and-true}
 use Rattle.wiring.specs.Panel.{termExponent, setExponent}
 use Rattle.wiring.specs.Sockets.{panelOf, countRight, panelRight, free}
 use Rattle.wiring.specs.Poly.{Poly, plain}
@@ -17,10 +17,6 @@ use Rattle.wiring.specs.Sets.{monomialRight}
 use Rattle.wiring.specs.Claims.{slope, Unmarked}
 use Rattle.wiring.proofs.sockets.Laws.{halved-zero, unmarked, unmarked-free, unmarked-may}
 use Rattle.wiring.proofs.sockets.Slopes.{slope-free}
-
--- a test that always passes changes nothing, at the end and in the middle
-and-true : (a : Bool) → a && true ≡ a
-and-true a = same-test (a && true) a (and-l a true) (λ t. and-i a true t tt)
 
 module _ (n : ℕ) where
   unmarked-settings : panelRight (panelOf n 0) ≡ countRight n

@@ -12,7 +12,7 @@ use Rattle.monomial.specs.Monomial.{Mono, one, width}
 use Rattle.monomial.proofs.Tests.{is→T}
 use Rattle.wiring.specs.Signals.{tabled}
 use Rattle.wiring.specs.Sockets.{mayBe}
-use Rattle.wiring.proofs.signals.Laws.{tabled-at, tabled-take}
+use Rattle.wiring.proofs.signals.Tables.{tabled-at, tabled-take}
 use Rattle.counting.specs.Counting.{hits, begins}
 use Rattle.counting.proofs.counting.Begins.{begins-undivided, begins-barred, begins-rare, begins-first}
 use borrow.Author.Needs.{needs}

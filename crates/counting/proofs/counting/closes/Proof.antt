@@ -10,7 +10,7 @@ use Rattle.monomial.specs.Monomial.{width}
 use Rattle.wiring.specs.Panel.{cards}
 use Rattle.wiring.specs.Signals.{tabled}
 use Rattle.wiring.specs.Sockets.{mayBe}
-use Rattle.wiring.proofs.signals.Laws.{tabled-length}
+use Rattle.wiring.proofs.signals.Tables.{tabled-length}
 use Rattle.counting.specs.Counting.{frequent}
 use Rattle.counting.proofs.UpTo.{upTo-none, upTo-some}
 use Rattle.counting.proofs.counting.Sums.{closes-few, closes-sum, closes-rare, closes-one, twos-small, share-less, share-whole}

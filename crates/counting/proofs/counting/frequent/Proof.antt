@@ -7,7 +7,7 @@ use lib.ListN.{length}
 use Rattle.monomial.specs.Monomial.{one, width}
 use Rattle.wiring.specs.Signals.{tabled}
 use Rattle.wiring.specs.Sockets.{mayBe}
-use Rattle.wiring.proofs.signals.Laws.{tabled-length, tabled-wide}
+use Rattle.wiring.proofs.signals.Tables.{tabled-length, tabled-wide}
 use Rattle.counting.specs.Counting.{upTo}
 use Rattle.counting.proofs.counting.Begins.{Finding, finding-start, finding-next, finding-end}
 use Rattle.counting.proofs.counting.Quotients.{news-frequent}

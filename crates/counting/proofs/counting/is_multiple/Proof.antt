@@ -6,7 +6,7 @@ use Rattle.monomial.specs.Monomial.{Mono, width}
 use Rattle.monomial.specs.Order.{same}
 use Rattle.monomial.proofs.Tests.{is→T}
 use Rattle.wiring.specs.Signals.{tabled}
-use Rattle.wiring.proofs.signals.Laws.{tabled-wide}
+use Rattle.wiring.proofs.signals.Tables.{tabled-wide}
 use Rattle.counting.proofs.counting.Laws.{share-none, share-quotient}
 use borrow.Author.Tests.{not-true, not-false}
 use borrow.Author.Needs.{needs}

@@ -6,7 +6,7 @@ use native.Mathlib.Omega.{arith}
 use lib.ListN.{length}
 use Rattle.monomial.specs.Monomial.{one, width}
 use Rattle.wiring.specs.Signals.{tabled}
-use Rattle.wiring.proofs.signals.Laws.{tabled-length, tabled-at}
+use Rattle.wiring.proofs.signals.Tables.{tabled-length, tabled-at}
 use Rattle.counting.specs.Counting.{shares}
 use Rattle.counting.proofs.counting.Hits.{Recurring, recurring-start, recurring-short, recurring-end, recurring-hit, recurring-miss}
 use borrow.Author.Needs.{needs}

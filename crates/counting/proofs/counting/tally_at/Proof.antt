@@ -7,7 +7,7 @@ use lib.ListN.{length, getD, take, drop}
 use Rattle.monomial.specs.Monomial.{one, width}
 use Rattle.wiring.specs.Signals.{tabled}
 use Rattle.wiring.specs.Sockets.{mayBe}
-use Rattle.wiring.proofs.signals.Laws.{tabled-length, tabled-at}
+use Rattle.wiring.proofs.signals.Tables.{tabled-length, tabled-at}
 use Rattle.counting.specs.Counting.{begins}
 use Rattle.counting.proofs.counting.Hits.{Tallying, tallying-start, tallying-full, tallying-end, tallying-hit, tallying-miss}
 use borrow.Author.Needs.{needs}

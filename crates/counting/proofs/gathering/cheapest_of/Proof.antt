@@ -10,7 +10,7 @@ use Rattle.monomial.proofs.Members.{gather-alone}
 use Rattle.monomial.proofs.Loops.{Collecting, collecting-start, collecting-next, collecting-end}
 use Rattle.wiring.specs.Signals.{tabled}
 use Rattle.wiring.specs.Choice.{cheaper, Best}
-use Rattle.wiring.proofs.signals.Laws.{tabled-length, tabled-at}
+use Rattle.wiring.proofs.signals.Tables.{tabled-length, tabled-at}
 use Rattle.wiring.proofs.choice.Laws.{best-collects, cheap-order}
 use Rattle.counting.proofs.gathering.cheapest_of.Statement.{statement}
 use Rattle.counting.proofs.gathering.cheapest_of.Tie as tie

@@ -11,7 +11,7 @@ use Rattle.wiring.specs.Poly.{plain}
 use Rattle.wiring.specs.Derivative.{derivative}
 use Rattle.wiring.specs.Signals.{signalsOf}
 use Rattle.wiring.specs.Terms.{records, system}
-use Rattle.wiring.proofs.signals.Laws.{array-length, front-length, front-at, entry-fits}
+use Rattle.wiring.proofs.signals.Arrays.{array-length, front-length, front-at, entry-fits}
 use Rattle.counting.proofs.gathering.Laws.{Gathering, gathering-next, gathering-over, gathering-ends, holds-none, holds-lent}
 use Rattle.counting.proofs.gathering.gather.Statement.{statement}
 use Rattle.counting.proofs.gathering.gather.Tie as tie

@@ -8,7 +8,7 @@ use Rattle.monomial.specs.Monomial.{width}
 use Rattle.wiring.specs.Panel.{mostSignals}
 use Rattle.wiring.specs.Signals.{signalsOf}
 use Rattle.wiring.specs.Sockets.{mayBe}
-use Rattle.wiring.proofs.signals.Laws.{array-length, front-length}
+use Rattle.wiring.proofs.signals.Arrays.{array-length, front-length}
 use Rattle.wiring.specs.Poly.{plain}
 use Rattle.wiring.specs.Derivative.{derivative}
 use Rattle.wiring.specs.Quadratic.{nonsquares}
@@ -17,7 +17,7 @@ use Rattle.counting.specs.Gathering.{listed}
 use Rattle.wiring.proofs.quadratic.Laws.{nonsquares-asc}
 use Rattle.monomial.proofs.order.Laws.{mono-order}
 use Rattle.counting.proofs.gathering.Laws.{picked-of}
-use Rattle.counting.proofs.verdict.Laws.{list-fits, row-fits, row-different, over-closes, list-closes, judged-found, judged-closed, judged-split}
+use Rattle.counting.proofs.verdict.Laws.{list-fits, first-row-fits, first-row-different, over-closes, list-closes, judged-found, judged-closed, judged-split}
 use borrow.Author.Needs.{needs}
 use Rattle.counting.proofs.verdict.verdict_of.Statement.{statement}
 use Rattle.counting.proofs.verdict.verdict_of.Tie as tie
@@ -132,7 +132,7 @@ slice-aggregate-closes-2 c =
     let w = start .pre .0 in
     let room : length (v .m) ≡ mostSignals = search (needs, array-length) in
     let full = front-length (v .len) (v .m) (omega (arith, w .within)) in
-    sym (length-take-le (width * v .len) (start .args .sq .now) (row-fits w full))
+    sym (length-take-le (width * v .len) (start .args .sq .now) (first-row-fits w full))
 
 closes-requires : tie.Need-closes-requires
 closes-requires c κs =
@@ -141,7 +141,7 @@ closes-requires c κs =
     let w = start .pre .0 in
     let room : length (v .m) ≡ mostSignals = search (needs, array-length) in
     let full = front-length (v .len) (v .m) (omega (arith, w .within)) in
-    (w .low, (w .high, row-different w full))
+    (w .low, (w .high, first-row-different w full))
 
 same-length-3 : tie.Need-same-length-3
 same-length-3 c = search needs

@@ -3,7 +3,7 @@ use mathlib.Core.Path.{_≡_, sym, subst}
 use native.Mathlib.Omega.{arith}
 use lib.ListN.{length}
 use Rattle.wiring.specs.Panel.{cards}
-use Rattle.wiring.proofs.signals.Laws.{array-length}
+use Rattle.wiring.proofs.signals.Arrays.{array-length}
 use Rattle.walk.specs.Walk.{Finds}
 use Rattle.thin.specs.Subsets.{Sifting, Bounded}
 use Rattle.thin.proofs.subsets.Deciding.{decided, keeping, dropping, bounded-first, bounded-then, sifting-both}

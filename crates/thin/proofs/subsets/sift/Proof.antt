@@ -7,7 +7,7 @@ use Prim.Native.Nat.{ℕ}
 use lib.ListN.{length, replicate}
 use Rattle.wiring.specs.Panel.{cards}
 use Rattle.wiring.specs.Sets.{monomialsOf}
-use Rattle.wiring.proofs.signals.Laws.{array-length}
+use Rattle.wiring.proofs.signals.Arrays.{array-length}
 use Rattle.thin.proofs.subsets.Listing.{begun-none}
 use Rattle.thin.proofs.subsets.Sifting.{set-size, set-recorded, sifted-not, sifted-larger, sifting-passed, sifting-smaller, sifting-alike}
 use borrow.Author.Needs.{needs}

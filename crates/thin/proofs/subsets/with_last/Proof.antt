@@ -8,7 +8,7 @@ use Rattle.monomial.specs.Monomial.{Mono}
 use Rattle.monomial.specs.declared.Monomial.{Monomial}
 use Rattle.monomial.proofs.Loops.{set-front}
 use Rattle.wiring.specs.Panel.{cards}
-use Rattle.wiring.proofs.signals.Laws.{array-length, front-set}
+use Rattle.wiring.proofs.signals.Arrays.{array-length, front-set}
 use borrow.Author.Needs.{needs}
 use Rattle.thin.proofs.subsets.with_last.Statement.{statement}
 use Rattle.thin.proofs.subsets.with_last.Tie as tie

@@ -2,7 +2,7 @@
 use mathlib.Core.Path.{_≡_}
 use lib.ListN.{length}
 use Rattle.wiring.specs.Panel.{cards}
-use Rattle.wiring.proofs.signals.Laws.{array-length}
+use Rattle.wiring.proofs.signals.Arrays.{array-length}
 use Rattle.thin.proofs.thin.Laws.{start-deciding, start-bounded, ended-done, ended-full}
 use borrow.Author.Needs.{needs}
 use Rattle.thin.proofs.thin.thin_set.Statement.{statement}

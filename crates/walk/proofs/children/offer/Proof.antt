@@ -4,7 +4,7 @@ use mathlib.Core.Logic.{⊎-elim}
 use native.Mathlib.Omega.{arith}
 use borrow.Author.Tests.{not-true, not-false}
 use lib.ListN.{length}
-use Rattle.wiring.proofs.signals.Laws.{array-length, front-length}
+use Rattle.wiring.proofs.signals.Arrays.{array-length, front-length}
 use Rattle.walk.specs.Walk.{rulesOf}
 use Rattle.walk.proofs.children.Offers.{same-child, made-own, opens-none, opens-second, opens-first, opens-both, child-none, child-second, child-first, child-both, set-lacks, first-lacks, both-lack}
 use borrow.Author.Needs.{needs}

@@ -3,7 +3,7 @@ use mathlib.Core.Path.{_≡_, refl, sym, _∙_}
 use mathlib.Core.Logic.{⊎-elim}
 use native.Mathlib.Omega.{arith}
 use lib.ListN.{length}
-use Rattle.wiring.proofs.signals.Laws.{array-length}
+use Rattle.wiring.proofs.signals.Arrays.{array-length}
 use Rattle.walk.proofs.children.Offers.{Inserting, inserting-start, inserting-on, inserting-first, inserting-behind}
 use borrow.Author.Needs.{needs}
 use Rattle.wiring.specs.Panel.{cards}

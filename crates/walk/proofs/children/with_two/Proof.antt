@@ -3,7 +3,7 @@ use mathlib.Core.Path.{_≡_, refl, sym, _∙_}
 use borrow.Author.Tests.{not-true, not-false}
 use native.Mathlib.Omega.{arith}
 use lib.ListN.{length}
-use Rattle.wiring.proofs.signals.Laws.{array-length}
+use Rattle.wiring.proofs.signals.Arrays.{array-length}
 use Rattle.walk.proofs.children.Offers.{two-refused, first-barred, second-barred, two-made}
 use borrow.Author.Needs.{needs}
 use Rattle.wiring.specs.Panel.{cards}

@@ -5,7 +5,7 @@ use Prim.Native.Nat.{_+_, _-_}
 use native.Mathlib.Omega.{arith}
 use lib.ListN.{length}
 use Rattle.wiring.specs.Sets.{monomialsOf}
-use Rattle.wiring.proofs.signals.Laws.{array-length}
+use Rattle.wiring.proofs.signals.Arrays.{array-length}
 use Rattle.walk.proofs.listing.Records.{Making, making-start, making-next, making-end, used-at, used-below, used-all}
 use borrow.Author.Needs.{needs}
 use Rattle.wiring.specs.Panel.{cards}

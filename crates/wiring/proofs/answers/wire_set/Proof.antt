@@ -18,7 +18,8 @@ use Rattle.wiring.specs.Wires.{Passed}
 use Rattle.wiring.specs.Answers.{wires}
 use Rattle.wiring.specs.declared.reply.Reply.the-variants.{Done, Full, NotQuadratic}
 use Rattle.wiring.specs.declared.wires.Pass.{Pass}
-use Rattle.wiring.proofs.signals.Laws.{array-length, front-length, signals-fitting}
+use Rattle.wiring.proofs.signals.Arrays.{array-length, front-length}
+use Rattle.wiring.proofs.signals.Laws.{signals-fitting}
 use Rattle.wiring.proofs.wires.Sheets.{sheet-start, wrote-out}
 use Rattle.wiring.proofs.answers.Laws.{first-as, listed-done, listed-full, told-met, told-unmet}
 use Rattle.wiring.proofs.answers.wire_set.Statement.{statement}

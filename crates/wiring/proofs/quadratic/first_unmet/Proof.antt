@@ -15,7 +15,7 @@ use Rattle.wiring.specs.Derivative.{derivative}
 use Rattle.wiring.specs.Quadratic.{unmet}
 use Rattle.wiring.specs.Signals.{signalsOf}
 use Rattle.wiring.specs.Terms.{records, system}
-use Rattle.wiring.proofs.signals.Laws.{array-length, front-length, front-at, entry-fits}
+use Rattle.wiring.proofs.signals.Arrays.{array-length, front-length, front-at, entry-fits}
 use Rattle.wiring.proofs.quadratic.first_unmet.Statement.{statement}
 use Rattle.wiring.proofs.quadratic.first_unmet.Tie as tie
 

@@ -6,7 +6,7 @@ use native.Mathlib.Omega.{arith}
 use lib.ListN.{take}
 use Rattle.wiring.specs.Signals.{front}
 use Rattle.wiring.specs.Sets.{places}
-use Rattle.wiring.proofs.signals.Laws.{Copying, writing-start, copying-next, copying-end}
+use Rattle.wiring.proofs.signals.Arrays.{Copying, writing-start, copying-next, copying-end}
 use Rattle.wiring.proofs.sets.Laws.{used-length, used-at}
 use borrow.Author.Needs.{needs}
 use Rattle.wiring.specs.Panel.{cards}

@@ -4,7 +4,7 @@ use Prim.Native.Nat.{_-_}
 use native.Mathlib.Omega.{arith}
 use lib.ListN.{length}
 use Rattle.monomial.specs.Order.{same}
-use Rattle.wiring.proofs.signals.Laws.{array-length, Searching, searching-start, searching-found, searching-on, searching-ends}
+use Rattle.wiring.proofs.signals.Arrays.{array-length, Searching, searching-start, searching-found, searching-on, searching-ends}
 use borrow.Author.Needs.{needs}
 use Rattle.wiring.specs.Panel.{mostSignals}
 use Rattle.wiring.proofs.signals.is_signal.Statement.{statement}

@@ -6,7 +6,7 @@ use lib.ListN.{length}
 use Rattle.monomial.specs.Order.{same}
 use Rattle.monomial.proofs.Loops.{Seeking, seeking-start}
 use Rattle.wiring.specs.Signals.{tabled}
-use Rattle.wiring.proofs.signals.Laws.{tabled-found, tabled-on, tabled-ends}
+use Rattle.wiring.proofs.signals.Tables.{tabled-found, tabled-on, tabled-ends}
 use borrow.Author.Needs.{needs}
 use Rattle.monomial.specs.Monomial.{width}
 use Rattle.wiring.proofs.signals.is_tabled.Statement.{statement}

@@ -3,7 +3,8 @@ use mathlib.Core.Path.{_≡_, refl, _∙_}
 use Prim.Native.Nat.{_-_}
 use native.Mathlib.Omega.{arith}
 use lib.ListN.{length}
-use Rattle.wiring.proofs.signals.Laws.{array-length, RowsLaid, rows-start, rows-in, rows-end, rows-within, RowLaid, row-room, row-within, row-put, row-out, row-fits}
+use Rattle.wiring.proofs.signals.Arrays.{array-length}
+use Rattle.wiring.proofs.signals.Products.{RowsLaid, rows-start, rows-in, rows-end, rows-within, RowLaid, row-room, row-within, row-put, row-out, row-fits}
 use borrow.Author.Needs.{needs}
 use Rattle.wiring.proofs.signals.products_of.Statement.{statement}
 use Rattle.wiring.proofs.signals.products_of.Tie as tie

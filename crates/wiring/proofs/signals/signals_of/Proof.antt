@@ -2,7 +2,8 @@
 use mathlib.Core.Path.{_≡_, refl, ap}
 use Prim.Native.Nat.{ℕ, _+_, _-_, _≤_}
 use native.Mathlib.Omega.{arith}
-use Rattle.wiring.proofs.signals.Laws.{array-length, Signalling, signalling-start, signalling-constant, signalling-turn, signalling-new, signalling-end}
+use Rattle.wiring.proofs.signals.Arrays.{array-length}
+use Rattle.wiring.proofs.signals.Laws.{Signalling, signalling-start, signalling-constant, signalling-turn, signalling-new, signalling-end}
 use borrow.Author.Needs.{needs}
 use Rattle.wiring.proofs.signals.signals_of.Statement.{statement}
 use Rattle.wiring.proofs.signals.signals_of.Tie as tie

@@ -21,7 +21,7 @@ use Rattle.wiring.specs.Quadratic.{inV2}
 use Rattle.wiring.specs.declared.signals.Signals.{Signals}
 use Rattle.wiring.specs.declared.wires.Pair.{Pair}
 use Rattle.wiring.specs.Signals.{Fitting, signalsOf}
-use Rattle.wiring.proofs.signals.Laws.{array-length, front-length, front-at}
+use Rattle.wiring.proofs.signals.Arrays.{array-length, front-length, front-at}
 use Rattle.wiring.proofs.wires.Pairs.{beside, beside-quotient, PairRow, row-skips, row-start, row-ends, pair-first, pair-second, pair-in, pair-there}
 use Rattle.wiring.proofs.wires.pair_of.Statement.{statement}
 use Rattle.wiring.proofs.wires.pair_of.Tie as tie

@@ -18,7 +18,7 @@ use Rattle.wiring.specs.Choice.{beyond}
 use Rattle.wiring.specs.Signals.{signalsOf}
 use Rattle.wiring.specs.Terms.{records, system}
 use Rattle.wiring.proofs.derivative.Bounds.{total-held}
-use Rattle.wiring.proofs.signals.Laws.{array-length, front-length, front-at, entry-fits}
+use Rattle.wiring.proofs.signals.Arrays.{array-length, front-length, front-at, entry-fits}
 use Rattle.wiring.proofs.wires.Sheets.{Rowing, rowing-start, rowing-lacks, rowing-judged, rowing-ends, rowing-unmet, rowing-more, rowing-less, wire-is, wrote-out}
 use Rattle.wiring.proofs.wires.wire_row.Statement.{statement}
 use Rattle.wiring.proofs.wires.wire_row.Tie as tie

@@ -13,7 +13,7 @@ use Rattle.wiring.specs.Signals.{signalsOf}
 use Rattle.wiring.specs.Terms.{records, system}
 use Rattle.wiring.specs.Wires.{RowPassed}
 use Rattle.wiring.specs.declared.wires.Pass.{Pass}
-use Rattle.wiring.proofs.signals.Laws.{array-length, front-length}
+use Rattle.wiring.proofs.signals.Arrays.{array-length, front-length}
 use Rattle.wiring.proofs.wires.Sheets.{Listing, listing-start, listing-more, listing-unmet, listing-ends}
 use Rattle.wiring.proofs.wires.wire_rows.Statement.{statement}
 use Rattle.wiring.proofs.wires.wire_rows.Tie as tie
