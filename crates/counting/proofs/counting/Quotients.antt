@@ -20,7 +20,7 @@ use Rattle.monomial.proofs.Members.{here, keep-in, keep-out, keep-none, keep-ap
 use Rattle.monomial.proofs.Loops.{pointwise-length}
 use Rattle.monomial.proofs.Different.{different-keep, different-append, different-map, different-same, ascending-different}
 use Rattle.monomial.proofs.order.Laws.{mono-order}
-use Rattle.monomial.proofs.order.Ascending.{arrange-asc, arrange-in, arrange-out, among-in, among-out}
+use Rattle.monomial.proofs.order.Ascending.{arrange-none, arrange-asc, arrange-in, arrange-out, among-in, among-out}
 use Rattle.monomial.proofs.product.Laws.{mul-comm, mul-cancel}
 use Rattle.monomial.proofs.quotient.Laws.{quo-mul, mul-quo, divides-length, factor-divides}
 use Rattle.wiring.specs.Claims.{Wide}
@@ -265,8 +265,8 @@ module _ (may : Mono → Bool) (v : List Mono) (wide : Wide v) where
 
       news-all : (l done : List Mono) → whole ≡ done ++ l
           → news may v often done l ≡ length (keep (λ q. frequents q && fresh done q) (arrangeBy same before (gather (quotientsOf may v) l)))
-      unfolding news gather arrangeBy keep
-      news-all [] done is = refl
+      unfolding news gather keep
+      news-all [] done is = rw (arrange-none same before) refl
       news-all (m ∷ rest) done is =
           let test : Mono → Bool = λ q. frequents q && fresh done q in
           let later : List Mono = arrangeBy same before (gather (quotientsOf may v) rest) in

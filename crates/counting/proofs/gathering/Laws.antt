@@ -26,7 +26,7 @@ use Rattle.wiring.specs.Quadratic.{products, unmet, nonsquares}
 use Rattle.wiring.specs.Signals.{tabled}
 use Rattle.wiring.specs.Choice.{cheaper, Picked, Best, Offered}
 use Rattle.wiring.specs.declared.choice.Pick.{Pick}
-use Rattle.wiring.proofs.signals.Tables.{tabled-length, tabled-more}
+use Rattle.wiring.proofs.signals.Tables.{tabled-none, tabled-length, tabled-more}
 use Rattle.wiring.proofs.quadratic.Laws.{nonsquares-in, nonsquares-out, nonsquares-asc}
 use Rattle.wiring.proofs.quadratic.Records.{outside, passing, offering, offered-in, offered-sub, passing-sub, passing-unmet, met, met-all, meets-none, meets-one}
 use Rattle.wiring.proofs.choice.Laws.{picked}
@@ -64,8 +64,12 @@ lent-holds w = record { few = w .few; different = w .different; inside = λ y h.
 
 -- with nothing met, nothing is listed
 pub holds-none : (most : ℕ) (bytes : List ℕ) → Holds [] most 0 bytes
-unfolding tabled below
-holds-none most bytes = record { few = omega arith; different = tt; inside = λ y h. h; all = λ y h. absurd (List·Memᴰ·not-nil h) }
+holds-none most bytes = record {
+  few = omega arith;
+  different = subst Different (sym tabled-none) tt;
+  inside = λ y h. subst (λ (l : List Mono). y ∈ l) tabled-none h;
+  all = λ y h. absurd (List·Memᴰ·not-nil h);
+}
 
 -- only the members matter
 pub holds-members : (most len : ℕ) (bytes : List ℕ) → OfMembers (λ l. Holds l most len bytes)

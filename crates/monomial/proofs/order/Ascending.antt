@@ -237,6 +237,10 @@ module _ {A : Type 0} (same before : A → A → Bool) where
       (λ t. omega arith)
       (λ t. cond-cases (λ (r : List A). length r ≤ suc (suc (length l))) (before x y) (x ∷ y ∷ l) (y ∷ insertBy same before x l) (λ s. omega arith) (λ s. omega arith))
 
+  pub arrange-none : arrangeBy same before [] ≡ []
+  unfolding arrangeBy
+  arrange-none = refl
+
   pub arrange-length : (l : List A) → length (arrangeBy same before l) ≤ length l
   unfolding arrangeBy
   arrange-length [] = omega arith

@@ -24,6 +24,10 @@ pub tabled-length : (bytes : List ℕ) → length (tabled bytes) ≡ length byte
 unfolding tabled
 tabled-length bytes = length-map (below (length bytes / width)) (λ i. take width (drop (width * i) bytes)) ∙ below-length (length bytes / width)
 
+pub tabled-none : tabled [] ≡ []
+unfolding tabled below
+tabled-none = refl
+
 pub tabled-at : (bytes : List ℕ) (i : ℕ) (d : Mono) → i < length bytes / width → getD (tabled bytes) i d ≡ take width (drop (width * i) bytes)
 unfolding tabled
 tabled-at bytes i d h = below-at (λ j. take width (drop (width * j) bytes)) (length bytes / width) i d h
