@@ -3,15 +3,11 @@ use mathlib.Core.Path.{_≡_}
 use mathlib.Core.Bool.{true, false}
 use mathlib.Core.List.{List}
 use Prim.Native.Nat.{ℕ, _*_, _<_, _≤_}
-use lib.ListN.{length, take}
+use lib.ListN.{length}
 use Rattle.monomial.specs.Monomial.{Mono, width}
 use Rattle.monomial.specs.Claims.{_⊆_, Different, Rearranged}
-use Rattle.wiring.specs.Signals.{tabled}
+use Rattle.wiring.specs.Signals.{listed}
 use Rattle.counting.specs.declared.gathering.Gathered.{Gathered}
-
--- the first len monomials of a list
-abbrev pub listed : ℕ → List ℕ → List Mono
-listed len bytes = tabled (take (width * len) bytes)
 
 -- a list of len monomials, each once, with room for `most`
 pub record Lent (most len : ℕ) (bytes : List ℕ) : Type 0 where

@@ -3,15 +3,14 @@ use mathlib.Core.Path.{_≡_}
 use mathlib.Core.Bool.{Bool, true, false}
 use mathlib.Core.List.{List, [], _∷_}
 use Prim.Native.Nat.{ℕ, suc, _+_, _*_, _/_, _<_, _≤_}
-use Rattle.monomial.specs.Monomial.{Mono, one, width}
+use lib.ListN.{length}
+use Rattle.monomial.specs.Monomial.{Mono, width}
 use Rattle.monomial.specs.Claims.{Different}
-use Rattle.wiring.specs.Panel.{cards, setExponent, mostSignals}
-use Rattle.wiring.specs.Poly.{plain}
-use Rattle.wiring.specs.Quadratic.{products}
-use Rattle.wiring.specs.Signals.{Fitting, signalsOf, tabled}
+use Rattle.wiring.specs.Panel.{cards, setExponent}
+use Rattle.wiring.specs.Derivative.{Uncancelled}
+use Rattle.wiring.specs.Signals.{Fitting, tabled, signalsAt}
 use Rattle.wiring.specs.Terms.{CleanTerms}
 use Rattle.wiring.specs.Choice.{chosen}
-use Rattle.wiring.specs.declared.signals.Signals.{Signals}
 use Rattle.counting.specs.Counting.{closes}
 use Rattle.counting.specs.declared.verdict.Verdict.{Verdict}
 
@@ -22,17 +21,16 @@ mostListed = cards * suc width + cards * suc cards / 2
 abbrev pub listBytes : ℕ
 listBytes = width * mostListed
 
--- what is asked: V of a set with its table, each member once, and room below the level
-pub record Weighing (terms : List ℕ) (v : Signals) (sq : List ℕ) (room : ℕ) : Type 0 where
+-- what is asked: a set whose V has each member once, whether totals may be 0, and room below the level
+pub record Weighing (terms : List ℕ) (n : ℕ) (set : List ℕ) (cancels : Bool) (room : ℕ) : Type 0 where
   pub clean : CleanTerms terms
-  pub rest : List Mono
-  pub begins : signalsOf v ≡ one width ∷ rest
-  pub fitting : Fitting setExponent (signalsOf v)
-  pub different : Different (signalsOf v)
-  pub table : tabled sq ≡ products plain (signalsOf v)
+  pub few : n ≤ width
+  pub fitting : Fitting setExponent (signalsAt n set)
+  pub different : Different (signalsAt n set)
+  pub summed : cancels ≡ false → Uncancelled terms
   pub low : 0 < room
   pub high : room ≤ cards
-  pub within : v .len + room ≤ mostSignals
+  pub within : length (tabled set) + room ≤ cards
 
 -- the nonsquare that is split
 pub record Split (may : Mono → Bool) (room : ℕ) (v ns : List Mono) (m : Mono) : Type 0 where

@@ -8,21 +8,21 @@ use wiring::choice::Pick;
 use wiring::panel::TERM_BYTES;
 use wiring::quadratic;
 use wiring::signals;
-use wiring::signals::Signals;
 ghost use mathlib.Core.Path.{_≡_};
-ghost use mathlib.Core.List.{List, _∷_, _++_};
+ghost use mathlib.Core.Bool.{false};
+ghost use mathlib.Core.List.{_∷_, _++_};
 ghost use Prim.Native.Nat.{_*_, _≤_};
 ghost use lib.ListN.{length};
-ghost use Rattle.monomial.specs.Monomial.{Mono, width};
+ghost use Rattle.monomial.specs.Monomial.{width};
 ghost use Rattle.monomial.specs.Product.{AtMost};
-ghost use Rattle.wiring.specs.Panel.{setExponent, mostSignals};
+ghost use Rattle.wiring.specs.Panel.{setExponent};
 ghost use Rattle.wiring.specs.Poly.{plain};
-ghost use Rattle.wiring.specs.Derivative.{derivative};
-ghost use Rattle.wiring.specs.Quadratic.{products, unmet, nonsquares};
-ghost use Rattle.wiring.specs.Signals.{Fitting, signalsOf, tabled};
+ghost use Rattle.wiring.specs.Derivative.{derivative, Uncancelled};
+ghost use Rattle.wiring.specs.Quadratic.{unmet, nonsquares};
+ghost use Rattle.wiring.specs.Signals.{Fitting, tabled, listed, signalsAt};
 ghost use Rattle.wiring.specs.Terms.{records, system, CleanTerms};
 ghost use Rattle.wiring.specs.Choice.{cheaper, Best};
-ghost use Rattle.counting.specs.Gathering.{listed, Lent, Notes, Gathers};
+ghost use Rattle.counting.specs.Gathering.{Lent, Notes, Gathers};
 
 // How many are listed; over, where there are more than the list may hold.
 pub struct Gathered {
@@ -35,7 +35,7 @@ fn note(list: &mut [u8], len: usize, most: usize, m: Monomial) -> Gathered
     requires { ⌜ Lent most len (now list) ⌝ }
     ensures { λ r. ⌜ Notes (m .e ∷ listed len (now (list .entry))) most r (now (list .exit)) ⌝ }
 {
-    if signals::is_tabled(&list[..WIDTH * len], m) {
+    if signals::is_among(&list[..WIDTH * len], m) {
         return Gathered { len, over: false };
     }
     if most <= len {
@@ -55,17 +55,18 @@ fn gather_in(
     len: usize,
     most: usize,
     z: Monomial,
-    sq: &[u8],
+    n: usize,
+    set: &[u8],
+    cancels: bool,
 ) -> Gathered
-    requires { ⌜ CleanTerms (now terms) × (AtMost setExponent (z .e) × Lent most len (now list)) ⌝ }
-    ensures { λ r. ⌜ ((v : List Mono) → tabled (now (sq .entry)) ≡ products plain v →
-        Notes (unmet plain v (derivative plain (system (records (now (terms .entry)))) (z .e)) ++ listed len (now (list .entry))) most r (now (list .exit))) ⌝ }
+    requires { ⌜ CleanTerms (now terms) × (AtMost setExponent (z .e) × (Lent most len (now list) × (cancels ≡ false → Uncancelled (now terms)))) ⌝ }
+    ensures { λ r. ⌜ Notes (unmet plain (signalsAt n (now (set .entry))) (derivative plain (system (records (now (terms .entry)))) (z .e)) ++ listed len (now (list .entry))) most r (now (list .exit)) ⌝ }
 {
     let count = terms.len() / TERM_BYTES;
     let mut held = len;
     let mut t: usize = 0;
     while t < count {
-        let p = quadratic::nonsquare_of(terms, t, z, sq);
+        let p = quadratic::nonsquare_of(terms, t, z, n, set, cancels);
         if p.some {
             let got = note(list, held, most, p.m);
             if got.over {
@@ -81,22 +82,28 @@ fn gather_in(
     }
 }
 
-// The nonsquares of a set in the list, or that they are more than it may hold.
-pub fn gather(terms: &[u8], list: &mut [u8], v: Signals, sq: &[u8], most: usize) -> Gathered
-    requires { ⌜ CleanTerms (now terms) × ((v .len ≤ mostSignals) × (Fitting setExponent (signalsOf v) × ((tabled (now sq) ≡ products plain (signalsOf v)) × (width * most ≤ length (now list))))) ⌝ }
-    ensures { λ r. ⌜ Gathers most (nonsquares plain (signalsOf v) (derivative plain (system (records (now (terms .entry)))))) r (now (list .exit)) ⌝ }
+// The nonsquares of a set in the list, or that they are more than it may hold. The signals are asked from the last: the newest ones have most.
+pub fn gather(
+    terms: &[u8],
+    list: &mut [u8],
+    n: usize,
+    set: &[u8],
+    cancels: bool,
+    most: usize,
+) -> Gathered
+    requires { ⌜ CleanTerms (now terms) × ((n ≤ width) × (Fitting setExponent (signalsAt n (now set)) × ((cancels ≡ false → Uncancelled (now terms)) × (width * most ≤ length (now list))))) ⌝ }
+    ensures { λ r. ⌜ Gathers most (nonsquares plain (signalsAt n (now (set .entry))) (derivative plain (system (records (now (terms .entry)))))) r (now (list .exit)) ⌝ }
 {
-    let count = v.len;
     let mut len: usize = 0;
-    let mut j: usize = 0;
-    while j < count {
-        let z = v.m[j];
-        let got = gather_in(terms, list, len, most, z, sq);
+    let mut j = n + 1 + set.len() / WIDTH;
+    while 0 < j {
+        j -= 1;
+        let z = signals::signal(n, set, j);
+        let got = gather_in(terms, list, len, most, z, n, set, cancels);
         if got.over {
             return got;
         }
         len = got.len;
-        j += 1;
     }
     Gathered { len, over: false }
 }

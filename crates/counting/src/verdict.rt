@@ -6,13 +6,12 @@ use monomial::width::CONSTANTS;
 use monomial::width::WIDTH;
 use wiring::panel::CARDS;
 use wiring::panel::Panel;
-use wiring::signals::Signals;
 ghost use Prim.Native.Nat.{_≤_};
 ghost use lib.ListN.{length};
 ghost use Rattle.wiring.specs.Poly.{plain};
 ghost use Rattle.wiring.specs.Derivative.{derivative};
 ghost use Rattle.wiring.specs.Quadratic.{nonsquares};
-ghost use Rattle.wiring.specs.Signals.{signalsOf};
+ghost use Rattle.wiring.specs.Signals.{signalsAt};
 ghost use Rattle.wiring.specs.Sockets.{mayBe};
 ghost use Rattle.wiring.specs.Terms.{records, system};
 ghost use Rattle.counting.specs.Verdict.{listBytes, Weighing, Judged};
@@ -29,27 +28,26 @@ pub struct Verdict {
     pub m: Monomial,
 }
 
-// A quotient occurs at most once for each member of V: where there are more nonsquares than that allows, the rest of them is not looked for. The
-// first row of the table, 1 times each member, is V.
+// A quotient occurs at most once for each member of V: where there are more nonsquares than that allows, the rest of them is not looked for.
 pub fn verdict_of(
     terms: &[u8],
     list: &mut [u8],
     panel: Panel,
-    v: Signals,
-    sq: &[u8],
+    set: &[u8],
+    cancels: bool,
     room: usize,
 ) -> Verdict
-    requires { ⌜ Weighing (now terms) v (now sq) room × (listBytes ≤ length (now list)) ⌝ }
-    ensures { λ r. ⌜ Judged (mayBe panel) room (signalsOf v) (nonsquares plain (signalsOf v) (derivative plain (system (records (now (terms .entry)))))) r ⌝ }
+    requires { ⌜ Weighing (now terms) (panel .n) (now set) cancels room × (listBytes ≤ length (now list)) ⌝ }
+    ensures { λ r. ⌜ Judged (mayBe panel) room (signalsAt (panel .n) (now (set .entry))) (nonsquares plain (signalsAt (panel .n) (now (set .entry))) (derivative plain (system (records (now (terms .entry)))))) r ⌝ }
 {
     let closed = Verdict {
         found: false,
         split: false,
         m: Monomial::ONE,
     };
-    let members = v.len;
+    let members = panel.n + 1 + set.len() / WIDTH;
     let most = room * members + room * (room + 1) / 2;
-    let g = gathering::gather(terms, list, v, sq, most);
+    let g = gathering::gather(terms, list, panel.n, set, cancels, most);
     if g.over {
         return closed;
     }
@@ -61,7 +59,7 @@ pub fn verdict_of(
         };
     }
     let used = WIDTH * g.len;
-    if counting::closes(panel, &list[..used], &sq[..WIDTH * members], room) {
+    if counting::closes(panel, &list[..used], set, room) {
         return closed;
     }
     let p = gathering::cheapest_of(&list[..used]);

@@ -1,5 +1,5 @@
--- Loops over lists of any length: ones that fill a list place by place (`Filling`, `Pasting`), compare two (`Comparing`), look through one (`Seeking`,
--- `Placing`, `Checking`), or collect what its entries give (`Collecting`). Each record is a loop's invariant. Assumes nothing.
+-- Loops over lists of any length: ones that fill a list place by place (`Filling`, `Pasting`), compare two (`Comparing`), look through one (`Seeking`, `SeekingDown`,
+-- `Placing`, `Checking`, `CheckingFrom`), or collect what its entries give (`Collecting`, `CollectingDown`). Each record is a loop's invariant. Assumes nothing.
 use mathlib.Core.Path.{_≡_, refl, sym, ap, ap₂, _∙_, subst}
 use mathlib.Core.Bool.{Bool, true, false}
 use mathlib.Core.List.{List, [], _∷_, _++_, append-nil}
@@ -10,7 +10,8 @@ use lib.ListN.{length, take, drop, set, getD, replicate, length-set, drop-of-len
 use lib.Seq.{paste, paste-zero, paste-suc, length-paste, take-suc, take-suc-set, take-all, drop-cons, set-at, length-take-le, append-snoc}
 use Rattle.monomial.specs.Lists.{any, all, place, pairwise, pointwise, gather}
 use Rattle.monomial.specs.Claims.{_⊆_}
-use Rattle.monomial.proofs.Members.{append-turned, gather-sub, gather-append, take-in}
+use Rattle.monomial.proofs.Tests.{or-true}
+use Rattle.monomial.proofs.Members.{append-turned, gather-sub, gather-append, take-in, drop-in}
 
 module _ {A : Type 0} (d : A) where
   -- ---- a loop that makes r the list t, and has come to place i
@@ -167,6 +168,59 @@ module _ {A : Type 0} (f : A → Bool) where
     unfolding all
     checking-ends s h = rw (drop-of-length-le l h) at (s .rest)
 
+-- ---- a loop that looks through l from the last entry on, and has come down to place i
+module _ {A : Type 0} (f : A → Bool) where
+  pub record SeekingDown (l : List A) (i : ℕ) : Type 0 where
+    pub within : i ≤ length l
+    pub rest : any f (take i l) ≡ any f l
+
+  pub down-start : (l : List A) (i : ℕ) → i ≡ length l → SeekingDown l i
+  down-start l i e = record { within = omega arith; rest = ap (any f) (take-all i l (omega arith)) }
+
+  last-passes : (l : List A) (x : A) → f x ≡ true → any f (l ++ (x ∷ [])) ≡ true
+  unfolding any
+  last-passes [] x e = rw e
+  last-passes (y ∷ l) x e = rw (last-passes l x e) (or-true (f y))
+
+  last-fails : (l : List A) (x : A) → f x ≡ false → any f (l ++ (x ∷ [])) ≡ any f l
+  unfolding any
+  last-fails [] x e = rw e
+  last-fails (y ∷ l) x e = rw (last-fails l x e)
+
+  module _ (d : A) {l : List A} {j : ℕ} (s : SeekingDown l j) (i : ℕ) (e : j ≡ i + 1) where
+    -- the entry at i is the last of what is left
+    left : any f (take i l ++ (getD l i d ∷ [])) ≡ any f l
+    left =
+        let next : j ≡ suc i = e ∙ add-one i in
+        ap (any f) (sym (take-suc l i d (omega (arith, s .within)))) ∙ ap (λ (k : ℕ). any f (take k l)) (sym next) ∙ s .rest
+
+    pub down-found : f (getD l i d) ≡ true → true ≡ any f l
+    down-found t = sym (last-passes (take i l) (getD l i d) t) ∙ left
+
+    pub down-on : f (getD l i d) ≡ false → SeekingDown l i
+    down-on t = record { within = omega (arith, s .within); rest = sym (last-fails (take i l) (getD l i d) t) ∙ left }
+
+  pub down-ends : {l : List A} → SeekingDown l 0 → false ≡ any f l
+  unfolding any
+  down-ends s = s .rest
+
+-- ---- a loop that tests the entries of l from place at on, and has come to place i
+pub record CheckingFrom {A : Type 0} (f : A → Bool) (l : List A) (at i : ℕ) : Type 0 where
+  pub rest : all f (drop i l) ≡ all f (drop at l)
+
+module _ {A : Type 0} {f : A → Bool} {l : List A} {at i : ℕ} (d : A) (c : CheckingFrom f l at i) where
+  pub from-fails : i < length l → f (getD l i d) ≡ false → false ≡ all f (drop at l)
+  unfolding all
+  from-fails h e = rw (drop-cons l i d h, e) at (c .rest)
+
+  pub from-on : i < length l → f (getD l i d) ≡ true → CheckingFrom f l at (i + 1)
+  unfolding all
+  from-on h e = record { rest = rw (add-one i) (rw (drop-cons l i d h, e) at (c .rest)) }
+
+  pub from-ends : length l ≤ i → true ≡ all f (drop at l)
+  unfolding all
+  from-ends h = rw (drop-of-length-le l h) at (c .rest)
+
 -- ---- what `pointwise` makes
 module _ {A B C : Type 0} (f : A → B → C) where
   pub pointwise-length : (a : List A) (b : List B) → length a ≡ length b → length (pointwise f a b) ≡ length a
@@ -278,3 +332,25 @@ module _ {A B : Type 0} (f : A → List B) (l : List A) where
 
   pub collecting-end : {P : List B → Type 0} {i : ℕ} → Collecting P i → length l ≤ i → P (gather f l)
   collecting-end {P} {i} c h = subst (λ (r : List A). P (gather f r)) (take-all i l h) (c .holds)
+
+  -- ---- the same from the last entry on: it has come down to place i
+  pub record CollectingDown (P : List B → Type 0) (i : ℕ) : Type 0 where
+    pub within : i ≤ length l
+    pub holds : P (gather f (drop i l))
+
+  pub collecting-last : (P : List B → Type 0) (i : ℕ) → i ≡ length l → P [] → CollectingDown P i
+  unfolding gather
+  collecting-last P i e h = record { within = omega arith; holds = rw (drop-of-length-le l {i = i} (omega arith)) h }
+
+  pub collecting-behind : (i : ℕ) → gather f (drop i l) ⊆ gather f l
+  collecting-behind i = gather-sub f (drop i l) l (λ x h. drop-in i l h)
+
+  pub collecting-down : {P Q : List B → Type 0} {j : ℕ} → CollectingDown P j → (i : ℕ) (d : A) → j ≡ i + 1 → ((m : List B) → P m → Q (f (getD l i d) ++ m)) → CollectingDown Q i
+  unfolding gather
+  collecting-down {P} {Q} {j} c i d e more =
+      let next : j ≡ suc i = e ∙ add-one i in
+      let old : P (gather f (drop (suc i) l)) = subst (λ (k : ℕ). P (gather f (drop k l))) next (c .holds) in
+      record { within = omega (arith, c .within); holds = rw (drop-cons l i d (omega (arith, c .within))) (more (gather f (drop (suc i) l)) old) }
+
+  pub collecting-whole : {P : List B → Type 0} → CollectingDown P 0 → P (gather f l)
+  collecting-whole c = c .holds

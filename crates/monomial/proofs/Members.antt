@@ -272,6 +272,11 @@ take-in zero l h = absurd (List·Memᴰ·not-nil h)
 take-in (suc n) [] h = h
 take-in (suc n) (y ∷ l) h = ⊎-elim (λ e. List·Memᴰ·head e) (λ k. there (take-in n l k)) (List·Memᴰ·cases-cons h)
 
+pub drop-in : {A : Type 0} (n : ℕ) (l : List A) {x : A} → x ∈ drop n l → x ∈ l
+drop-in zero l h = h
+drop-in (suc n) [] h = h
+drop-in (suc n) (y ∷ l) h = there (drop-in n l h)
+
 -- the first entries are among more of them
 pub take-more : {A : Type 0} (a b : ℕ) (l : List A) → a ≤ b → {x : A} → x ∈ take a l → x ∈ take b l
 take-more zero b l h k = absurd (List·Memᴰ·not-nil k)

@@ -4,12 +4,13 @@ use mathlib.Core.Path.{_≡_, refl}
 use mathlib.Core.Bool.{Bool, true, false}
 use mathlib.Core.List.{List, [], _∷_, map}
 use lib.ListN.{replicate}
-use Rattle.monomial.specs.Lists.{keep, gather, below, pairwise, pointwise, dictionary, insertBy, arrangeBy}
+use Rattle.monomial.specs.Lists.{all, keep, gather, below, pairwise, pointwise, dictionary, insertBy, arrangeBy}
 use Rattle.monomial.specs.Monomial.{Mono, vars, constants}
 use Rattle.monomial.specs.Order.{same, before, beforeSet}
 use Rattle.monomial.specs.Product.{mul}
 use Rattle.monomial.specs.Quotient.{quo, divides}
 use Rattle.monomial.specs.Divisors.{score, divisors, pairs, next}
+use Rattle.monomial.specs.Degree.{degree, within, low}
 
 -- one row: a list of monomials that the definitions give, and the one that is expected
 record Row : Type 0 where
@@ -44,6 +45,9 @@ table =
     ∷ row (said (divides (2 ∷ 1 ∷ []) (9 ∷ 0 ∷ []))) (said false)
     -- 64 to the power of 6
     ∷ row ((score (replicate 6 63) ∷ []) ∷ []) ((68719476736 ∷ []) ∷ [])
+    -- of the first two variables: x2 and 1 are below degree 2, x1 x2 below 3, x1^2 x2 is not; and x3 is not of the first two
+    ∷ row (gather said (low 2 2 (0 ∷ 1 ∷ 0 ∷ []) ∷ low 2 2 (0 ∷ 0 ∷ 0 ∷ []) ∷ low 2 3 (1 ∷ 1 ∷ 0 ∷ []) ∷ low 2 3 (2 ∷ 1 ∷ 0 ∷ []) ∷ low 2 2 (0 ∷ 0 ∷ 1 ∷ []) ∷ []))
+    ((1 ∷ []) ∷ (1 ∷ []) ∷ (1 ∷ []) ∷ (0 ∷ []) ∷ (0 ∷ []) ∷ [])
     -- the six divisors of x1^2 x2
     ∷ row (divisors (2 ∷ 1 ∷ [])) ((0 ∷ 0 ∷ []) ∷ (0 ∷ 1 ∷ []) ∷ (1 ∷ 0 ∷ []) ∷ (1 ∷ 1 ∷ []) ∷ (2 ∷ 0 ∷ []) ∷ (2 ∷ 1 ∷ []) ∷ [])
     ∷ row (next (2 ∷ 1 ∷ []) (0 ∷ 1 ∷ []) ∷ next (2 ∷ 1 ∷ []) (2 ∷ 0 ∷ []) ∷ next (2 ∷ 1 ∷ []) (2 ∷ 1 ∷ []) ∷ []) ((1 ∷ 0 ∷ []) ∷ (2 ∷ 1 ∷ []) ∷ (0 ∷ 0 ∷ []) ∷ [])
@@ -57,5 +61,5 @@ table =
     ∷ []
 
 sampled : map (λ r. r .got) table ≡ map (λ r. r .want) table
-unfolding table row said flat vars arrangeBy insertBy pairwise dictionary pointwise score below divisors gather keep pairs next
+unfolding table row said flat vars all degree within arrangeBy insertBy pairwise dictionary pointwise score below divisors gather keep pairs next
 sampled = refl

@@ -5,4 +5,5 @@ pub mod Order
 pub mod Product
 pub mod Quotient
 pub mod Divisors
+pub mod Degree
 pub mod Claims

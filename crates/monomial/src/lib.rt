@@ -3,6 +3,7 @@
 // Each contract cites one definition of specs/ over lists of exponents of any length; the array of the struct is such a list.
 // Nothing is assumed of an exponent but that it is a byte.
 pub mod bytes;
+pub mod degree;
 pub mod divisors;
 pub mod order;
 pub mod product;

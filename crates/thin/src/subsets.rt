@@ -1,8 +1,9 @@
 // The subsets of a set, each sifted once: every signal in turn is kept or dropped.
 use monomial::Monomial;
-use walk::listing;
+use monomial::width::WIDTH;
 use wiring::answers;
 use wiring::buffer;
+use wiring::panel::CARDS;
 use wiring::panel::SET_BYTES;
 use wiring::reply::Reply;
 use wiring::sets::Set;
@@ -13,11 +14,16 @@ ghost use lib.ListN.{length};
 ghost use Rattle.wiring.specs.Panel.{cards};
 ghost use Rattle.wiring.specs.Reply.{numbers};
 ghost use Rattle.wiring.specs.Terms.{records, system};
-ghost use Rattle.wiring.specs.Sets.{monomialsOf};
+ghost use Rattle.wiring.specs.Sets.{monomialsOf, setRecord};
 ghost use Rattle.wiring.specs.Answers.{judged, told, wires, Judgeable};
 ghost use Rattle.wiring.specs.Claims.{Wide};
 ghost use Rattle.walk.specs.Walk.{Finds};
 ghost use Rattle.thin.specs.Subsets.{isQuadratic, Begun, Sifting, Bounded, undecided, Deciding};
+
+// The bytes of a set record.
+pub struct Record {
+    pub b: [u8; SET_BYTES],
+}
 
 // What the subsets that were sifted come to: the least size of a quadratic one, how many of them have it, and how many subsets were sifted: the steps.
 pub struct Best {
@@ -46,13 +52,33 @@ fn is_quadratic(n: usize, terms: &[u8], set: Set) -> bool
     }
 }
 
+// The record of a set.
+fn record_of(set: Set) -> Record
+    requires { ⌜ (length (monomialsOf set) ≤ cards) × Wide (monomialsOf set) ⌝ }
+    ensures { λ r. ⌜ r .b ≡ setRecord (monomialsOf set) ⌝ }
+{
+    let len = set.len;
+    let mut b = [0u8; SET_BYTES];
+    let mut i: usize = 0;
+    while i < CARDS {
+        if len <= i {
+            return Record { b };
+        }
+        let m = set.m[i];
+        m.write(&mut b, WIDTH * i);
+        i += 1;
+    }
+    Record { b }
+}
+
 // Writes a set behind the first `count` of the list, where there is room. Without room it is only counted: a smaller set may yet begin the list anew.
 fn join(out: &mut [u8], count: usize, set: Set)
     requires { ⌜ (length (monomialsOf set) ≤ cards) × Wide (monomialsOf set) ⌝ }
     ensures { λ _. ⌜ ((l : Finds) → count ≡ length l → Begun l (now (out .entry)) → Begun (l ++ (monomialsOf set ∷ [])) (now (out .exit))) ⌝ }
 {
     if count < out.len() / SET_BYTES {
-        listing::put(out, SET_BYTES * count, listing::record_of(set));
+        let r = record_of(set);
+        buffer::put(out, SET_BYTES * count, &r.b);
     }
 }
 

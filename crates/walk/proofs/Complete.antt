@@ -26,13 +26,13 @@ use Rattle.wiring.specs.Answers.{missing}
 use Rattle.wiring.specs.Claims.{Wide}
 use Rattle.wiring.proofs.quadratic.Laws.{Factors, inV2-in, inV2-out, unmet-in, unmet-out, Nonsquare, nonsquares-in, nonsquares-out}
 use Rattle.wiring.proofs.quadratic.Definition1.{no-members}
-use Rattle.wiring.proofs.signals.Laws.{base-in, signals-cases}
+use Rattle.wiring.proofs.signals.Laws.{base-in, signals-cases, signals-wide}
 use Rattle.walk.specs.Walk.{Rules, child, found, ends, opened}
 use Rattle.walk.specs.Openings.{Branch}
 use Rattle.walk.specs.Claims.{Orderly, Extends, Sparing, Reached}
 use Rattle.walk.proofs.Rules.{extends-self, extends-on, extends-lower, extends-upper, opens-is, goes-on}
 use Rattle.walk.proofs.Openings.{below-in, find-in}
-use Rattle.walk.proofs.children.Laws.{chosen-in, signals-grow, signals-wide, Grown, old, left, right, child-sub, child-out, child-asc, split-longer}
+use Rattle.walk.proofs.children.Laws.{chosen-in, signals-grow, Grown, old, left, right, child-sub, child-out, child-asc, split-longer}
 
 module _ (n : ℕ) (fs : List (Poly Mono)) where
   -- ---- where t has no nonsquare, each monomial of a derivative of its V is a product

@@ -26,7 +26,7 @@ use Rattle.wiring.specs.Answers.{missing}
 use Rattle.wiring.specs.Claims.{Wide}
 use Rattle.wiring.proofs.quadratic.Definition1.{definition1}
 use Rattle.wiring.proofs.quadratic.Laws.{Factors, inV2-in, unmet-out, Nonsquare, nonsquares-out, nonsquares-asc}
-use Rattle.wiring.proofs.signals.Laws.{base-in, set-in, signals-cases}
+use Rattle.wiring.proofs.signals.Laws.{base-in, set-in, signals-cases, signals-wide}
 use Rattle.counting.specs.Counting.{needed}
 use Rattle.counting.proofs.Largest.{closes-out}
 use Rattle.counting.proofs.Enough.{Made, one, two, enough}
@@ -36,7 +36,7 @@ use Rattle.walk.specs.Claims.{Orderly, Extends, Sparing, QuadraticList, 
 use Rattle.walk.proofs.Rules.{extends-by}
 use Rattle.walk.proofs.Complete.{met}
 use Rattle.walk.proofs.Closing.{closing-alike}
-use Rattle.walk.proofs.children.Laws.{signals-grow, signals-wide}
+use Rattle.walk.proofs.children.Laws.{signals-grow}
 
 -- a quadratic set t that holds s, and whose further monomials may be
 module _ (r : Rules) (n : ℕ) (fs : List (Poly Mono)) (s t : List Mono) (a : Ascending before s) (b : Ascending before t) (wide : Wide t)

@@ -41,11 +41,11 @@ use Rattle.wiring.proofs.derivative.Records.{Derived, derived}
 use Rattle.wiring.proofs.sockets.Laws.{may-same}
 use Rattle.wiring.proofs.answers.Exact.{panel-in}
 use Rattle.wiring.proofs.terms.Laws.{Fields, fields-out, clean-right, clean-widens, clean-for}
-use Rattle.wiring.proofs.signals.Laws.{base-in, set-in, signals-cases}
+use Rattle.wiring.proofs.signals.Laws.{base-in, set-in, signals-cases, signals-wide}
 use Rattle.walk.specs.Walk.{Rules, allowing, counted, rulesOf, added, child, Step, opens, ends, tried, after, opened, level, Run, ended, spent, full, run}
 use Rattle.walk.specs.Plan.{Ending, settled, levels, plan, settingsRight, planned}
 use Rattle.walk.specs.Claims.{Orderly, Proper, Heedless}
-use Rattle.walk.proofs.children.Laws.{chosen-in, signals-wide, Grown, old, left, right, child-out, nonsquare-wide}
+use Rattle.walk.proofs.children.Laws.{chosen-in, Grown, old, left, right, child-out, nonsquare-wide}
 use Rattle.walk.proofs.Steps.{tried-alike, after-alike}
 use Rattle.walk.proofs.Rules.{tries-out, allowing-orderly}
 use Rattle.walk.proofs.Sound.{within-base, gap-within, keeps-proper}

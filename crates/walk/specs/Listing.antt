@@ -7,6 +7,7 @@ use Rattle.monomial.specs.Monomial.{Mono, one, width}
 use Rattle.monomial.specs.Order.{before, beforeSet}
 use Rattle.monomial.specs.Claims.{Ascending, _∈_}
 use Rattle.wiring.specs.Panel.{cards, setBytes}
+use Rattle.wiring.specs.Signals.{tabled}
 use Rattle.walk.specs.Walk.{Finds, Run, ended, full}
 use Rattle.walk.specs.Plan.{setsBytes}
 use Rattle.walk.specs.declared.listing.Kept.{Kept}
@@ -18,6 +19,11 @@ pub record Recorded (s : List Mono) : Type 0 where
   pub ascending : Ascending before s
   pub wide : (m : Mono) → m ∈ s → length m ≡ width
   pub proper : (m : Mono) → m ∈ s → m ≡ one width → ⊥
+
+-- such a set, whose monomials lie side by side in bytes
+pub record Lies (set : List ℕ) : Type 0 where
+  pub whole : length set ≡ width * length (tabled set)
+  pub recorded : Recorded (tabled set)
 
 -- the first `count` records of the buffer are the finds, and the rest of it is zeros
 pub record Shown (finds : Finds) (count : ℕ) (out : List ℕ) : Type 0 where

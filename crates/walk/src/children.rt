@@ -1,103 +1,111 @@
-// The child of a set by a factor pair.
+// The child of a set by a factor pair, in a lent buffer. Sets lie side by side in lent bytes, ascending.
 use monomial::Monomial;
+use monomial::width::WIDTH;
+use wiring::buffer;
 use wiring::panel::Panel;
-use wiring::sets::Set;
 use wiring::signals;
-use wiring::signals::Signals;
 use wiring::sockets;
 ghost use mathlib.Core.Path.{_≡_};
 ghost use mathlib.Core.Bool.{false, _&&_, _||_};
-ghost use Prim.Native.Nat.{ℕ, _+_, _≤_, _<_};
+ghost use Prim.Native.Nat.{_+_, _*_, _≤_};
 ghost use lib.Dec.{leb};
 ghost use lib.ListN.{length};
 ghost use Rattle.monomial.specs.Monomial.{width};
 ghost use Rattle.monomial.specs.Lists.{any, insertBy};
 ghost use Rattle.monomial.specs.Order.{same, before};
 ghost use Rattle.monomial.specs.Claims.{Ascending};
-ghost use Rattle.wiring.specs.Panel.{cards, mostSignals};
 ghost use Rattle.wiring.specs.Sockets.{mayBe};
-ghost use Rattle.wiring.specs.Signals.{signals, signalsOf};
-ghost use Rattle.wiring.specs.Sets.{monomialsOf};
+ghost use Rattle.wiring.specs.Signals.{tabled, listed, signalsAt};
 ghost use Rattle.walk.specs.Walk.{rulesOf, child, opens};
-ghost use Rattle.walk.specs.Turns.{Child};
+ghost use Rattle.walk.specs.Turns.{Child, Growing};
 
-// A child that is opened, where go is true.
+// Where go is true, a child that is opened: so many monomials of the buffer.
 pub struct Tried {
     pub go: bool,
-    pub set: Set,
+    pub len: usize,
 }
 
-// The set with m in its place, where the set is ascending and lacks m.
-fn with(set: Set, m: Monomial) -> Set
-    requires { ⌜ set .len < cards ⌝ }
-    ensures { λ r. ⌜ (Ascending before (monomialsOf set) → any (same (m .e)) (monomialsOf set) ≡ false →
-        monomialsOf r ≡ insertBy same before (m .e) (monomialsOf set)) × (r .len ≡ set .len + 1) ⌝ }
+// Puts m in its place among the first len monomials, which ascend and lack it.
+fn put_in(s: &mut [u8], len: usize, m: Monomial)
+    requires { ⌜ width * len + width ≤ length (now s) ⌝ }
+    ensures { λ _. ⌜ (Ascending before (listed len (now (s .entry))) → any (same (m .e)) (listed len (now (s .entry))) ≡ false →
+        listed (len + 1) (now (s .exit)) ≡ insertBy same before (m .e) (listed len (now (s .entry)))) ⌝ }
 {
-    let mut next = set;
-    let mut i = set.len;
+    let mut i = len;
     while 0 < i {
-        let x = next.m[i - 1];
+        let x = Monomial::read(s, WIDTH * (i - 1));
         if x.before(m) {
             break;
         }
-        next.m[i] = x;
+        x.write(s, WIDTH * i);
         i -= 1;
     }
-    next.m[i] = m;
-    next.len = set.len + 1;
-    next
+    m.write(s, WIDTH * i);
 }
 
 // The set with m, where there is room and m may be. The room is asked first: it is often taken, and asked for nothing.
-fn with_one(level: usize, panel: Panel, set: Set, m: Monomial) -> Tried
-    requires { ⌜ (level ≤ cards) × (set .len ≤ level) ⌝ }
-    ensures { λ r. ⌜ (Ascending before (monomialsOf set) → any (same (m .e)) (monomialsOf set) ≡ false →
-        Child (mayBe panel (m .e) && leb (length (insertBy same before (m .e) (monomialsOf set))) level) (insertBy same before (m .e) (monomialsOf set)) r) ⌝ }
+fn with_one(level: usize, panel: Panel, set: &[u8], next: &mut [u8], m: Monomial) -> Tried
+    requires { ⌜ Growing level (now set) (now next) ⌝ }
+    ensures { λ r. ⌜ (any (same (m .e)) (tabled (now (set .entry))) ≡ false →
+        Child (mayBe panel (m .e) && leb (length (insertBy same before (m .e) (tabled (now (set .entry))))) level) (insertBy same before (m .e) (tabled (now (set .entry)))) r (now (next .exit))) ⌝ }
 {
-    if level <= set.len {
-        return Tried { go: false, set };
+    let len = set.len() / WIDTH;
+    if level <= len {
+        return Tried { go: false, len };
     }
     if !sockets::may_be(panel, m) {
-        return Tried { go: false, set };
+        return Tried { go: false, len };
     }
+    buffer::put(next, 0, set);
+    put_in(next, len, m);
     Tried {
         go: true,
-        set: with(set, m),
+        len: len + 1,
     }
 }
 
 // The set with a and b, where there is room for both and both may be.
-fn with_two(level: usize, panel: Panel, set: Set, a: Monomial, b: Monomial) -> Tried
-    requires { ⌜ (level ≤ cards) × (set .len ≤ level) ⌝ }
-    ensures { λ r. ⌜ (Ascending before (monomialsOf set) → any (same (b .e)) (monomialsOf set) ≡ false →
-        any (same (a .e)) (insertBy same before (b .e) (monomialsOf set)) ≡ false →
-        Child (mayBe panel (a .e) && mayBe panel (b .e) && leb (length (insertBy same before (a .e) (insertBy same before (b .e) (monomialsOf set)))) level)
-        (insertBy same before (a .e) (insertBy same before (b .e) (monomialsOf set))) r) ⌝ }
+fn with_two(
+    level: usize,
+    panel: Panel,
+    set: &[u8],
+    next: &mut [u8],
+    a: Monomial,
+    b: Monomial,
+) -> Tried
+    requires { ⌜ Growing level (now set) (now next) ⌝ }
+    ensures { λ r. ⌜ (any (same (b .e)) (tabled (now (set .entry))) ≡ false →
+        any (same (a .e)) (insertBy same before (b .e) (tabled (now (set .entry)))) ≡ false →
+        Child (mayBe panel (a .e) && mayBe panel (b .e) && leb (length (insertBy same before (a .e) (insertBy same before (b .e) (tabled (now (set .entry)))))) level)
+        (insertBy same before (a .e) (insertBy same before (b .e) (tabled (now (set .entry))))) r (now (next .exit))) ⌝ }
 {
-    if level <= set.len + 1 {
-        return Tried { go: false, set };
+    let len = set.len() / WIDTH;
+    if level <= len + 1 {
+        return Tried { go: false, len };
     }
     if !sockets::may_be(panel, a) {
-        return Tried { go: false, set };
+        return Tried { go: false, len };
     }
     if !sockets::may_be(panel, b) {
-        return Tried { go: false, set };
+        return Tried { go: false, len };
     }
+    buffer::put(next, 0, set);
+    put_in(next, len, b);
+    put_in(next, len + 1, a);
     Tried {
         go: true,
-        set: with(with(set, b), a),
+        len: len + 2,
     }
 }
 
 // Whether the first of a pair adds nothing to the second: they are one, or V has it.
-fn is_met(v: Signals, a: Monomial, b: Monomial) -> bool
-    requires { ⌜ v .len ≤ mostSignals ⌝ }
-    ensures { λ r. ⌜ r ≡ same (a .e) (b .e) || any (same (a .e)) (signalsOf v) ⌝ }
+fn is_met(n: usize, set: &[u8], a: Monomial, b: Monomial) -> bool
+    ensures { λ r. ⌜ r ≡ same (a .e) (b .e) || any (same (a .e)) (signalsAt n (now (set .entry))) ⌝ }
 {
     if a.same(b) {
         return true;
     }
-    signals::is_signal(v, a)
+    signals::is_signal(n, set, a)
 }
 
 // The set plus those of a, b not in V, where these may be and it has at most level monomials. What is to be added is known before anything is copied,
@@ -105,26 +113,29 @@ fn is_met(v: Signals, a: Monomial, b: Monomial) -> bool
 pub(crate) fn offer(
     level: usize,
     panel: Panel,
-    v: Signals,
-    set: Set,
+    set: &[u8],
+    next: &mut [u8],
     a: Monomial,
     b: Monomial,
 ) -> Tried
-    requires { ⌜ (level ≤ cards) × ((set .len ≤ level) × ((v .len ≤ mostSignals) × Ascending before (monomialsOf set))) ⌝ }
-    ensures { λ r. ⌜ ((n : ℕ) → signalsOf v ≡ signals width n (monomialsOf set) →
-        Child (opens (rulesOf panel) n level (monomialsOf set) (a .e, b .e)) (child n (monomialsOf set) (a .e, b .e)) r) ⌝ }
+    requires { ⌜ Growing level (now set) (now next) ⌝ }
+    ensures { λ r. ⌜ Child (opens (rulesOf panel) (panel .n) level (tabled (now (set .entry))) (a .e, b .e)) (child (panel .n) (tabled (now (set .entry))) (a .e, b .e)) r (now (next .exit)) ⌝ }
 {
-    let known = signals::is_signal(v, b);
+    let known = signals::is_signal(panel.n, set, b);
     let mut m = b;
-    if is_met(v, a, b) {
+    if is_met(panel.n, set, a, b) {
         if known {
-            return Tried { go: true, set };
+            buffer::put(next, 0, set);
+            return Tried {
+                go: true,
+                len: set.len() / WIDTH,
+            };
         }
     } else {
         if !known {
-            return with_two(level, panel, set, a, b);
+            return with_two(level, panel, set, next, a, b);
         }
         m = a;
     }
-    with_one(level, panel, set, m)
+    with_one(level, panel, set, next, m)
 }

@@ -1,27 +1,17 @@
 // The finds in the lent buffer, as set records: in sorted place, without repeats.
-use monomial::width::WIDTH;
-use wiring::panel::CARDS;
 use wiring::panel::SET_BYTES;
-use wiring::sets::Set;
 ghost use mathlib.Core.Path.{_≡_};
 ghost use mathlib.Core.Bool.{not};
-ghost use mathlib.Core.List.{List};
 ghost use Prim.Native.Nat.{ℕ, _+_, _*_, _-_, _/_, _≤_};
-ghost use lib.ListN.{length, drop};
+ghost use lib.ListN.{length, getD, drop};
 ghost use lib.Seq.{paste};
 ghost use Rattle.monomial.specs.Lists.{any, place};
-ghost use Rattle.monomial.specs.Monomial.{Mono};
 ghost use Rattle.monomial.specs.Order.{same, before, sameSet, beforeSet};
-ghost use Rattle.wiring.specs.Panel.{cards, setBytes};
-ghost use Rattle.wiring.specs.Sets.{monomialsOf, setRecord};
-ghost use Rattle.wiring.specs.Claims.{Wide};
+ghost use Rattle.wiring.specs.Panel.{setBytes};
+ghost use Rattle.wiring.specs.Signals.{tabled};
+ghost use Rattle.wiring.specs.Sets.{setRecord};
 ghost use Rattle.walk.specs.Walk.{Finds, kept};
-ghost use Rattle.walk.specs.Listing.{Recorded, Shown, KeptAs};
-
-// The bytes of a set record.
-pub struct Record {
-    pub b: [u8; SET_BYTES],
-}
+ghost use Rattle.walk.specs.Listing.{Lies, Shown, KeptAs};
 
 // What keeping a find comes to: the new count, or no room.
 pub enum Kept {
@@ -29,34 +19,24 @@ pub enum Kept {
     NoRoom,
 }
 
-// The record of a set.
-pub fn record_of(set: Set) -> Record
-    requires { ⌜ (length (monomialsOf set) ≤ cards) × Wide (monomialsOf set) ⌝ }
-    ensures { λ r. ⌜ r .b ≡ setRecord (monomialsOf set) ⌝ }
+// The byte at i of the record of a set: behind the bytes of its monomials there are zeros. So no record need be made of it.
+fn byte_at(set: &[u8], i: usize) -> u8
+    ensures { λ r. ⌜ r ≡ getD (now (set .entry)) i 0 ⌝ }
 {
-    let len = set.len;
-    let mut b = [0u8; SET_BYTES];
-    let mut i: usize = 0;
-    while i < CARDS {
-        if len <= i {
-            return Record { b };
-        }
-        let m = set.m[i];
-        m.write(&mut b, WIDTH * i);
-        i += 1;
+    if i < set.len() {
+        return set[i];
     }
-    Record { b }
+    0
 }
 
-// Whether a set record is r.
-fn is_same(s: &[u8], r: Record) -> bool
-    requires { ⌜ length (now s) ≡ setBytes ⌝ }
-    ensures { λ x. ⌜ x ≡ same (now (s .entry)) (r .b) ⌝ }
+// Whether a record is that of the set.
+fn is_same(s: &[u8], set: &[u8]) -> bool
+    requires { ⌜ (length (now s) ≡ setBytes) × Lies (now set) ⌝ }
+    ensures { λ x. ⌜ x ≡ same (now (s .entry)) (setRecord (tabled (now (set .entry)))) ⌝ }
 {
-    let b = r.b;
     let mut i: usize = 0;
     while i < SET_BYTES {
-        if s[i] != b[i] {
+        if s[i] != byte_at(set, i) {
             return false;
         }
         i += 1;
@@ -64,18 +44,18 @@ fn is_same(s: &[u8], r: Record) -> bool
     true
 }
 
-// Whether a set record stands before r.
-fn stands_before(s: &[u8], r: Record) -> bool
-    requires { ⌜ length (now s) ≡ setBytes ⌝ }
-    ensures { λ x. ⌜ x ≡ before (now (s .entry)) (r .b) ⌝ }
+// Whether a record stands before that of the set.
+fn stands_before(s: &[u8], set: &[u8]) -> bool
+    requires { ⌜ (length (now s) ≡ setBytes) × Lies (now set) ⌝ }
+    ensures { λ x. ⌜ x ≡ before (now (s .entry)) (setRecord (tabled (now (set .entry)))) ⌝ }
 {
-    let b = r.b;
     let mut i: usize = 0;
     while i < SET_BYTES {
-        if s[i] < b[i] {
+        let b = byte_at(set, i);
+        if s[i] < b {
             return true;
         }
-        if b[i] < s[i] {
+        if b < s[i] {
             return false;
         }
         i += 1;
@@ -83,16 +63,15 @@ fn stands_before(s: &[u8], r: Record) -> bool
     false
 }
 
-// Whether the set of record r is among the finds.
-fn is_listed(s: &[u8], count: usize, r: Record) -> bool
-    requires { ⌜ setBytes * count ≤ length (now s) ⌝ }
-    ensures { λ x. ⌜ ((finds : Finds) (set : List Mono) → Shown finds count (now (s .entry)) → Recorded set → r .b ≡ setRecord set →
-        x ≡ any (sameSet set) finds) ⌝ }
+// Whether the set is among the finds.
+fn is_listed(s: &[u8], count: usize, set: &[u8]) -> bool
+    requires { ⌜ Lies (now set) × (setBytes * count ≤ length (now s)) ⌝ }
+    ensures { λ x. ⌜ ((finds : Finds) → Shown finds count (now (s .entry)) → x ≡ any (sameSet (tabled (now (set .entry)))) finds) ⌝ }
 {
     let mut i: usize = 0;
     while i < count {
         let at = SET_BYTES * i;
-        if is_same(&s[at..at + SET_BYTES], r) {
+        if is_same(&s[at..at + SET_BYTES], set) {
             return true;
         }
         i += 1;
@@ -100,16 +79,15 @@ fn is_listed(s: &[u8], count: usize, r: Record) -> bool
     false
 }
 
-// The place of the set of record r: how many finds stand before it.
-fn place_of(s: &[u8], count: usize, r: Record) -> usize
-    requires { ⌜ setBytes * count ≤ length (now s) ⌝ }
-    ensures { λ x. ⌜ (x ≤ count) × ((finds : Finds) (set : List Mono) → Shown finds count (now (s .entry)) → Recorded set → r .b ≡ setRecord set →
-        x ≡ place (λ f. not (beforeSet f set)) finds) ⌝ }
+// The place of the set: how many finds stand before it.
+fn place_of(s: &[u8], count: usize, set: &[u8]) -> usize
+    requires { ⌜ Lies (now set) × (setBytes * count ≤ length (now s)) ⌝ }
+    ensures { λ x. ⌜ (x ≤ count) × ((finds : Finds) → Shown finds count (now (s .entry)) → x ≡ place (λ f. not (beforeSet f (tabled (now (set .entry))))) finds) ⌝ }
 {
     let mut i: usize = 0;
     while i < count {
         let at = SET_BYTES * i;
-        if !stands_before(&s[at..at + SET_BYTES], r) {
+        if !stands_before(&s[at..at + SET_BYTES], set) {
             return i;
         }
         i += 1;
@@ -129,34 +107,32 @@ fn move_up(out: &mut [u8], from: usize, to: usize)
     }
 }
 
-// Writes a record over the bytes from at on.
-pub fn put(out: &mut [u8], at: usize, r: Record)
-    requires { ⌜ at + setBytes ≤ length (now out) ⌝ }
-    ensures { λ _. ⌜ now (out .exit) ≡ paste (now (out .entry)) at (r .b) setBytes ⌝ }
+// Writes the record of the set over the bytes from at on.
+fn put(out: &mut [u8], at: usize, set: &[u8])
+    requires { ⌜ Lies (now set) × (at + setBytes ≤ length (now out)) ⌝ }
+    ensures { λ _. ⌜ now (out .exit) ≡ paste (now (out .entry)) at (setRecord (tabled (now (set .entry)))) setBytes ⌝ }
 {
-    let b = r.b;
     let mut i: usize = 0;
     while i < SET_BYTES {
-        out[at + i] = b[i];
+        out[at + i] = byte_at(set, i);
         i += 1;
     }
 }
 
 // Keeps a found set: listed already, or in its place, or no room.
-pub(crate) fn keep(out: &mut [u8], count: usize, set: Set) -> Kept
-    requires { ⌜ Recorded (monomialsOf set) × (setBytes * count ≤ length (now out)) ⌝ }
+pub(crate) fn keep(out: &mut [u8], count: usize, set: &[u8]) -> Kept
+    requires { ⌜ Lies (now set) × (setBytes * count ≤ length (now out)) ⌝ }
     ensures { λ r. ⌜ ((finds : Finds) (taken : ℕ) → Shown finds count (now (out .entry)) →
-        KeptAs r taken (now (out .exit)) (kept (length (now (out .entry)) / setBytes) (monomialsOf set) taken finds)) ⌝ }
+        KeptAs r taken (now (out .exit)) (kept (length (now (out .entry)) / setBytes) (tabled (now (set .entry))) taken finds)) ⌝ }
 {
-    let r = record_of(set);
-    if is_listed(out, count, r) {
+    if is_listed(out, count, set) {
         return Kept::Held(count);
     }
     if out.len() / SET_BYTES <= count {
         return Kept::NoRoom;
     }
-    let at = SET_BYTES * place_of(out, count, r);
+    let at = SET_BYTES * place_of(out, count, set);
     move_up(out, at, SET_BYTES * count);
-    put(out, at, r);
+    put(out, at, set);
     Kept::Held(count + 1)
 }

@@ -5,11 +5,11 @@ use super::walk::State;
 use super::walk::Turn;
 use counting::verdict::LIST_BYTES;
 use wiring::buffer;
+use wiring::derivative;
 use wiring::panel::CARDS;
 use wiring::panel::MOST_STEPS;
 use wiring::panel::Panel;
 use wiring::reply::Reply;
-use wiring::sets::Set;
 use wiring::sockets;
 use wiring::terms;
 use wiring::terms::Fault;
@@ -46,6 +46,8 @@ fn climb(terms: &[u8], out: &mut [u8], panel: Panel, cap: usize, limit: u64) -> 
     requires { ⌜ (panel .n ≤ width) × ((cap ≤ cards) × (CleanTerms (now terms) × (now out ≡ replicate (length (now out)) 0))) ⌝ }
     ensures { λ r. ⌜ outcome r (now (out .exit)) ≡ said (plan (rulesOf panel) (panel .n) (system (records (now (terms .entry)))) limit (length (now (out .entry)) / setBytes) cap) (length (now (out .entry))) ⌝ }
 {
+    let cancels = derivative::may_cancel(terms);
+    let empty = [0u8; 0];
     let mut list = [0u8; LIST_BYTES];
     let mut steps: u64 = 0;
     let mut k: usize = 0;
@@ -54,15 +56,9 @@ fn climb(terms: &[u8], out: &mut [u8], panel: Panel, cap: usize, limit: u64) -> 
             panel,
             level: k,
             limit,
+            cancels,
         };
-        match walk::open(
-            terms,
-            out,
-            &mut list,
-            f,
-            Set::EMPTY,
-            State { steps, count: 0 },
-        ) {
+        match walk::open(terms, out, &mut list, f, &empty, State { steps, count: 0 }) {
             Turn::Going(s) => {
                 let count = s.count;
                 steps = s.steps;

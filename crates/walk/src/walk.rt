@@ -5,27 +5,26 @@ use super::listing::Kept;
 use counting::verdict;
 use counting::verdict::Verdict;
 use monomial::Monomial;
+use monomial::width::WIDTH;
 use wiring::panel::Panel;
-use wiring::panel::TABLE_BYTES;
+use wiring::panel::SET_BYTES;
 use wiring::quadratic;
-use wiring::sets::Set;
-use wiring::signals;
 ghost use mathlib.Core.Bool.{true, false};
 ghost use Prim.Native.Nat.{ℕ, _+_, _-_, _/_, _≤_, _<_};
 ghost use lib.ListN.{length};
 ghost use Rattle.wiring.specs.Panel.{setBytes};
 ghost use Rattle.wiring.specs.Terms.{records, system};
-ghost use Rattle.wiring.specs.Sets.{monomialsOf};
+ghost use Rattle.wiring.specs.Signals.{tabled};
 ghost use Rattle.walk.specs.Walk.{Finds, rulesOf, opened, triedAll, run, kept};
 ghost use Rattle.walk.specs.Listing.{Shown};
-ghost use Rattle.counting.specs.Verdict.{listBytes};
-ghost use Rattle.walk.specs.Turns.{Tells, Openable, Ready, Splits, Found, Weighed, Stepped};
+ghost use Rattle.walk.specs.Turns.{Tells, Openable, Ready, Means, Splits, Found, Weighed, Stepped};
 
-// What stays the same through a level.
+// What stays the same through a level; cancels, where a total may be 0.
 pub struct Frame {
     pub panel: Panel,
     pub level: usize,
     pub limit: u64,
+    pub cancels: bool,
 }
 
 // The steps taken and the number of finds.
@@ -49,10 +48,10 @@ pub struct Opened {
 }
 
 // A found set, once its step is taken.
-fn found(out: &mut [u8], set: Set, st: State) -> Turn
-    requires { ⌜ Found set (st .count) (now out) ⌝ }
+fn found(out: &mut [u8], set: &[u8], st: State) -> Turn
+    requires { ⌜ Found (now set) (st .count) (now out) ⌝ }
     ensures { λ r. ⌜ ((finds : Finds) → Shown finds (st .count) (now (out .entry)) →
-        Tells r (now (out .exit)) (kept (length (now (out .entry)) / setBytes) (monomialsOf set) (st .steps) finds)) ⌝ }
+        Tells r (now (out .exit)) (kept (length (now (out .entry)) / setBytes) (tabled (now (set .entry))) (st .steps) finds)) ⌝ }
 {
     let steps = st.steps;
     match listing::keep(out, st.count, set) {
@@ -62,27 +61,32 @@ fn found(out: &mut [u8], set: Set, st: State) -> Turn
 }
 
 // Whether a set is found, and else whether it goes on and with which nonsquare. At its level it only may be found: nothing is counted there.
-fn judge(terms: &[u8], list: &mut [u8], f: Frame, set: Set) -> Verdict
-    requires { ⌜ Openable (f .panel .n) (now terms) (f .level) set × (listBytes ≤ length (now list)) ⌝ }
-    ensures { λ r. ⌜ Weighed (rulesOf (f .panel)) (f .panel .n) (now (terms .entry)) (f .level) set r ⌝ }
+fn judge(terms: &[u8], list: &mut [u8], f: Frame, set: &[u8]) -> Verdict
+    requires { ⌜ Openable (f .panel .n) (now terms) (f .level) (now set) × Means (f .cancels) (now terms) (now list) ⌝ }
+    ensures { λ r. ⌜ Weighed (rulesOf (f .panel)) (f .panel .n) (now (terms .entry)) (f .level) (now (set .entry)) r ⌝ }
 {
-    let v = signals::signals_of(f.panel.n, set);
-    let mut table = [0u8; TABLE_BYTES];
-    let used = signals::products_of(v, &mut table);
-    if f.level <= set.len {
+    let len = set.len() / WIDTH;
+    if f.level <= len {
         return Verdict {
-            found: v.len <= quadratic::first_unmet(terms, v, &table[..used]),
+            found: !quadratic::is_unmet(terms, f.panel.n, set, f.cancels),
             split: false,
             m: Monomial::ONE,
         };
     }
-    verdict::verdict_of(terms, list, f.panel, v, &table[..used], f.level - set.len)
+    verdict::verdict_of(terms, list, f.panel, set, f.cancels, f.level - len)
 }
 
 // Takes the step of opening a set, and says what follows.
-fn take_step(terms: &[u8], out: &mut [u8], list: &mut [u8], f: Frame, set: Set, st: State) -> Opened
-    requires { ⌜ Ready (f .panel .n) (now terms) (f .level) set (st .count) (now out) × (listBytes ≤ length (now list)) ⌝ }
-    ensures { λ r. ⌜ Stepped (rulesOf (f .panel)) (f .panel .n) (now (terms .entry)) (f .level) (f .limit) set st (now (out .entry)) r (now (out .exit)) ⌝ }
+fn take_step(
+    terms: &[u8],
+    out: &mut [u8],
+    list: &mut [u8],
+    f: Frame,
+    set: &[u8],
+    st: State,
+) -> Opened
+    requires { ⌜ Ready (f .panel .n) (now terms) (f .level) (now set) (st .count) (now out) × Means (f .cancels) (now terms) (now list) ⌝ }
+    ensures { λ r. ⌜ Stepped (rulesOf (f .panel)) (f .panel .n) (now (terms .entry)) (f .level) (f .limit) (now (set .entry)) st (now (out .entry)) r (now (out .exit)) ⌝ }
 {
     let taken = st.steps;
     if f.limit <= taken {
@@ -119,13 +123,13 @@ pub(crate) fn open(
     out: &mut [u8],
     list: &mut [u8],
     f: Frame,
-    set: Set,
+    set: &[u8],
     st: State,
 ) -> Turn
-    requires { ⌜ Ready (f .panel .n) (now terms) (f .level) set (st .count) (now out) × (listBytes ≤ length (now list)) ⌝ }
-    ensures { λ r. ⌜ ((d : ℕ) (finds : Finds) → f .level - set .len < d → Shown finds (st .count) (now (out .entry)) →
+    requires { ⌜ Ready (f .panel .n) (now terms) (f .level) (now set) (st .count) (now out) × Means (f .cancels) (now terms) (now list) ⌝ }
+    ensures { λ r. ⌜ ((d : ℕ) (finds : Finds) → f .level - length (tabled (now (set .entry))) < d → Shown finds (st .count) (now (out .entry)) →
         Tells r (now (out .exit))
-        (run (f .limit) (length (now (out .entry)) / setBytes) (opened (rulesOf (f .panel)) (f .panel .n) (system (records (now (terms .entry)))) (f .level) d (monomialsOf set)) (st .steps) finds)) ⌝ }
+        (run (f .limit) (length (now (out .entry)) / setBytes) (opened (rulesOf (f .panel)) (f .panel .n) (system (records (now (terms .entry)))) (f .level) d (tabled (now (set .entry)))) (st .steps) finds)) ⌝ }
 {
     let o = take_step(terms, out, list, f, set, st);
     if !o.split {
@@ -139,24 +143,24 @@ pub(crate) fn open(
     pairs(terms, out, list, f, set, m, next)
 }
 
-// Runs the factor pairs of m: one step each, and a child is walked to its end before the next pair.
+// Runs the factor pairs of m: one step each, and a child is walked to its end before the next pair. So one buffer serves all children.
 fn pairs(
     terms: &[u8],
     out: &mut [u8],
     list: &mut [u8],
     f: Frame,
-    set: Set,
+    set: &[u8],
     m: Monomial,
     st: State,
 ) -> Turn
-    requires { ⌜ Ready (f .panel .n) (now terms) (f .level) set (st .count) (now out) × (Splits (f .panel .n) (now terms) (f .level) set (m .e) × (listBytes ≤ length (now list))) ⌝ }
-    ensures { λ r. ⌜ ((d : ℕ) (finds : Finds) → f .level - set .len ≤ d → Shown finds (st .count) (now (out .entry)) →
+    requires { ⌜ Ready (f .panel .n) (now terms) (f .level) (now set) (st .count) (now out) × (Splits (f .panel .n) (now terms) (f .level) (now set) (m .e) × Means (f .cancels) (now terms) (now list)) ⌝ }
+    ensures { λ r. ⌜ ((d : ℕ) (finds : Finds) → f .level - length (tabled (now (set .entry))) ≤ d → Shown finds (st .count) (now (out .entry)) →
         Tells r (now (out .exit))
         (run (f .limit) (length (now (out .entry)) / setBytes)
-        (triedAll (rulesOf (f .panel)) (f .panel .n) (system (records (now (terms .entry)))) (f .level) (opened (rulesOf (f .panel)) (f .panel .n) (system (records (now (terms .entry)))) (f .level) d) (monomialsOf set) (m .e))
+        (triedAll (rulesOf (f .panel)) (f .panel .n) (system (records (now (terms .entry)))) (f .level) (opened (rulesOf (f .panel)) (f .panel .n) (system (records (now (terms .entry)))) (f .level) d) (tabled (now (set .entry))) (m .e))
         (st .steps) finds)) ⌝ }
 {
-    let v = signals::signals_of(f.panel.n, set);
+    let mut child = [0u8; SET_BYTES];
     let mut cur = st;
     let mut a = Monomial::ONE;
     while a.leads(m) {
@@ -169,10 +173,9 @@ fn pairs(
             steps: taken + 1,
             count: seen,
         };
-        let t = children::offer(f.level, f.panel, v, set, a, m.over(a));
+        let t = children::offer(f.level, f.panel, set, &mut child, a, m.over(a));
         if t.go {
-            let c = t.set;
-            match open(terms, out, list, f, c, cur) {
+            match open(terms, out, list, f, &child[..WIDTH * t.len], cur) {
                 Turn::Going(s) => {
                     cur = s;
                 }

@@ -1,6 +1,7 @@
 -- Wiring, computed by the definitions from the bytes of the records, beside replies and buffers that were worked outside the
 -- project: document 01's rows, each refusal, both sides of each limit, and signals. One table, one claim. Assumes nothing.
 use mathlib.Core.Path.{_≡_, refl}
+use mathlib.Core.Bool.{Bool, true, false}
 use mathlib.Core.List.{List, [], _∷_, _++_, map}
 use Prim.Native.Nat.{ℕ, _*_, _-_}
 use lib.ListN.{length, replicate}
@@ -10,10 +11,10 @@ use Rattle.wiring.specs.Sockets.{panelOf, halved, marked, countRight, pa
 use Rattle.wiring.specs.Reply.{Numbers, five, Outcome}
 use Rattle.wiring.specs.Coefficient.{signed, unsigned, isZero}
 use Rattle.wiring.specs.Poly.{coeff, times, support}
-use Rattle.wiring.specs.Derivative.{partsFrom, derivative}
+use Rattle.wiring.specs.Derivative.{partsFrom, derivative, crosses}
 use Rattle.wiring.specs.Quadratic.{factor, inV2, unmet, nonsquares}
 use Rattle.wiring.specs.Signals.{signals}
-use Rattle.wiring.specs.Terms.{records, lengthRight, exponentsRight, coefficientRight, termRight, faultFrom, equation, system}
+use Rattle.wiring.specs.Terms.{recordAt, records, lengthRight, exponentsRight, coefficientRight, termRight, faultFrom, equation, system}
 use Rattle.wiring.specs.Sets.{places, sizeOf, setOf, ascending, monomialRight, setRight}
 use Rattle.wiring.specs.Wires.{firstOf, secondOf, row as rowOf, rowsFrom, wiring, wireRecord}
 use Rattle.wiring.specs.Answers.{firstUnmet, judged, recordJudged, verdict, listed, told, wired}
@@ -260,3 +261,15 @@ unfolding table fed row term plus minus wire set padded wired told listed verdic
     times support signed unsigned isZero vars any some all keep place gather below pairwise pointwise dictionary insertBy
     arrangeBy
 sampled = refl
+
+-- ---- which records cross: those of x1' = x1^2 x2 and x2' = -x1 x2^2, whose parts cancel in the derivative of x1 x2; not those of x1' = x1^3 and
+-- x2' = x1, and none with itself
+crossing : List Bool
+crossing =
+    let two = term 1 0 (2 ∷ 1 ∷ []) (plus 1) ++ term 2 0 (1 ∷ 2 ∷ []) (minus 1) in
+    let apart = term 1 0 (3 ∷ []) (plus 1) ++ term 2 0 (1 ∷ []) (plus 1) in
+    crosses (recordAt two 0) (recordAt two 1) ∷ crosses (recordAt two 1) (recordAt two 0) ∷ crosses (recordAt apart 0) (recordAt apart 1) ∷ crosses (recordAt two 0) (recordAt two 0) ∷ []
+
+crossed : crossing ≡ true ∷ true ∷ false ∷ false ∷ []
+unfolding crossing term plus minus padded crosses vars pairwise pointwise signed
+crossed = refl

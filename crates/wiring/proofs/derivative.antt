@@ -3,4 +3,5 @@ pub mod Rules
 pub mod Terms
 pub mod Records
 pub mod Bounds
+pub mod Cancelling
 pub mod Panel

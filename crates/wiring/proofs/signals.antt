@@ -1,5 +1,5 @@
--- Arrays of monomials and tables of them as lists, V and V2.
+-- Arrays of monomials and tables of them as lists, V, and V and V2 by division.
 pub mod Arrays
 pub mod Tables
 pub mod Laws
-pub mod Products
+pub mod Division

@@ -1,17 +1,19 @@
 -- The derivative of a monomial of any kind: the sum over i of the exponent of xi, times the monomial divided by xi, times equation i.
 -- Assumes nothing.
-use mathlib.Core.Bool.{Bool, true, not, cond, _&&_}
+use mathlib.Core.Path.{_≡_}
+use mathlib.Core.Bool.{Bool, true, false, not, cond, _&&_}
 use mathlib.Core.List.{List, [], _∷_, _++_, map}
-use Prim.Native.Nat.{ℕ, suc, _-_}
-use lib.Dec.{leb}
-use lib.ListN.{getD}
+use Prim.Native.Nat.{ℕ, suc, _-_, _/_, _<_}
+use lib.Dec.{eqb, leb}
+use lib.ListN.{length, getD}
 use Rattle.monomial.specs.Lists.{keep, arrangeBy}
-use Rattle.monomial.specs.Monomial.{Mono}
+use Rattle.monomial.specs.Monomial.{Mono, one, constants, width}
 use Rattle.monomial.specs.Order.{same, before}
 use Rattle.monomial.specs.Product.{mul}
 use Rattle.wiring.specs.Coefficient.{isZero}
 use Rattle.wiring.specs.Poly.{Kind, Poly, plain, coeff, times}
-use Rattle.wiring.specs.Terms.{Record}
+use Rattle.wiring.specs.Panel.{termBytes}
+use Rattle.wiring.specs.Terms.{Record, recordAt, records, system}
 
 module _ {M : Type 0} (k : Kind M) where
   -- the summand of variable number i, from 0, whose equation is f: nothing where its exponent in z is 0
@@ -44,3 +46,14 @@ offers test fs z r = gives test z r && not (isZero (coeff plain (derivative plai
 -- all monomials that records give, ascending, each once, those whose total is 0 among them
 unfoldable pub images : List Record → Mono → List Mono
 images rs z = arrangeBy same before (map (λ r. image r z) (keep (gives (λ m. true) z) rs))
+
+-- two records of two equations give one monomial wherever both give one
+unfoldable pub crosses : Record → Record → Bool
+crosses r q =
+    let variable : ℕ → Mono = λ i. getD (constants width) i (one width) in
+    not (eqb (r .equation) (q .equation)) && same (mul (r .monomial) (variable (q .equation))) (mul (q .monomial) (variable (r .equation)))
+
+-- no total is 0: each monomial that a record gives to a derivative has a coefficient there
+abbrev pub Uncancelled : List ℕ → Type 0
+Uncancelled bytes = (z : Mono) (t : ℕ) → length z ≡ width → t < length bytes / termBytes → 0 < power (recordAt bytes t) z
+    → isZero (coeff plain (derivative plain (system (records bytes)) z) (image (recordAt bytes t) z)) ≡ false

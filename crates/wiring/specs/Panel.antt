@@ -1,5 +1,5 @@
 -- The numbers of the panel, each in one place: what follows from another is computed from it. Assumes nothing.
-use Prim.Native.Nat.{ℕ, suc, _+_, _*_, _/_}
+use Prim.Native.Nat.{ℕ, suc, _+_, _*_}
 use Rattle.monomial.specs.Monomial.{width}
 
 -- integrator cards: so many new monomials has a set
@@ -38,15 +38,9 @@ setExponent = termExponent * cards
 abbrev pub derivedExponent : ℕ
 derivedExponent = setExponent + termExponent
 
--- the signals of a set: 1, the variables, the new monomials; their products by twos, and the bytes of the table of these
+-- the signals of a set: 1, the variables, the new monomials
 abbrev pub mostSignals : ℕ
 mostSignals = suc width + cards
-
-abbrev pub mostProducts : ℕ
-mostProducts = mostSignals * suc mostSignals / 2
-
-abbrev pub tableBytes : ℕ
-tableBytes = width * mostProducts
 
 -- a wiring record: its bytes, how many a list may have and their bytes
 abbrev pub wireBytes : ℕ

@@ -1,7 +1,7 @@
 -- V2, nonsquares, and Definition 1 of document 001, for a list v of monomials of any kind and a derivation d of them.
 -- Assumes nothing.
 use mathlib.Core.Bool.{Bool, not}
-use mathlib.Core.List.{List, [], _∷_, _++_, map}
+use mathlib.Core.List.{List, _∷_, _++_, map}
 use Prim.Native.Nat.{ℕ, suc}
 use lib.IntN.{ℤ}
 use lib.ListN.{take}
@@ -18,11 +18,6 @@ pub record Product (M : Type 0) : Type 0 where
   pub a : M
   pub b : M
   pub coefficient : ℤ
-
--- V2 as a table: the first member times itself and those behind it, then the second, and so on
-unfoldable pub products : {M : Type 0} → Kind M → List M → List M
-products k [] = []
-products k (x ∷ v) = map (k .mul x) (x ∷ v) ++ products k v
 
 module _ {M : Type 0} (k : Kind M) (v : List M) where
   -- m is the product of a and a member of v

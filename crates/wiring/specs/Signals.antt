@@ -27,6 +27,14 @@ flat l = gather (λ m. m) l
 unfoldable pub tabled : List ℕ → List Mono
 tabled bytes = map (λ i. take width (drop (width * i) bytes)) (below (length bytes / width))
 
+-- the first len of them
+abbrev pub listed : ℕ → List ℕ → List Mono
+listed len bytes = tabled (take (width * len) bytes)
+
+-- V of a set whose monomials stand so
+abbrev pub signalsAt : ℕ → List ℕ → List Mono
+signalsAt n bytes = signals width n (tabled bytes)
+
 -- each monomial of the list has the panel's width, and no exponent above b
 abbrev pub Fitting : ℕ → List Mono → Type 0
 Fitting b l = (m : Mono) → m ∈ l → (length m ≡ width) × AtMost b m

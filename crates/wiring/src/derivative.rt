@@ -6,12 +6,13 @@ use super::panel::TERM_BYTES;
 use super::terms;
 use monomial::Monomial;
 ghost use mathlib.Core.Path.{_≡_};
+ghost use mathlib.Core.Bool.{false};
 ghost use Prim.Native.Nat.{_+_, _*_, _≤_, _<_};
 ghost use lib.ListN.{length};
 ghost use Rattle.monomial.specs.Product.{AtMost};
 ghost use Rattle.wiring.specs.Panel.{termBytes, setExponent};
 ghost use Rattle.wiring.specs.Poly.{plain, coeff};
-ghost use Rattle.wiring.specs.Derivative.{derivative, power, image};
+ghost use Rattle.wiring.specs.Derivative.{derivative, power, image, crosses, Uncancelled};
 ghost use Rattle.wiring.specs.Terms.{recordAt, records, system, CleanTerms};
 
 // The exponent in z of the variable of record t.
@@ -53,4 +54,40 @@ pub(crate) fn total(terms: &[u8], z: Monomial, m: Monomial) -> i32
         t += 1;
     }
     sum
+}
+
+// Whether records t and u, of two equations, give one monomial wherever both give one: each times the variable of the other is the same.
+fn crosses(terms: &[u8], t: usize, u: usize) -> bool
+    requires { ⌜ CleanTerms (now terms) × ((termBytes * t + termBytes ≤ length (now terms)) × (termBytes * u + termBytes ≤ length (now terms))) ⌝ }
+    ensures { λ r. ⌜ r ≡ crosses (recordAt (now (terms .entry)) t) (recordAt (now (terms .entry)) u) ⌝ }
+{
+    let a = terms::wide(terms[TERM_BYTES * t]);
+    let b = terms::wide(terms[TERM_BYTES * u]);
+    if a == b {
+        return false;
+    }
+    let x = Monomial::read(terms, TERM_BYTES * t + MONOMIAL_AT).times(Monomial::constant(b));
+    let y = Monomial::read(terms, TERM_BYTES * u + MONOMIAL_AT).times(Monomial::constant(a));
+    x.same(y)
+}
+
+// Whether some total may be 0: only where two records cross. Where none do, each monomial that a record gives has a coefficient, and no total need
+// be summed to know it.
+pub fn may_cancel(terms: &[u8]) -> bool
+    requires { ⌜ CleanTerms (now terms) ⌝ }
+    ensures { λ r. ⌜ (r ≡ false → Uncancelled (now (terms .entry))) ⌝ }
+{
+    let count = terms.len() / TERM_BYTES;
+    let mut t: usize = 0;
+    while t < count {
+        let mut u: usize = 0;
+        while u < t {
+            if crosses(terms, t, u) {
+                return true;
+            }
+            u += 1;
+        }
+        t += 1;
+    }
+    false
 }

@@ -28,12 +28,8 @@ pub const SET_BYTES: usize = WIDTH * CARDS;
 
 pub const SET_EXPONENT: u8 = TERM_EXPONENT * CARDS as u8;
 
-// The signals of a set: 1, the variables, the new monomials; their products, and the bytes of the table of these.
+// The signals of a set: 1, the variables, the new monomials.
 pub const MOST_SIGNALS: usize = CONSTANTS + CARDS;
-
-pub const MOST_PRODUCTS: usize = MOST_SIGNALS * (MOST_SIGNALS + 1) / 2;
-
-pub const TABLE_BYTES: usize = WIDTH * MOST_PRODUCTS;
 
 // A wiring record: its bytes, how many a list may have and their bytes.
 pub const WIRE_BYTES: usize = 8;

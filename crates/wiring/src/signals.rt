@@ -1,18 +1,18 @@
-// V, the signals of a set, and V2, the table of their products.
+// V, the signals of a set, and V2, their products by twos: V held by value, or the set alone, whose monomials lie side by side in lent bytes.
 use super::panel::MOST_SIGNALS;
 use super::sets::Set;
 use monomial::Monomial;
 use monomial::width::WIDTH;
 ghost use mathlib.Core.Path.{_≡_};
-ghost use Prim.Native.Nat.{_+_, _≤_};
-ghost use lib.ListN.{length, take};
-ghost use Rattle.monomial.specs.Monomial.{width};
+ghost use Prim.Native.Nat.{_+_, _/_, _≤_};
+ghost use lib.ListN.{length, getD};
+ghost use Rattle.monomial.specs.Monomial.{one, width};
 ghost use Rattle.monomial.specs.Lists.{any};
 ghost use Rattle.monomial.specs.Order.{same};
-ghost use Rattle.wiring.specs.Panel.{cards, mostSignals, tableBytes};
+ghost use Rattle.wiring.specs.Panel.{cards};
 ghost use Rattle.wiring.specs.Poly.{plain};
-ghost use Rattle.wiring.specs.Quadratic.{products};
-ghost use Rattle.wiring.specs.Signals.{signals, Fitting, signalsOf, tabled};
+ghost use Rattle.wiring.specs.Quadratic.{inV2};
+ghost use Rattle.wiring.specs.Signals.{signals, signalsOf, tabled, signalsAt};
 ghost use Rattle.wiring.specs.Sets.{monomialsOf};
 
 // 1, the variables, the new monomials.
@@ -44,16 +44,25 @@ pub fn signals_of(n: usize, set: Set) -> Signals
     }
 }
 
-// Whether m is in V.
-pub fn is_signal(v: Signals, m: Monomial) -> bool
-    requires { ⌜ v .len ≤ mostSignals ⌝ }
-    ensures { λ r. ⌜ r ≡ any (same (m .e)) (signalsOf v) ⌝ }
+// Signal number j of a set whose monomials lie side by side.
+pub fn signal(n: usize, set: &[u8], j: usize) -> Monomial
+    requires { ⌜ (n ≤ width) × (j ≤ n + length (now set) / width) ⌝ }
+    ensures { λ r. ⌜ r .e ≡ getD (signalsAt n (now (set .entry))) j (one width) ⌝ }
 {
-    let len = v.len;
+    if j <= n {
+        return Monomial::constant(j);
+    }
+    Monomial::read(set, WIDTH * (j - n - 1))
+}
+
+// Whether m is among the monomials that lie side by side. They are lent: a copy for each question would cost more than the search.
+pub fn is_among(list: &[u8], m: Monomial) -> bool
+    ensures { λ r. ⌜ r ≡ any (same (m .e)) (tabled (now (list .entry))) ⌝ }
+{
+    let count = list.len() / WIDTH;
     let mut i: usize = 0;
-    while i < len {
-        let x = v.m[i];
-        if m.same(x) {
+    while i < count {
+        if m.same(Monomial::read(list, WIDTH * i)) {
             return true;
         }
         i += 1;
@@ -61,39 +70,33 @@ pub fn is_signal(v: Signals, m: Monomial) -> bool
     false
 }
 
-// V2 of V, side by side in the lent table; the number of its bytes. The table holds those of the most signals that there are.
-pub fn products_of(v: Signals, table: &mut [u8]) -> usize
-    requires { ⌜ (v .len ≤ mostSignals) × (Fitting 127 (signalsOf v) × (tableBytes ≤ length (now table))) ⌝ }
-    ensures { λ r. ⌜ (tabled (take r (now (table .exit))) ≡ products plain (signalsOf v)) × (r ≤ tableBytes) ⌝ }
+// Whether m is in V of a set: 1 and the variables are those of degree below 2.
+pub fn is_signal(n: usize, set: &[u8], m: Monomial) -> bool
+    ensures { λ r. ⌜ r ≡ any (same (m .e)) (signalsAt n (now (set .entry))) ⌝ }
 {
-    let len = v.len;
-    let mut at: usize = 0;
-    let mut a: usize = 0;
-    while a < len {
-        let x = v.m[a];
-        let mut b = a;
-        while b < len {
-            let y = v.m[b];
-            x.times(y).write(table, at);
-            at += WIDTH;
-            b += 1;
-        }
-        a += 1;
+    if m.is_low(n, 2) {
+        return true;
     }
-    at
+    is_among(set, m)
 }
 
-// Whether m is among the monomials of a table. It is lent: a copy for each question would cost more than the search.
-pub fn is_tabled(table: &[u8], m: Monomial) -> bool
-    ensures { λ r. ⌜ r ≡ any (same (m .e)) (tabled (now (table .entry))) ⌝ }
+// Whether m is in V2 of a set. No product is made: m is divided, and the quotient looked for. What 1 and the variables multiply to by twos is of
+// degree below 3, and every other product has a new monomial for a factor; the last of these, the largest, are tried first.
+pub fn is_square(n: usize, set: &[u8], m: Monomial) -> bool
+    ensures { λ r. ⌜ r ≡ inV2 plain (signalsAt n (now (set .entry))) (m .e) ⌝ }
 {
-    let count = table.len() / WIDTH;
-    let mut i: usize = 0;
-    while i < count {
-        if m.same(Monomial::read(table, WIDTH * i)) {
-            return true;
+    if m.is_low(n, 3) {
+        return true;
+    }
+    let mut i = set.len() / WIDTH;
+    while 0 < i {
+        let z = Monomial::read(set, WIDTH * (i - 1));
+        if z.divides(m) {
+            if is_signal(n, set, m.over(z)) {
+                return true;
+            }
         }
-        i += 1;
+        i -= 1;
     }
     false
 }

@@ -8,7 +8,7 @@ use native.Mathlib.Omega.{arith}
 use lib.ListN.{length, getD, take}
 use lib.Seq.{paste, length-take-le, take-all, take-paste}
 use Rattle.monomial.specs.Lists.{any, gather, below}
-use Rattle.monomial.specs.Monomial.{Mono, width}
+use Rattle.monomial.specs.Monomial.{Mono, one, width}
 use Rattle.monomial.specs.Order.{same}
 use Rattle.monomial.specs.Claims.{_∈_, _⊆_, Different, Rearranged}
 use Rattle.monomial.proofs.Tests.{is→T, is→nT, is-not}
@@ -16,14 +16,14 @@ use Rattle.monomial.proofs.Members.{there, append-sub, append-turned, gather-in
 use Rattle.monomial.proofs.Counting.{at-in}
 use Rattle.monomial.proofs.Rearranged.{rearranged-in, rearranged-out, rearranged-length}
 use Rattle.monomial.proofs.Different.{different-more, different-length, different-rearranged, ascending-different}
-use Rattle.monomial.proofs.Loops.{OfMembers, Collecting, collecting-next, collecting-sub, collecting-end}
+use Rattle.monomial.proofs.Loops.{OfMembers, Collecting, collecting-sub, collecting-end, CollectingDown, collecting-behind, collecting-down, collecting-whole}
 use Rattle.monomial.proofs.order.Laws.{mono-order}
 use Rattle.monomial.proofs.order.Ascending.{among-in, among-out}
 use Rattle.wiring.specs.Poly.{Poly, plain}
 use Rattle.wiring.specs.Derivative.{derivative, image}
 use Rattle.wiring.specs.Terms.{Record, system}
-use Rattle.wiring.specs.Quadratic.{products, unmet, nonsquares}
-use Rattle.wiring.specs.Signals.{tabled}
+use Rattle.wiring.specs.Quadratic.{unmet, nonsquares}
+use Rattle.wiring.specs.Signals.{tabled, listed}
 use Rattle.wiring.specs.Choice.{cheaper, Picked, Best, Offered}
 use Rattle.wiring.specs.declared.choice.Pick.{Pick}
 use Rattle.wiring.proofs.signals.Tables.{tabled-none, tabled-length, tabled-more}
@@ -31,7 +31,7 @@ use Rattle.wiring.proofs.quadratic.Laws.{nonsquares-in, nonsquares-out, nonsqua
 use Rattle.wiring.proofs.quadratic.Records.{outside, passing, offering, offered-in, offered-sub, passing-sub, passing-unmet, met, met-all, meets-none, meets-one}
 use Rattle.wiring.proofs.choice.Laws.{picked}
 use Rattle.counting.specs.declared.gathering.Gathered.{Gathered}
-use Rattle.counting.specs.Gathering.{listed, Lent, Holds, Exceeds, Notes, Lists, Gathers}
+use Rattle.counting.specs.Gathering.{Lent, Holds, Exceeds, Notes, Lists, Gathers}
 
 -- ---- the bytes
 -- the listed monomials lie in the list
@@ -136,9 +136,9 @@ module _ (l0 : List Mono) where
   pub holds-beside : (most len : ℕ) (bytes : List ℕ) → OfMembers (λ l. Holds (l ++ l0) most len bytes)
   holds-beside most len bytes a b ab ba h = holds-members most len bytes (a ++ l0) (b ++ l0) (beside a b ab) (beside b a ba) h
 
-  module _ (sq : List Mono) (rs : List Record) (z : Mono) where
+  module _ (v : List Mono) (rs : List Record) (z : Mono) where
     abbrev pub giving : Record → List Mono
-    giving = met (offering (outside sq) rs z) z
+    giving = met (offering (outside v) rs z) z
 
     -- the loop has met the first t records
     abbrev pub Meeting : ℕ → ℕ → List ℕ → ℕ → Type 0
@@ -146,51 +146,50 @@ module _ (l0 : List Mono) where
 
     module _ {most len : ℕ} {bytes : List ℕ} {t : ℕ} (c : Meeting most len bytes t) (d : Record) (h : t < length rs) where
       -- the next one offers nothing
-      pub meeting-none : offering (outside sq) rs z (getD rs t d) ≡ false → Meeting most len bytes (t + 1)
-      meeting-none o = meets-none (offering (outside sq) rs z) z rs d h c (holds-beside most len bytes) o
+      pub meeting-none : offering (outside v) rs z (getD rs t d) ≡ false → Meeting most len bytes (t + 1)
+      meeting-none o = meets-none (offering (outside v) rs z) z rs d h c (holds-beside most len bytes) o
 
       -- or x, which is listed now
-      pub meeting-more : offering (outside sq) rs z (getD rs t d) ≡ true → (x : Mono) → image (getD rs t d) z ≡ x
+      pub meeting-more : offering (outside v) rs z (getD rs t d) ≡ true → (x : Mono) → image (getD rs t d) z ≡ x
           → (len' : ℕ) (now : List ℕ) → Holds (x ∷ listed len bytes) most len' now → Meeting most len' now (t + 1)
       meeting-more o x q len' now k =
-          meets-one (offering (outside sq) rs z) z rs d h c (holds-beside most len' now) o (λ m b. rw q (holds-over b (x ∷ []) len' now k))
+          meets-one (offering (outside v) rs z) z rs d h c (holds-beside most len' now) o (λ m b. rw q (holds-over b (x ∷ []) len' now k))
 
-    module _ (v : List Mono) (e : sq ≡ products plain v) where
-      abbrev pub lacked : List Mono
-      lacked = unmet plain v (derivative plain (system rs) z)
+    abbrev pub lacked : List Mono
+    lacked = unmet plain v (derivative plain (system rs) z)
 
-      given-in : gather giving rs ⊆ lacked
-      given-in y h =
-          subst (λ (l : List Mono). y ∈ l) (passing-unmet sq v rs z e)
-          (offered-sub (outside sq) rs z y (subst (λ (l : List Mono). y ∈ l) (met-all (offering (outside sq) rs z) z rs) h))
+    given-in : gather giving rs ⊆ lacked
+    given-in y h =
+        subst (λ (l : List Mono). y ∈ l) (passing-unmet v rs z)
+        (offered-sub (outside v) rs z y (subst (λ (l : List Mono). y ∈ l) (met-all (offering (outside v) rs z) z rs) h))
 
-      given-out : lacked ⊆ gather giving rs
-      given-out y h =
-          subst (λ (l : List Mono). y ∈ l) (sym (met-all (offering (outside sq) rs z) z rs))
-          (passing-sub (outside sq) rs z y (subst (λ (l : List Mono). y ∈ l) (sym (passing-unmet sq v rs z e)) h))
+    given-out : lacked ⊆ gather giving rs
+    given-out y h =
+        subst (λ (l : List Mono). y ∈ l) (sym (met-all (offering (outside v) rs z) z rs))
+        (passing-sub (outside v) rs z y (subst (λ (l : List Mono). y ∈ l) (sym (passing-unmet v rs z)) h))
 
-      -- what a record offers is one of them
-      offered-lacks : (r : Record) (p : Pick) → Offered (offering (outside sq) rs z r) (image r z) p → p .some ≡ true → p .m .e ∈ lacked
-      offered-lacks r p o t =
-          let given : image r z ∈ passing (outside sq) rs z = offered-in (outside sq) rs z r (is→T (offering (outside sq) rs z r) (sym (o .told) ∙ t)) in
-          subst (λ (l : List Mono). p .m .e ∈ l) (passing-unmet sq v rs z e) (Memᴰ·cast (o .is t) given)
+    -- what a record offers is one of them
+    offered-lacks : (r : Record) (p : Pick) → Offered (offering (outside v) rs z r) (image r z) p → p .some ≡ true → p .m .e ∈ lacked
+    offered-lacks r p o t =
+        let given : image r z ∈ passing (outside v) rs z = offered-in (outside v) rs z r (is→T (offering (outside v) rs z r) (sym (o .told) ∙ t)) in
+        subst (λ (l : List Mono). p .m .e ∈ l) (passing-unmet v rs z) (Memᴰ·cast (o .is t) given)
 
-      module _ {most len : ℕ} {bytes : List ℕ} {t : ℕ} (c : Meeting most len bytes t) where
-        -- one of them is too many
-        pub meeting-over : (r : Record) (p : Pick) → Offered (offering (outside sq) rs z r) (image r z) p → p .some ≡ true
-            → Exceeds (p .m .e ∷ listed len bytes) most → Exceeds (lacked ++ l0) most
-        meeting-over r p o s x = exceeds-over (c .holds) (p .m .e ∷ []) (lacked ++ l0) one so-far x
-          where
-            one : (p .m .e ∷ []) ⊆ (lacked ++ l0)
-            one y k =
-                ⊎-elim (λ q. Memᴰ·append-left l0 (Memᴰ·cast q (offered-lacks r p o s))) (λ n. absurd (List·Memᴰ·not-nil n)) (List·Memᴰ·cases-cons k)
+    module _ {most len : ℕ} {bytes : List ℕ} {t : ℕ} (c : Meeting most len bytes t) where
+      -- one of them is too many
+      pub meeting-over : (r : Record) (p : Pick) → Offered (offering (outside v) rs z r) (image r z) p → p .some ≡ true
+          → Exceeds (p .m .e ∷ listed len bytes) most → Exceeds (lacked ++ l0) most
+      meeting-over r p o s x = exceeds-over (c .holds) (p .m .e ∷ []) (lacked ++ l0) one so-far x
+        where
+          one : (p .m .e ∷ []) ⊆ (lacked ++ l0)
+          one y k =
+              ⊎-elim (λ q. Memᴰ·append-left l0 (Memᴰ·cast q (offered-lacks r p o s))) (λ n. absurd (List·Memᴰ·not-nil n)) (List·Memᴰ·cases-cons k)
 
-            so-far : (gather giving (take t rs) ++ l0) ⊆ (lacked ++ l0)
-            so-far = beside (gather giving (take t rs)) lacked (λ y k. given-in y (collecting-sub giving rs t y k))
+          so-far : (gather giving (take t rs) ++ l0) ⊆ (lacked ++ l0)
+          so-far = beside (gather giving (take t rs)) lacked (λ y k. given-in y (collecting-sub giving rs t y k))
 
-        -- all are listed
-        pub meeting-ends : length rs ≤ t → Holds (lacked ++ l0) most len bytes
-        meeting-ends h = holds-beside most len bytes (gather giving rs) lacked given-in given-out (collecting-end giving rs c h)
+      -- all are listed
+      pub meeting-ends : length rs ≤ t → Holds (lacked ++ l0) most len bytes
+      meeting-ends h = holds-beside most len bytes (gather giving rs) lacked given-in given-out (collecting-end giving rs c h)
 
 -- ---- the nonsquares
 module _ (v : List Mono) (d : Mono → Poly Mono) where
@@ -206,15 +205,15 @@ module _ (v : List Mono) (d : Mono → Poly Mono) where
   gathered-out : ns ⊆ gather unmetOf v
   gathered-out m k = let w = nonsquares-out plain mono-order v d m k in gather-in unmetOf v (w .of-in) (w .missing)
 
-  -- a loop has met the first j signals
+  -- a loop has met the signals from number j on
   abbrev pub Gathering : ℕ → ℕ → List ℕ → ℕ → Type 0
-  Gathering most len bytes j = Collecting unmetOf v (λ l. Holds l most len bytes) j
+  Gathering most len bytes j = CollectingDown unmetOf v (λ l. Holds l most len bytes) j
 
   module _ {most len : ℕ} {bytes : List ℕ} {j : ℕ} (c : Gathering most len bytes j) where
-    module _ (h : j < length v) (z : Mono) (here : getD v j [] ≡ z) where
-      -- the next signal's are listed now
-      pub gathering-next : (len' : ℕ) (now : List ℕ) → Holds (unmetOf z ++ listed len bytes) most len' now → Gathering most len' now (j + 1)
-      gathering-next len' now k = collecting-next unmetOf v [] h c (holds-members most len' now) (λ m b. rw here (holds-over b (unmetOf z) len' now k))
+    module _ (i : ℕ) (h : j ≡ i + 1) (z : Mono) (here : getD v i (one width) ≡ z) where
+      -- those of the one before it are listed now
+      pub gathering-next : (len' : ℕ) (now : List ℕ) → Holds (unmetOf z ++ listed len bytes) most len' now → Gathering most len' now i
+      gathering-next len' now k = collecting-down unmetOf v c i (one width) h (λ m b. rw here (holds-over b (unmetOf z) len' now k))
 
       -- or one of them is too many
       pub gathering-over : (g : Gathered) (now : List ℕ) → g .over ≡ true → Exceeds (unmetOf z ++ listed len bytes) most → Gathers most ns g now
@@ -222,19 +221,20 @@ module _ (v : List Mono) (d : Mono → Poly Mono) where
           record {
             all = λ e. absurd (is-not (g .over) o e);
             more = λ e.
-                let y : Exceeds ns most = exceeds-over (c .holds) (unmetOf z) ns own (λ m k. gathered-in m (collecting-sub unmetOf v j m k)) x in
+                let y : Exceeds ns most = exceeds-over (c .holds) (unmetOf z) ns own (λ m k. gathered-in m (collecting-behind unmetOf v j m k)) x in
                 let long : length (y .some) ≤ length ns = different-length (y .some) ns (y .different) (y .inside) in
                 omega (arith, y .many);
           }
         where
           own : unmetOf z ⊆ ns
-          own m k = nonsquares-in plain mono-order v d z m (subst (λ (x : Mono). x ∈ v) here (at-in v j [] h)) k
+          own m k = nonsquares-in plain mono-order v d z m (subst (λ (x : Mono). x ∈ v) here (at-in v i (one width) (omega (arith, c .within)))) k
 
-    pub gathering-ends : width * most ≤ length bytes → length v ≤ j → Gathers most ns (record { len = len; over = false }) bytes
-    gathering-ends r e = record { all = λ t. lists; more = λ t. absurd (is→T false t) }
+  module _ {most len : ℕ} {bytes : List ℕ} (c : Gathering most len bytes 0) where
+    pub gathering-ends : width * most ≤ length bytes → Gathers most ns (record { len = len; over = false }) bytes
+    gathering-ends r = record { all = λ t. lists; more = λ t. absurd (is→T false t) }
       where
         held : Holds ns most len bytes
-        held = holds-members most len bytes (gather unmetOf v) ns gathered-in gathered-out (collecting-end unmetOf v c e)
+        held = holds-members most len bytes (gather unmetOf v) ns gathered-in gathered-out (collecting-whole unmetOf v c)
 
         are : Rearranged ns (listed len bytes)
         are =

@@ -1,37 +1,31 @@
--- What follows for an opened set below its level: V in the first row of its table, the nonsquares that a list need hold, and the answers.
--- Assumes nothing.
-use mathlib.Core.Path.{_≡_, refl, sym, ap, ap₂, _∙_, subst}
+-- What follows for an opened set below its level: the nonsquares that a list need hold, and the answers. Assumes nothing.
+use mathlib.Core.Path.{_≡_, refl, sym, ap, _∙_}
 use mathlib.Core.Bool.{Bool, true, false}
-use mathlib.Core.List.{List, [], _∷_, _++_, map, Memᴰ·map, Memᴰ·cast}
+use mathlib.Core.List.{List, [], _∷_, map, Memᴰ·map, Memᴰ·cast}
 use Prim.Native.Nat.{ℕ, zero, suc, _+_, _-_, _*_, _/_, _<_, _≤_}
 use native.Mathlib.Omega.{arith}
 use native.Mathlib.Numerals.{add-one}
 use native.Mathlib.Nat.{mul-le-mul-left}
 use borrow.Author.Tests.{ltb-true}
 use lib.Dec.{T, leb, leb→le}
-use lib.ListN.{length, take, length-append, length-map}
-use lib.Seq.{take-at}
+use lib.ListN.{length, length-map}
 use Rattle.monomial.specs.Lists.{some, keep, gather, arrangeBy}
-use Rattle.monomial.specs.Monomial.{Mono, one, width}
+use Rattle.monomial.specs.Monomial.{Mono, width}
 use Rattle.monomial.specs.Order.{same, before}
 use Rattle.monomial.specs.Product.{mul}
 use Rattle.monomial.specs.Claims.{_∈_, _⊆_, Ascending, Different, Rearranged}
 use Rattle.monomial.proofs.Tests.{is-not}
-use Rattle.monomial.proofs.Members.{here, there, keep-out, keep-none, Gathered, gather-out}
+use Rattle.monomial.proofs.Members.{keep-out, keep-none, Gathered, gather-out}
 use Rattle.monomial.proofs.Different.{different-length, different-keep, ascending-different}
 use Rattle.monomial.proofs.order.Laws.{mono-order}
 use Rattle.monomial.proofs.order.Ascending.{arrange-out}
-use Rattle.monomial.proofs.product.Laws.{mul-comm, mul-one}
 use Rattle.wiring.specs.Claims.{Wide}
 use Rattle.wiring.specs.Panel.{cards}
-use Rattle.wiring.specs.Poly.{plain}
-use Rattle.wiring.specs.Quadratic.{products}
-use Rattle.wiring.specs.Signals.{signalsOf, tabled}
+use Rattle.wiring.specs.Signals.{signalsAt}
 use Rattle.wiring.specs.Choice.{Picked}
 use Rattle.wiring.specs.declared.choice.Pick.{Pick}
-use Rattle.wiring.specs.declared.signals.Signals.{Signals}
-use Rattle.wiring.proofs.signals.Tables.{tabled-length, tabled-take}
-use Rattle.wiring.proofs.signals.Products.{products-rows}
+use Rattle.wiring.proofs.signals.Tables.{tabled-length}
+use Rattle.wiring.proofs.signals.Laws.{signals-at-length, signals-at-wide}
 use Rattle.counting.specs.Counting.{quotientsOf, count, leastFrom, needed, shares, hits, frequent, closes}
 use Rattle.counting.specs.Verdict.{mostListed, Weighing, Split, Judged}
 use Rattle.counting.specs.declared.verdict.Verdict.{Verdict}
@@ -39,20 +33,6 @@ use Rattle.counting.proofs.Largest.{closes-rearranged}
 use Rattle.counting.proofs.counting.Laws.{Shared, share-out}
 use Rattle.counting.proofs.counting.Quotients.{IsQuotient, quotient-out, quotient-count}
 use Rattle.counting.proofs.counting.Sums.{closes-rare}
-
--- ---- V is the first row of its table: 1 times each member
-row-of-one : (v : List Mono) → Wide v → map (mul (one width)) v ≡ v
-row-of-one [] w = refl
-row-of-one (x ∷ v) w =
-    ap₂ _∷_ (mul-comm (one width) x ∙ ap (λ (k : ℕ). mul x (one k)) (sym (w x here)) ∙ mul-one x) (row-of-one v (λ y h. w y (there h)))
-
-pub first-row : (v rest : List Mono) (sq : List ℕ) → v ≡ one width ∷ rest → Wide v → tabled sq ≡ products plain v → width * length v ≤ length sq
-    → tabled (take (width * length v) sq) ≡ v
-first-row v rest sq b w e h =
-    tabled-take sq (length v) h
-    ∙ ap (take (length v)) (e ∙ ap (products plain) b ∙ products-rows plain (one width) rest)
-    ∙ ap (λ (r : List Mono). take (length v) (r ++ products plain rest)) (row-of-one (one width ∷ rest) (subst Wide b w) ∙ sym b)
-    ∙ take-at v (products plain rest) (length v) refl
 
 -- ---- more nonsquares than a list need hold
 module _ (may : Mono → Bool) (v : List Mono) (wide : Wide v) (once : Different v) (ns : List Mono) (up : Ascending before ns) where
@@ -117,41 +97,28 @@ list-long w most room len h k =
     fits d e = omega arith
 
 -- ---- what is asked, and what follows from it
-module _ {terms sq : List ℕ} {v : Signals} {room : ℕ} (w : Weighing terms v sq room) (full : length (signalsOf v) ≡ v .len) where
-  pub list-fits : room * v .len + room * (room + 1) / 2 ≤ mostListed
-  list-fits = list-long (suc width) cards room (v .len) (w .high) (w .within)
+module _ {terms set : List ℕ} {n room : ℕ} {cancels : Bool} (w : Weighing terms n set cancels room) where
+  -- the members of V, as the code counts them
+  abbrev pub members : ℕ
+  members = n + 1 + length set / width
 
-  wide : Wide (signalsOf v)
-  wide x h = w .fitting x h .0
+  long : length (signalsAt n set) ≡ members
+  long = signals-at-length n set (w .few)
 
-  pub first-row-fits : width * v .len ≤ length sq
-  first-row-fits =
-      let rest : List Mono = w .rest in
-      let row : List Mono = map (mul (one width)) (one width ∷ rest) in
-      let many : length (tabled sq) ≡ length row + length (products plain rest) = ap length (w .table ∙ ap (products plain) (w .begins) ∙ products-rows plain (one width) rest) ∙ length-append row (products plain rest) in
-      let long : length row ≡ suc (length rest) = length-map (one width ∷ rest) (mul (one width)) in
-      let size : length (signalsOf v) ≡ suc (length rest) = ap length (w .begins) in
-      omega (arith, tabled-length sq)
-
-  first-row-is : tabled (take (width * v .len) sq) ≡ signalsOf v
-  first-row-is =
-      let e : width * length (signalsOf v) ≡ width * v .len = ap (λ (k : ℕ). width * k) full in
-      ap (λ (k : ℕ). tabled (take k sq)) (sym e) ∙ first-row (signalsOf v) (w .rest) sq (w .begins) wide (w .table) (omega (arith, first-row-fits))
-
-  pub first-row-different : Different (tabled (take (width * v .len) sq))
-  first-row-different = subst Different (sym first-row-is) (w .different)
+  pub list-fits : room * members + room * (room + 1) / 2 ≤ mostListed
+  list-fits = list-long (suc width) cards room members (w .high) (omega (arith, w .within, w .few, tabled-length set))
 
   module _ (may : Mono → Bool) (ns : List Mono) where
     -- more than the list may hold
-    pub over-closes : Ascending before ns → room * v .len + room * (room + 1) / 2 < length ns → closes may room (signalsOf v) ns ≡ true
+    pub over-closes : Ascending before ns → room * members + room * (room + 1) / 2 < length ns → closes may room (signalsAt n set) ns ≡ true
     over-closes up h =
         let twos : room * (room + 1) / 2 ≡ room * suc room / 2 = ap (λ (k : ℕ). room * k / 2) (add-one room) in
-        let size : room * length (signalsOf v) ≡ room * v .len = ap (λ (k : ℕ). room * k) full in
-        closes-over may (signalsOf v) wide (w .different) ns up room (omega arith)
+        let size : room * length (signalsAt n set) ≡ room * members = ap (λ (k : ℕ). room * k) long in
+        closes-over may (signalsAt n set) (signals-at-wide n set) (w .different) ns up room (omega arith)
 
     -- what is said of the list holds of the nonsquares
-    pub list-closes : (l : List Mono) → Rearranged ns l → closes may room (tabled (take (width * v .len) sq)) l ≡ closes may room (signalsOf v) ns
-    list-closes l r = ap (λ (z : List Mono). closes may room z l) first-row-is ∙ sym (closes-rearranged may room (signalsOf v) ns l r)
+    pub list-closes : (l : List Mono) → Rearranged ns l → closes may room (signalsAt n set) l ≡ closes may room (signalsAt n set) ns
+    list-closes l r = sym (closes-rearranged may room (signalsAt n set) ns l r)
 
 -- ---- the answers
 module _ (may : Mono → Bool) (room : ℕ) (v ns : List Mono) (r : Verdict) where

@@ -23,7 +23,7 @@ use Rattle.monomial.proofs.order.Ascending.{insert-out, insert-new, insert-old,
 use Rattle.monomial.proofs.product.Laws.{mul-comm, atMost-weaken, atMost-mul, quo-small}
 use Rattle.monomial.proofs.quotient.Laws.{factor-divides, atMost-divides}
 use Rattle.monomial.proofs.divisors.Pairs.{pairs-out}
-use Rattle.monomial.proofs.Variables.{constants-fit, constants-quo}
+use Rattle.monomial.proofs.Variables.{constants-quo}
 use Rattle.wiring.specs.Panel.{cards, setExponent, derivedExponent, termExponent}
 use Rattle.wiring.specs.Poly.{Poly, plain}
 use Rattle.wiring.specs.Derivative.{derivative, power}
@@ -34,7 +34,7 @@ use Rattle.wiring.specs.Answers.{missing}
 use Rattle.wiring.specs.Claims.{base}
 use Rattle.wiring.proofs.Poly.{support-out}
 use Rattle.wiring.proofs.quadratic.Laws.{Factors, inV2-in, unmet-out, Nonsquare, nonsquares-out}
-use Rattle.wiring.proofs.signals.Laws.{base-in, set-in, signals-cases}
+use Rattle.wiring.proofs.signals.Laws.{base-in, set-in, signals-cases, signals-wide}
 use Rattle.wiring.proofs.terms.Laws.{Rightful, clean-in}
 use Rattle.wiring.proofs.derivative.Records.{Derived, derived}
 use Rattle.wiring.proofs.choice.Laws.{chosen-best}
@@ -49,12 +49,6 @@ chosen-in m l = chosen-best m l .0
 module _ (n : ℕ) where
   pub signals-grow : (s t : List Mono) → s ⊆ t → signals width n s ⊆ signals width n t
   signals-grow s t sub x h = ⊎-elim (λ b. base-in n t b) (λ m. set-in n t (sub x m)) (signals-cases n s h)
-
-  pub base-wide : (x : Mono) → x ∈ base n → length x ≡ width
-  base-wide x h = constants-fit 1 width (omega arith) x (take-in (suc n) (constants width) h) .0
-
-  pub signals-wide : (s : List Mono) → ((x : Mono) → x ∈ s → length x ≡ width) → (x : Mono) → x ∈ signals width n s → length x ≡ width
-  signals-wide s w x h = ⊎-elim (base-wide x) (w x) (signals-cases n s h)
 
 -- ---- one monomial added
 module _ (v : List Mono) (m : Mono) where

@@ -1,29 +1,25 @@
--- How a child is made: a monomial is put into an ascending array by moving up by one place what stands behind it, and the two of a pair
--- are put in one after the other. Assumes nothing.
+-- How a child is made: a monomial is put among ascending ones that lie side by side, by moving up by one place what stands behind it, and the two
+-- of a pair are put in one after the other. Assumes nothing.
 use mathlib.Core.Path.{_≡_, refl, sym, ap, ap₂, _∙_, subst}
 use mathlib.Core.Logic.{⊎-elim}
 use mathlib.Core.Bool.{Bool, true, false, _&&_, _||_}
-use mathlib.Core.List.{List, [], _∷_, _++_, map, List·Memᴰ·cases-cons, List·Memᴰ·not-nil, Memᴰ·append-right, Memᴰ·cast}
-use Prim.Native.Nat.{ℕ, suc, _+_, _-_, _<_, _≤_}
+use mathlib.Core.List.{List, [], _∷_, _++_, List·Memᴰ·cases-cons, List·Memᴰ·not-nil, Memᴰ·append-right, Memᴰ·cast}
+use Prim.Native.Nat.{ℕ, suc, _+_, _*_, _-_, _/_, _<_, _≤_}
 use native.Mathlib.Omega.{arith}
 use lib.Dec.{T, leb, leb→le, le→leb}
-use lib.ListN.{length, getD, take, drop, set, length-set, take-append-drop, drop-of-length-le}
-use lib.Seq.{take-length, drop-length, drop-cons, take-take, getD-take, take-set-le, drop-set-lt, getD-set-same, set-split}
+use lib.ListN.{length, getD, take, drop, set, length-set, length-drop, take-append-drop, drop-of-length-le}
+use lib.Seq.{paste, length-paste, length-take-le, take-length, drop-length, drop-cons, take-take, getD-take, take-set-le, drop-set-lt, getD-set-same, set-split}
 use borrow.Author.Tests.{le-leb}
 use Rattle.monomial.specs.Lists.{any, insertBy}
 use Rattle.monomial.specs.Monomial.{Mono, width}
 use Rattle.monomial.specs.Order.{same, before}
-use Rattle.monomial.specs.declared.Monomial.{Monomial}
 use Rattle.monomial.specs.Claims.{_∈_, Ascending, Order}
 use Rattle.monomial.proofs.Tests.{Tested, passed, failed, test, T→is, is→T, nT→is, is→nT, and-l, and-r, and-i, or-l, or-r, or-e, same-test}
 use Rattle.monomial.proofs.order.Laws.{behind, mono-order}
 use Rattle.monomial.proofs.order.Ascending.{insert-out, insert-new, insert-asc, insert-length, among-in, among-out}
 use Rattle.monomial.proofs.order.Inserting.{insert-between, insert-same, front-before}
-use Rattle.wiring.specs.Panel.{cards}
-use Rattle.wiring.specs.Signals.{signals, front}
-use Rattle.wiring.specs.Sets.{monomialsOf}
-use Rattle.wiring.specs.declared.sets.Set.{Set}
-use Rattle.wiring.proofs.signals.Arrays.{entry, front-length, front-at, front-set}
+use Rattle.wiring.specs.Signals.{signals, tabled, listed}
+use Rattle.wiring.proofs.signals.Tables.{tabled-length, listed-length, listed-at, listed-less, listed-put, listed-copied}
 use Rattle.wiring.proofs.signals.Laws.{set-in}
 use Rattle.walk.specs.declared.children.Tried.{Tried}
 use Rattle.walk.specs.Walk.{Rules, added, child, opens}
@@ -99,160 +95,193 @@ module _ {A : Type 0} {ahead : A → A → Bool} {m : A} {s u : List A} where
             let inside : y ∈ s = subst (λ (r : List A). y ∈ r) (take-append-drop i s) (Memᴰ·append-right (take i s) k) in
             behind o y m (w .later y k) (λ t. new (Memᴰ·cast (sym (o .same-eq y m t)) inside))
 
--- ---- the same in an array of six monomials, of which the first len are those of u
-pub record Inserting (m : Mono) (len : ℕ) (u now : List Monomial) (i : ℕ) : Type 0 where
-  pub few : len < cards
-  pub source : length u ≡ cards
-  pub long : length now ≡ cards
+-- ---- the same in bytes, where the first len monomials are those of u and behind them there is room for one more
+pub record Inserting (m : Mono) (len : ℕ) (u now : List ℕ) (i : ℕ) : Type 0 where
+  pub room : width * len + width ≤ length u
+  pub long : length now ≡ length u
   pub within : i ≤ len
-  pub shifting : Shifting before m (front len u) (front (len + 1) now) i
+  pub shifting : Shifting before m (listed len u) (listed (len + 1) now) i
 
-pub inserting-start : (m : Mono) (len : ℕ) (u : List Monomial) → len < cards → length u ≡ cards → Inserting m len u u len
-inserting-start m len u h l =
-    let s : List Mono = front len u in
-    let size : length s ≡ len = front-length len u (omega arith) in
-    let more : length (front (len + 1) u) ≡ len + 1 = front-length (len + 1) u (omega arith) in
-    let same-front : take (length s) (front (len + 1) u) ≡ s =
-    ap (λ (k : ℕ). take k (front (len + 1) u)) size ∙ take-take len (len + 1) (map (λ x. x .e) u) (omega arith) in
+pub inserting-start : (m : Mono) (len : ℕ) (u : List ℕ) → width * len + width ≤ length u → Inserting m len u u len
+inserting-start m len u h =
+    let s : List Mono = listed len u in
+    let size : length s ≡ len = listed-length u len (omega arith) in
+    let more : length (listed (len + 1) u) ≡ len + 1 = listed-length u (len + 1) (omega arith) in
+    let same-front : take (length s) (listed (len + 1) u) ≡ s =
+    ap (λ (k : ℕ). take k (listed (len + 1) u)) size ∙ listed-less len (len + 1) u (omega arith) (omega arith) in
     record {
-      few = h;
-      source = l;
-      long = l;
+      room = h;
+      long = refl;
       within = omega arith;
-      shifting = subst (λ (k : ℕ). Shifting before m s (front (len + 1) u) k) size (shifting-start (omega arith) same-front);
+      shifting = subst (λ (k : ℕ). Shifting before m s (listed (len + 1) u) k) size (shifting-start (omega arith) same-front);
     }
 
-module _ {m : Mono} {len : ℕ} {u now : List Monomial} {i : ℕ} (w : Inserting m len u now i) where
-  size : length (front len u) ≡ len
-  size = front-length len u (omega (arith, w .few, w .source))
+module _ {m : Mono} {len : ℕ} {u now : List ℕ} {i : ℕ} (w : Inserting m len u now i) where
+  size : length (listed len u) ≡ len
+  size = listed-length u len (omega (arith, w .room))
 
-  -- the entry before place i, in the array and in the set
-  at-now : 0 < i → getD (front (len + 1) now) (i - 1) [] ≡ entry now (i - 1)
-  at-now h = front-at (len + 1) now (i - 1) [] (omega (arith, w .within)) (omega (arith, w .few, w .long))
+  more-room : width * (len + 1) ≤ length now
+  more-room = omega (arith, w .room, w .long)
 
-  at-first : 0 < i → getD (front len u) (i - 1) [] ≡ entry now (i - 1)
+  pub inserting-room : width * i + width ≤ length now
+  inserting-room = omega (arith, w .room, w .long, w .within)
+
+  -- the monomial before place i, in the bytes and in the set
+  abbrev last : Mono
+  last = take width (drop (width * (i - 1)) now)
+
+  at-now : 0 < i → getD (listed (len + 1) now) (i - 1) [] ≡ last
+  at-now h = listed-at now (len + 1) more-room (i - 1) [] (omega (arith, w .within))
+
+  at-first : 0 < i → getD (listed len u) (i - 1) [] ≡ last
   at-first h = sym (shifting-at (w .shifting) (i - 1) [] (omega arith)) ∙ at-now h
 
-  pub inserting-on : (x : Monomial) → 0 < i → x .e ≡ entry now (i - 1) → before (x .e) m ≡ false → Inserting m len u (set now i x) (i - 1)
+  pub inserting-on : (x : Mono) → 0 < i → x ≡ take width (drop (width * (i - 1)) now) → before x m ≡ false
+      → Inserting m len u (paste now (width * i) x width) (i - 1)
   inserting-on x h e f =
-      let named : getD (front (len + 1) now) (i - 1) [] ≡ x .e = at-now h ∙ sym e in
-      let next : Shifting before m (front len u) (set (front (len + 1) now) i (getD (front (len + 1) now) (i - 1) [])) (i - 1) =
+      let wide : length x ≡ width =
+      ap length e ∙ length-take-le width (drop (width * (i - 1)) now) (omega (arith, length-drop (width * (i - 1)) now, inserting-room)) in
+      let named : getD (listed (len + 1) now) (i - 1) [] ≡ x = at-now h ∙ sym e in
+      let next : Shifting before m (listed len u) (set (listed (len + 1) now) i (getD (listed (len + 1) now) (i - 1) [])) (i - 1) =
       shifting-on (w .shifting) (i - 1) [] (omega arith) (ap (λ (z : Mono). before z m) named ∙ f) in
-      let written : set (front (len + 1) now) i (getD (front (len + 1) now) (i - 1) []) ≡ front (len + 1) (set now i x) =
-      ap (set (front (len + 1) now) i) named ∙ sym (front-set (len + 1) now i x (omega (arith, w .within))) in
+      let written : set (listed (len + 1) now) i (getD (listed (len + 1) now) (i - 1) []) ≡ listed (len + 1) (paste now (width * i) x width) =
+      ap (set (listed (len + 1) now) i) named ∙ sym (listed-put (len + 1) now i x wide (omega (arith, w .within)) more-room) in
       record {
-        few = w .few;
-        source = w .source;
-        long = length-set now i x ∙ w .long;
+        room = w .room;
+        long = length-paste now (width * i) x width inserting-room (omega arith) ∙ w .long;
         within = omega (arith, w .within);
-        shifting = subst (λ (l : List Mono). Shifting before m (front len u) l (i - 1)) written next;
+        shifting = subst (λ (l : List Mono). Shifting before m (listed len u) l (i - 1)) written next;
       }
 
-  module _ (x : Monomial) (e : x .e ≡ m) (a : Ascending before (front len u)) (f : any (same m) (front len u) ≡ false) where
-    placed : ((y : Mono) → y ∈ take i (front len u) → T (before y m)) → front (len + 1) (set now i x) ≡ insertBy same before m (front len u)
+  module _ (wide : length m ≡ width) (a : Ascending before (listed len u)) (f : any (same m) (listed len u) ≡ false) where
+    abbrev inserted : List Mono
+    inserted = insertBy same before m (listed len u)
+
+    placed : ((y : Mono) → y ∈ take i (listed len u) → T (before y m)) → listed (len + 1) (paste now (width * i) m width) ≡ inserted
     placed h =
-        front-set (len + 1) now i x (omega (arith, w .within))
-        ∙ ap (set (front (len + 1) now) i) e
-        ∙ shifting-end (w .shifting) mono-order (λ k. is→nT (any (same m) (front len u)) f (among-in mono-order k)) h
+        listed-put (len + 1) now i m wide (omega (arith, w .within)) more-room
+        ∙ shifting-end (w .shifting) mono-order (λ k. is→nT (any (same m) (listed len u)) f (among-in mono-order k)) h
 
-    -- the loop ends at the first place, or at an entry that stands before m
-    pub inserting-first : i ≡ 0 → front (len + 1) (set now i x) ≡ insertBy same before m (front len u)
-    inserting-first z = placed (λ y k. absurd (List·Memᴰ·not-nil (subst (λ (n : ℕ). y ∈ take n (front len u)) z k)))
+    -- the loop ends at the first place, or behind a monomial that stands before m
+    pub inserting-first : i ≡ 0 → listed (len + 1) (paste now (width * i) m width) ≡ insertBy same before m (listed len u)
+    inserting-first z = placed (λ y k. absurd (List·Memᴰ·not-nil (subst (λ (n : ℕ). y ∈ take n (listed len u)) z k)))
 
-    pub inserting-behind : 0 < i → before (entry now (i - 1)) m ≡ true → front (len + 1) (set now i x) ≡ insertBy same before m (front len u)
-    inserting-behind h t =
-        let s : List Mono = front len u in
+    pub inserting-behind : (x : Mono) → 0 < i → x ≡ take width (drop (width * (i - 1)) now) → before x m ≡ true
+        → listed (len + 1) (paste now (width * i) m width) ≡ insertBy same before m (listed len u)
+    inserting-behind x h e t =
+        let s : List Mono = listed len u in
         let q : i ≡ suc (i - 1) = omega arith in
-        let last : T (before (getD s (i - 1) []) m) = is→T (before (getD s (i - 1) []) m) (ap (λ (z : Mono). before z m) (at-first h) ∙ t) in
+        let ahead : T (before (getD s (i - 1) []) m) = is→T (before (getD s (i - 1) []) m) (ap (λ (z : Mono). before z m) (at-first h ∙ sym e) ∙ t) in
         let inside : i - 1 < length s = omega (arith, size, w .within) in
-        placed (λ y k. front-before mono-order m s (i - 1) [] a inside last y (subst (λ (n : ℕ). y ∈ take n s) q k))
+        placed (λ y k. front-before mono-order m s (i - 1) [] a inside ahead y (subst (λ (n : ℕ). y ∈ take n s) q k))
 
--- ---- the child that is tried: refused where the test fails, or made
-module _ (test : Bool) (c : List Mono) (t : Tried) where
-  refused : t .go ≡ false → (T test → ⊥) → Child test c t
-  refused e h =
-      let no : t .go ≡ true → ⊥ = λ d. is→nT (t .go) e (is→T (t .go) d) in
-      record { go = e ∙ sym (nT→is test h); is = λ d. absurd (no d); size = λ d. absurd (no d) }
+-- `now` holds the first len monomials of u with m in its place, where they ascend and lack it
+abbrev pub Inserted : Mono → ℕ → List ℕ → List ℕ → Type 0
+Inserted m len u now =
+    Ascending before (listed len u) → any (same m) (listed len u) ≡ false → listed (len + 1) now ≡ insertBy same before m (listed len u)
 
-  made : t .go ≡ true → T test → monomialsOf (t .set) ≡ c → t .set .len ≡ length c → Child test c t
-  made e h is size = record { go = e ∙ sym (T→is test h); is = λ d. is; size = λ d. size }
-
--- the same child by another test that says the same
-pub same-child : {x y : Bool} {c d : List Mono} {t : Tried} → y ≡ x → d ≡ c → Child x c t → Child y d t
-same-child {x} {y} {c} {d} {t} u e w = subst (λ (z : Bool). Child z d t) (sym u) (subst (λ (l : List Mono). Child x l t) (sym e) w)
-
--- the set as it comes
-pub made-own : (t : Tried) → t .go ≡ true → t .set .len ≤ length (t .set .m) → Child true (monomialsOf (t .set)) t
-made-own t e k = made true (monomialsOf (t .set)) t e tt refl (sym (front-length (t .set .len) (t .set .m) k))
-
--- r is `next` with m in its place, where `next` is ascending and lacks m
-abbrev pub Inserted : Mono → Set → Set → Type 0
-Inserted m next r =
-    (Ascending before (monomialsOf next) → any (same m) (monomialsOf next) ≡ false → monomialsOf r ≡ insertBy same before m (monomialsOf next))
-    × (r .len ≡ next .len + 1)
+inserted-in : (m : Mono) (len : ℕ) (u now : List ℕ) (s : List Mono) → listed len u ≡ s → Inserted m len u now → Ascending before s → any (same m) s ≡ false
+    → listed (len + 1) now ≡ insertBy same before m s
+inserted-in m len u now s e i a f =
+    i (subst (Ascending before) (sym e) a) (ap (any (same m)) e ∙ f) ∙ ap (insertBy same before m) e
 
 -- one more
 insert-more : (m : Mono) (s : List Mono) → any (same m) s ≡ false → length (insertBy same before m s) ≡ suc (length s)
 insert-more m s f = insert-length mono-order m s (λ k. is→nT (any (same m) s) f (among-in mono-order k))
 
--- with m, where it may be and there is room
-module _ (may : Mono → Bool) (level : ℕ) (set : Set) (room : set .len ≤ length (set .m)) (m : Mono) (t : Tried) where
+-- ---- the child that is tried, in the bytes that are left: refused where the test fails, or made
+module _ (test : Bool) (c : List Mono) (t : Tried) (bytes : List ℕ) where
+  refused : t .go ≡ false → (T test → ⊥) → Child test c t bytes
+  refused e h =
+      let no : t .go ≡ true → ⊥ = λ d. is→nT (t .go) e (is→T (t .go) d) in
+      record { go = e ∙ sym (nT→is test h); is = λ d. absurd (no d); size = λ d. absurd (no d) }
+
+  made : t .go ≡ true → T test → listed (t .len) bytes ≡ c → t .len ≡ length c → Child test c t bytes
+  made e h is size = record { go = e ∙ sym (T→is test h); is = λ d. is; size = λ d. size }
+
+-- the same child by another test that says the same
+pub same-child : {x y : Bool} {c d : List Mono} {t : Tried} {bytes : List ℕ} → y ≡ x → d ≡ c → Child x c t bytes → Child y d t bytes
+same-child {x} {y} {c} {d} {t} {bytes} u e w = subst (λ (z : Bool). Child z d t bytes) (sym u) (subst (λ (l : List Mono). Child x l t bytes) (sym e) w)
+
+-- ---- of a set whose monomials lie side by side
+module _ (set : List ℕ) where
   abbrev s : List Mono
-  s = monomialsOf set
+  s = tabled set
 
-  size-is : length s ≡ set .len
-  size-is = front-length (set .len) (set .m) room
+  abbrev many : ℕ
+  many = length set / width
 
-  abbrev one-test : Bool
-  one-test = may m && leb (length (insertBy same before m s)) level
+  size-is : length s ≡ many
+  size-is = tabled-length set
 
-  pub one-refused : t .go ≡ false → level ≤ set .len → any (same m) s ≡ false → Child one-test (insertBy same before m s) t
-  one-refused e h f =
-      refused one-test (insertBy same before m s) t e (λ k.
-      let l = leb→le (length (insertBy same before m s)) level (and-r (may m) (leb (length (insertBy same before m s)) level) k) in
-      omega (arith, insert-more m s f, size-is))
+  -- its copy in a buffer
+  module _ (whole : length set ≡ width * length (tabled set)) (out bytes : List ℕ) (copy : bytes ≡ paste out 0 set (length set)) where
+    pub copied : listed (length set / width) bytes ≡ tabled set
+    copied = ap (λ (b : List ℕ). listed many b) copy ∙ listed-copied many out set (omega (arith, whole, size-is))
 
-  pub one-barred : t .go ≡ false → may m ≡ false → Child one-test (insertBy same before m s) t
-  one-barred e h = refused one-test (insertBy same before m s) t e (λ k. is→nT (may m) h (and-l (may m) (leb (length (insertBy same before m s)) level) k))
+    -- the set as it comes
+    pub made-own : (t : Tried) → t .go ≡ true → t .len ≡ length set / width → Child true (tabled set) t bytes
+    made-own t e l = made true s t bytes e tt (ap (λ (k : ℕ). listed k bytes) l ∙ copied) (l ∙ sym size-is)
 
-  pub one-made : t .go ≡ true → set .len < level → may m ≡ true → Inserted m set (t .set) → Ascending before s → any (same m) s ≡ false
-      → Child one-test (insertBy same before m s) t
-  one-made e h q i a f =
-      let l : length (insertBy same before m s) ≤ level = omega (arith, insert-more m s f, size-is) in
-      made one-test (insertBy same before m s) t e
-      (and-i (may m) (leb (length (insertBy same before m s)) level) (is→T (may m) q) (le→leb (length (insertBy same before m s)) level l))
-      (i .0 a f) (omega (arith, i .1, insert-more m s f, size-is))
+  -- with m, where it may be and there is room
+  module _ (may : Mono → Bool) (level : ℕ) (m : Mono) (t : Tried) (bytes : List ℕ) where
+    abbrev with-one : List Mono
+    with-one = insertBy same before m s
 
-  -- and with x
-  module _ (x : Mono) (f : any (same m) s ≡ false) (g : any (same x) (insertBy same before m s) ≡ false) where
-    abbrev both : List Mono
-    both = insertBy same before x (insertBy same before m s)
+    abbrev one-test : Bool
+    one-test = may m && leb (length with-one) level
 
-    abbrev two-test : Bool
-    two-test = may x && may m && leb (length both) level
+    pub one-refused : t .go ≡ false → level ≤ length set / width → any (same m) s ≡ false → Child one-test with-one t bytes
+    one-refused e h f =
+        refused one-test with-one t bytes e (λ k.
+        let l = leb→le (length with-one) level (and-r (may m) (leb (length with-one) level) k) in
+        omega (arith, insert-more m s f, size-is))
 
-    both-more : length both ≡ suc (suc (set .len))
-    both-more = insert-more x (insertBy same before m s) g ∙ ap suc (insert-more m s f ∙ ap suc size-is)
+    pub one-barred : t .go ≡ false → may m ≡ false → Child one-test with-one t bytes
+    one-barred e h = refused one-test with-one t bytes e (λ k. is→nT (may m) h (and-l (may m) (leb (length with-one) level) k))
 
-    pub two-refused : t .go ≡ false → level ≤ set .len + 1 → Child two-test both t
-    two-refused e h =
-        refused two-test both t e (λ k. let l = leb→le (length both) level (and-r (may x && may m) (leb (length both) level) k) in omega (arith, both-more))
+    pub one-made : t .go ≡ true → t .len ≡ length set / width + 1 → length set / width < level → may m ≡ true
+        → (first : List ℕ) → listed (length set / width) first ≡ s → Inserted m (length set / width) first bytes → Ascending before s → any (same m) s ≡ false
+        → Child one-test with-one t bytes
+    one-made e n h q first held i a f =
+        let l : length with-one ≤ level = omega (arith, insert-more m s f, size-is) in
+        let is : listed (many + 1) bytes ≡ with-one = inserted-in m many first bytes s held i a f in
+        made one-test with-one t bytes e
+        (and-i (may m) (leb (length with-one) level) (is→T (may m) q) (le→leb (length with-one) level l))
+        (ap (λ (k : ℕ). listed k bytes) n ∙ is) (omega (arith, n, insert-more m s f, size-is))
 
-    pub first-barred : t .go ≡ false → may x ≡ false → Child two-test both t
-    first-barred e h = refused two-test both t e (λ k. is→nT (may x) h (search (and-l, and-r, k)))
+    -- and with x
+    module _ (x : Mono) (f : any (same m) s ≡ false) (g : any (same x) (insertBy same before m s) ≡ false) where
+      abbrev both : List Mono
+      both = insertBy same before x with-one
 
-    pub second-barred : t .go ≡ false → may m ≡ false → Child two-test both t
-    second-barred e h = refused two-test both t e (λ k. is→nT (may m) h (search (and-l, and-r, k)))
+      abbrev two-test : Bool
+      two-test = may x && may m && leb (length both) level
 
-    pub two-made : t .go ≡ true → set .len + 1 < level → may x ≡ true → may m ≡ true → (next : Set) → Inserted m set next → Inserted x next (t .set) → Ascending before s
-        → Child two-test both t
-    two-made e h p q next i j a =
-        let half : monomialsOf next ≡ insertBy same before m s = i .0 a f in
-        let up : Ascending before (monomialsOf next) = rw half (insert-asc mono-order m s a) in
-        let lacks : any (same x) (monomialsOf next) ≡ false = rw half g in
-        let whole = j .0 up lacks ∙ ap (insertBy same before x) half in
-        let l : length both ≤ level = omega (arith, both-more) in
-        made two-test both t e (rw (p, q) (le→leb (length both) level l)) whole (omega (arith, i .1, j .1, both-more))
+      both-more : length both ≡ suc (suc many)
+      both-more = insert-more x with-one g ∙ ap suc (insert-more m s f ∙ ap suc size-is)
+
+      pub two-refused : t .go ≡ false → level ≤ length set / width + 1 → Child two-test both t bytes
+      two-refused e h =
+          refused two-test both t bytes e (λ k.
+          let l = leb→le (length both) level (and-r (may x && may m) (leb (length both) level) k) in
+          omega (arith, both-more))
+
+      pub first-barred : t .go ≡ false → may x ≡ false → Child two-test both t bytes
+      first-barred e h = refused two-test both t bytes e (λ k. is→nT (may x) h (search (and-l, and-r, k)))
+
+      pub second-barred : t .go ≡ false → may m ≡ false → Child two-test both t bytes
+      second-barred e h = refused two-test both t bytes e (λ k. is→nT (may m) h (search (and-l, and-r, k)))
+
+      pub two-made : t .go ≡ true → t .len ≡ length set / width + 2 → length set / width + 1 < level → may x ≡ true → may m ≡ true
+          → (first next : List ℕ) → listed (length set / width) first ≡ s → Inserted m (length set / width) first next → Inserted x (length set / width + 1) next bytes
+          → Ascending before s → Child two-test both t bytes
+      two-made e n h p q first next held i j a =
+          let half : listed (many + 1) next ≡ with-one = inserted-in m many first next s held i a f in
+          let is : listed (many + 1 + 1) bytes ≡ both = inserted-in x (many + 1) next bytes with-one half j (insert-asc mono-order m s a) g in
+          let last : t .len ≡ many + 1 + 1 = n ∙ omega arith in
+          let l : length both ≤ level = omega (arith, both-more) in
+          made two-test both t bytes e (rw (p, q) (le→leb (length both) level l)) (ap (λ (k : ℕ). listed k bytes) last ∙ is) (omega (arith, n, both-more))
 
 -- ---- one monomial of a pair
 module _ (v : List Mono) (m : Mono) where
@@ -275,7 +304,10 @@ module _ (v : List Mono) (m : Mono) where
           added-fresh (added v m s) e ∙ insert-same mono-order m (added v m s) (added-asc v m s a) inside
 
 -- ---- the child by a pair, in V of n variables and the set
-module _ (n : ℕ) (v s : List Mono) (signs : v ≡ signals width n s) (left right : Mono) where
+module _ (n : ℕ) (s : List Mono) (left right : Mono) where
+  abbrev v : List Mono
+  v = signals width n s
+
   abbrev whole : List Mono
   whole = child n s (left, right)
 
@@ -284,7 +316,7 @@ module _ (n : ℕ) (v s : List Mono) (signs : v ≡ signals width n s) (left rig
 
   child-is : whole ≡ added v left (added v right s)
   unfolding child
-  child-is = ap (λ (l : List Mono). added l left (added l right s)) (sym signs)
+  child-is = refl
 
   -- the first is the second once more, or V has it: it adds nothing
   child-met : Ascending before s → met ≡ true → whole ≡ added v right s
@@ -313,7 +345,7 @@ module _ (n : ℕ) (v s : List Mono) (signs : v ≡ signals width n s) (left rig
   pub set-lacks : (m : Mono) → any (same m) v ≡ false → any (same m) s ≡ false
   set-lacks m f =
       nT→is (any (same m) s) (λ t. is→nT (any (same m) v) f
-      (among-in mono-order (subst (λ (l : List Mono). m ∈ l) (sym signs) (set-in n s (among-out mono-order m s t)))))
+      (among-in mono-order (set-in n s (among-out mono-order m s t))))
 
   pub first-lacks : met ≡ false → any (same left) s ≡ false
   first-lacks e = set-lacks left (unmet-fresh e)
@@ -341,7 +373,7 @@ module _ (n : ℕ) (v s : List Mono) (signs : v ≡ signals width n s) (left rig
 
     opens-as : (x y : Bool) (c : List Mono) → fine left ≡ x → fine right ≡ y → whole ≡ c → opens r n k s (left, right) ≡ x && y && leb (length c) k
     unfolding opens
-    opens-as x y c p q e = rw (sym p, sym q, sym e, signs)
+    opens-as x y c p q e = rw (sym p, sym q, sym e)
 
     -- the first is fine where the second is
     met-fine : met ≡ true → T (fine right) → T (fine left)

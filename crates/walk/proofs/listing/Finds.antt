@@ -42,7 +42,7 @@ module _ {finds : Finds} {count : ℕ} {out : List ℕ} (s : Shown finds count o
   even : (f : List Mono) → f ∈ finds → length (setRecord f) ≡ setBytes
   even f m = recorded-length f (s .recorded f m)
 
-  -- ---- the record at place i, against the bytes of a set's own record
+  -- ---- the record at place i, against a set's own record
   shown-at : (i : ℕ) → i < count → cut out i ≡ setRecord (getD finds i [])
   unfolding setsBytes
   shown-at i h =
@@ -50,15 +50,15 @@ module _ {finds : Finds} {count : ℕ} {out : List ℕ} (s : Shown finds count o
       ap₂ (λ (n : ℕ) (l : List ℕ). take n (drop (setBytes * i) l)) e (s .bytes)
       ∙ strip-at setRecord setBytes finds even (replicate (length out - setBytes * count) 0) i [] (omega (arith, s .counted))
 
-  module _ (x : List Mono) (r : Recorded x) (b : List ℕ) (own : b ≡ setRecord x) (i : ℕ) (h : i < count) where
+  module _ (x : List Mono) (r : Recorded x) (i : ℕ) (h : i < count) where
     found : Recorded (getD finds i [])
     found = s .recorded (getD finds i []) (at-in finds i [] (omega (arith, s .counted)))
 
-    pub shown-same : same (cut out i) b ≡ sameSet x (getD finds i [])
-    shown-same = ap₂ same (shown-at i h) own ∙ record-same x (getD finds i []) r found
+    pub shown-same : same (cut out i) (setRecord x) ≡ sameSet x (getD finds i [])
+    shown-same = ap (λ (b : List ℕ). same b (setRecord x)) (shown-at i h) ∙ record-same x (getD finds i []) r found
 
-    pub shown-before : before (cut out i) b ≡ beforeSet (getD finds i []) x
-    shown-before = ap₂ before (shown-at i h) own ∙ record-before (getD finds i []) x found r
+    pub shown-before : before (cut out i) (setRecord x) ≡ beforeSet (getD finds i []) x
+    shown-before = ap (λ (b : List ℕ). before b (setRecord x)) (shown-at i h) ∙ record-before (getD finds i []) x found r
 
   -- ---- one find more, in its place
   module _ (x : List Mono) (r : Recorded x) (new : any (sameSet x) finds ≡ false) (free : setBytes * count + setBytes ≤ length out) where
@@ -74,11 +74,11 @@ module _ {finds : Finds} {count : ℕ} {out : List ℕ} (s : Shown finds count o
     parts rest e =
         s .bytes ∙ ap (λ (n : ℕ). gather setRecord finds ++ replicate n 0) e ∙ ap (λ (z : List ℕ). gather setRecord finds ++ z) (sym (replicate-append-replicate setBytes rest 0))
 
-    pub shown-more : (p : ℕ) (b moved out' : List ℕ) → p ≤ count → p ≡ place (λ f. not (beforeSet f x)) finds → b ≡ setRecord x
-        → moved ≡ paste out (setBytes * p + setBytes) (drop (setBytes * p) out) (setBytes * count - setBytes * p) → out' ≡ paste moved (setBytes * p) b setBytes → length out' ≡ length out
+    pub shown-more : (p : ℕ) (moved out' : List ℕ) → p ≤ count → p ≡ place (λ f. not (beforeSet f x)) finds
+        → moved ≡ paste out (setBytes * p + setBytes) (drop (setBytes * p) out) (setBytes * count - setBytes * p) → out' ≡ paste moved (setBytes * p) (setRecord x) setBytes → length out' ≡ length out
         → Shown listed (count + 1) out'
     unfolding setsBytes
-    shown-more p b moved out' within is own up written long = record {
+    shown-more p moved out' within is up written long = record {
       counted = sym longer;
       room = omega arith;
       bytes = bytes;
@@ -101,7 +101,7 @@ module _ {finds : Finds} {count : ℕ} {out : List ℕ} (s : Shown finds count o
 
         bytes : out' ≡ setsBytes listed ++ replicate (length out' - setBytes * (count + 1)) 0
         bytes =
-            written ∙ ap₂ (λ (l r : List ℕ). paste l (setBytes * p) r setBytes) up own
+            written ∙ ap (λ (l : List ℕ). paste l (setBytes * p) (setRecord x) setBytes) up
             ∙ ap (λ (l : List ℕ). put l count) (parts rest (omega arith)) ∙ ap (λ (n : ℕ). put buffer n) (s .counted)
             ∙ gather-more setRecord setBytes finds even x (replicate setBytes 0) (replicate rest 0) p (omega (arith, s .counted)) refl (recorded-length x r)
             ∙ ap (λ (l : Finds). gather setRecord l ++ replicate rest 0) (sym placed)

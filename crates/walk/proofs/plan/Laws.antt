@@ -114,6 +114,13 @@ module _ (r : Rules) (n : ℕ) (fs : List (Poly Mono)) (limit cap size : ℕ) wh
   Opening k steps out turn out' = (d : ℕ) (finds : Finds) → k - length (r .start) < d → Shown finds 0 out
       → Tells turn out' (run limit (length out / setBytes) (opened r n fs k d (r .start)) steps finds)
 
+  -- from bytes in which the start lies
+  pub opening-at : (k steps : ℕ) (out : List ℕ) (turn : Turn) (out' : List ℕ) (s : List Mono) → s ≡ r .start
+      → ((d : ℕ) (finds : Finds) → k - length s < d → Shown finds 0 out → Tells turn out' (run limit (length out / setBytes) (opened r n fs k d s) steps finds))
+      → Opening k steps out turn out'
+  opening-at k steps out turn out' s e f =
+      subst (λ (x : List Mono). (d : ℕ) (finds : Finds) → k - length x < d → Shown finds 0 out → Tells turn out' (run limit (length out / setBytes) (opened r n fs k d x) steps finds)) e f
+
   turned : (left k taken : ℕ) (x : Run) → run limit (size / setBytes) (level r n fs k) taken [] ≡ x
       → from (suc left) k taken ≡ settled limit k (from left (suc k)) x
   unfolding levels

@@ -23,13 +23,11 @@ use Rattle.wiring.specs.Panel.{setBytes, setExponent}
 use Rattle.wiring.specs.Poly.{Poly, plain}
 use Rattle.wiring.specs.Derivative.{derivative}
 use Rattle.wiring.specs.Quadratic.{nonsquares}
-use Rattle.wiring.specs.Signals.{signals, Fitting}
+use Rattle.wiring.specs.Signals.{signals, tabled, signalsAt, Fitting}
 use Rattle.wiring.specs.Choice.{chosen}
 use Rattle.wiring.specs.Terms.{records, system}
-use Rattle.wiring.specs.Sets.{monomialsOf}
-use Rattle.wiring.specs.declared.sets.Set.{Set}
 use Rattle.wiring.proofs.choice.Laws.{chosen-best}
-use Rattle.wiring.proofs.signals.Laws.{signals-fitting, fitting-weaken}
+use Rattle.wiring.proofs.signals.Laws.{signals-fitting}
 use Rattle.walk.specs.declared.walk.Opened.{Opened}
 use Rattle.walk.specs.declared.walk.State.{State}
 use Rattle.walk.specs.declared.walk.Turn.{Turn}
@@ -194,7 +192,7 @@ choice-member ns m first others e i =
     subst (λ (l : List Mono). m ∈ l) (sym e) (subst (λ (x : Mono). x ∈ (first ∷ others)) (sym i) (chosen-best first others .0))
 
 -- ---- what follows the step of an opening, by the word of the code
-module _ (r : Rules) (n : ℕ) (terms : List ℕ) (level limit : ℕ) (set : Set) (st : State) (out₀ : List ℕ) (o : Opened) (out : List ℕ) where
+module _ (r : Rules) (n : ℕ) (terms : List ℕ) (level limit : ℕ) (set : List ℕ) (st : State) (out₀ : List ℕ) (o : Opened) (out : List ℕ) where
   pub nothing-follows : o .split ≡ false → Stepped r n terms level limit set st out₀ o out → NothingFollows r n terms level limit set st out₀ (o .turn) out
   nothing-follows e j = subst (λ (b : Bool). SteppedBy r n terms level limit set st out₀ b o out) e j
 
@@ -202,57 +200,57 @@ module _ (r : Rules) (n : ℕ) (terms : List ℕ) (level limit : ℕ) (set : Set
   pairs-follow e j = subst (λ (b : Bool). SteppedBy r n terms level limit set st out₀ b o out) e j
 
 -- ---- the loop of the pair runner: the run of what is left is that of the whole, for every depth and every list of finds that the buffer showed
-module _ (r : Rules) (n : ℕ) (terms : List ℕ) (level limit : ℕ) (set : Set) (m : Mono) (st₀ : State) (out₀ : List ℕ) where
+module _ (r : Rules) (n : ℕ) (terms : List ℕ) (level limit : ℕ) (set : List ℕ) (m : Mono) (st₀ : State) (out₀ : List ℕ) where
   abbrev fs : List (Poly Mono)
   fs = system (records terms)
 
   abbrev standing : ℕ → Finds → Mono → State → List ℕ → Type 0
   standing d finds a cur out =
-      Stands r n fs level limit (length out₀ / setBytes) (monomialsOf set) m d
-      (whole r n fs level limit (length out₀ / setBytes) (monomialsOf set) m d (st₀ .steps) finds) a (cur .steps) (cur .count) out
+      Stands r n fs level limit (length out₀ / setBytes) (tabled set) m d
+      (whole r n fs level limit (length out₀ / setBytes) (tabled set) m d (st₀ .steps) finds) a (cur .steps) (cur .count) out
 
   pub record Running (a : Mono) (cur : State) (out : List ℕ) : Type 0 where
     pub divisor : T (divides a m)
     pub long : length out ≡ length out₀
-    pub stands : (d : ℕ) (finds : Finds) → level - set .len ≤ d → Shown finds (st₀ .count) out₀ → standing d finds a cur out
+    pub stands : (d : ℕ) (finds : Finds) → level - length (tabled set) ≤ d → Shown finds (st₀ .count) out₀ → standing d finds a cur out
 
   pub running-start : Running (one (length m)) st₀ out₀
   running-start = record {
     divisor = one-divides m;
     long = refl;
-    stands = λ d finds h sh. stands-start r n fs level limit (length out₀ / setBytes) (monomialsOf set) m d (st₀ .steps) (st₀ .count) finds out₀ sh;
+    stands = λ d finds h sh. stands-start r n fs level limit (length out₀ / setBytes) (tabled set) m d (st₀ .steps) (st₀ .count) finds out₀ sh;
   }
 
   -- the buffer still shows some finds
   pub running-showing : (a : Mono) (cur : State) (out : List ℕ) → Running a cur out → Showing (st₀ .count) out₀ → Showing (cur .count) out
   running-showing a cur out u s =
-      let x = u .stands (level - set .len) (s .finds) (omega arith) (s .shown) in
+      let x = u .stands (level - length (tabled set)) (s .finds) (omega arith) (s .shown) in
       record { finds = x .finds; shown = x .shown }
 
   module _ {a : Mono} {cur : State} {out : List ℕ} (u : Running a cur out) where
-    pub running-end : (T (leads m a) → ⊥) → (d : ℕ) (finds : Finds) → level - set .len ≤ d → Shown finds (st₀ .count) out₀
-        → Tells (Going cur) out (whole r n fs level limit (length out₀ / setBytes) (monomialsOf set) m d (st₀ .steps) finds)
+    pub running-end : (T (leads m a) → ⊥) → (d : ℕ) (finds : Finds) → level - length (tabled set) ≤ d → Shown finds (st₀ .count) out₀
+        → Tells (Going cur) out (whole r n fs level limit (length out₀ / setBytes) (tabled set) m d (st₀ .steps) finds)
     running-end l d finds h sh =
         let x = u .stands d finds h sh in
-        record { finds = x .finds; shown = x .shown; is = stands-end r n fs level limit (length out₀ / setBytes) (monomialsOf set) m x (u .divisor) l }
+        record { finds = x .finds; shown = x .shown; is = stands-end r n fs level limit (length out₀ / setBytes) (tabled set) m x (u .divisor) l }
 
     module _ (p : m ≡ one (length m) → ⊥) (l : T (leads m a)) where
-      pub running-spent : limit ≤ cur .steps → (d : ℕ) (finds : Finds) → level - set .len ≤ d → Shown finds (st₀ .count) out₀
-          → whole r n fs level limit (length out₀ / setBytes) (monomialsOf set) m d (st₀ .steps) finds ≡ spent
-      running-spent k d finds h sh = stands-spent r n fs level limit (length out₀ / setBytes) (monomialsOf set) m (u .stands d finds h sh) (u .divisor) p l k
+      pub running-spent : limit ≤ cur .steps → (d : ℕ) (finds : Finds) → level - length (tabled set) ≤ d → Shown finds (st₀ .count) out₀
+          → whole r n fs level limit (length out₀ / setBytes) (tabled set) m d (st₀ .steps) finds ≡ spent
+      running-spent k d finds h sh = stands-spent r n fs level limit (length out₀ / setBytes) (tabled set) m (u .stands d finds h sh) (u .divisor) p l k
 
       pub running-shut : (cur' : State) → cur' .steps ≡ cur .steps + 1 → cur' .count ≡ cur .count → cur .steps < limit
-          → opens r n level (monomialsOf set) (a, quo m a) ≡ false → Running (next m a) cur' out
+          → opens r n level (tabled set) (a, quo m a) ≡ false → Running (next m a) cur' out
       running-shut cur' e c k b = record {
         divisor = next-divides a m (u .divisor);
         long = u .long;
-        stands = λ d finds h sh. rw (e, c) (stands-shut r n fs level limit (length out₀ / setBytes) (monomialsOf set) m (u .stands d finds h sh) (u .divisor) p l k b);
+        stands = λ d finds h sh. rw (e, c) (stands-shut r n fs level limit (length out₀ / setBytes) (tabled set) m (u .stands d finds h sh) (u .divisor) p l k b);
       }
 
       -- the child was opened, and its turn was told for every depth and finds
-      module _ (size : ℕ) (few : set .len < size) (low : set .len < level) (k : cur .steps < limit) (b : opens r n level (monomialsOf set) (a, quo m a) ≡ true) where
+      module _ (size : ℕ) (few : length (tabled set) < size) (low : length (tabled set) < level) (k : cur .steps < limit) (b : opens r n level (tabled set) (a, quo m a) ≡ true) where
         abbrev opened-child : ℕ → Finds → Run
-        opened-child d finds = run limit (length out₀ / setBytes) (opened r n fs level d (child n (monomialsOf set) (a, quo m a))) (cur .steps + 1) finds
+        opened-child d finds = run limit (length out₀ / setBytes) (opened r n fs level d (child n (tabled set) (a, quo m a))) (cur .steps + 1) finds
 
         abbrev pub Told : Turn → List ℕ → Type 0
         Told turn out' = (d : ℕ) (finds : Finds) → level - size < d → Shown finds (cur .count) out → Tells turn out' (opened-child d finds)
@@ -263,25 +261,25 @@ module _ (r : Rules) (n : ℕ) (terms : List ℕ) (level limit : ℕ) (set : Set
           long = e ∙ u .long;
           stands = λ d finds h sh.
               let x = u .stands d finds h sh in
-              stands-going r n fs level limit (length out₀ / setBytes) (monomialsOf set) m x (u .divisor) p l k b cur' out' (f d (x .finds) (omega arith) (x .shown));
+              stands-going r n fs level limit (length out₀ / setBytes) (tabled set) m x (u .divisor) p l k b cur' out' (f d (x .finds) (omega arith) (x .shown));
         }
 
-        pub running-child-spent : (out' : List ℕ) → Told Spent out' → (d : ℕ) (finds : Finds) → level - set .len ≤ d → Shown finds (st₀ .count) out₀
-            → whole r n fs level limit (length out₀ / setBytes) (monomialsOf set) m d (st₀ .steps) finds ≡ spent
+        pub running-child-spent : (out' : List ℕ) → Told Spent out' → (d : ℕ) (finds : Finds) → level - length (tabled set) ≤ d → Shown finds (st₀ .count) out₀
+            → whole r n fs level limit (length out₀ / setBytes) (tabled set) m d (st₀ .steps) finds ≡ spent
         running-child-spent out' f d finds h sh =
             let x = u .stands d finds h sh in
-            stands-child-spent r n fs level limit (length out₀ / setBytes) (monomialsOf set) m x (u .divisor) p l k b (f d (x .finds) (omega arith) (x .shown))
+            stands-child-spent r n fs level limit (length out₀ / setBytes) (tabled set) m x (u .divisor) p l k b (f d (x .finds) (omega arith) (x .shown))
 
-        pub running-child-full : (t : ℕ) (out' : List ℕ) → Told (Full t) out' → (d : ℕ) (finds : Finds) → level - set .len ≤ d → Shown finds (st₀ .count) out₀
-            → whole r n fs level limit (length out₀ / setBytes) (monomialsOf set) m d (st₀ .steps) finds ≡ full t
+        pub running-child-full : (t : ℕ) (out' : List ℕ) → Told (Full t) out' → (d : ℕ) (finds : Finds) → level - length (tabled set) ≤ d → Shown finds (st₀ .count) out₀
+            → whole r n fs level limit (length out₀ / setBytes) (tabled set) m d (st₀ .steps) finds ≡ full t
         running-child-full t out' f d finds h sh =
             let x = u .stands d finds h sh in
-            stands-child-full r n fs level limit (length out₀ / setBytes) (monomialsOf set) m x (u .divisor) p l k b t (f d (x .finds) (omega arith) (x .shown))
+            stands-child-full r n fs level limit (length out₀ / setBytes) (tabled set) m x (u .divisor) p l k b t (f d (x .finds) (omega arith) (x .shown))
 
--- ---- a set of the walk fits the tables of its signals
+-- ---- the exponents of a set of the walk are those that a set may have
 pub walked-fitting : (s : List Mono) → Walked s → Fitting setExponent s
 walked-fitting s w m h = (w .recorded .wide m h, walked-fits s w m h)
 
--- of V, told by its maker
-pub signals-fit : (b n : ℕ) (v s : List Mono) → setExponent ≤ b → v ≡ signals width n s → Walked s → Fitting b v
-signals-fit b n v s h e w = subst (Fitting b) (sym e) (fitting-weaken setExponent b (signals width n s) h (signals-fitting setExponent n s (omega arith) (walked-fitting s w)))
+-- and so does V
+pub signals-fit : (n : ℕ) (set : List ℕ) → Walked (tabled set) → Fitting setExponent (signalsAt n set)
+signals-fit n set w = signals-fitting setExponent n (tabled set) (omega arith) (walked-fitting (tabled set) w)

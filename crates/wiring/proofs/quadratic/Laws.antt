@@ -1,17 +1,15 @@
 -- V2 and nonsquares over any kind of monomials. Assumes nothing.
-use mathlib.Core.Path.{_≡_, sym, ap, _∙_, subst}
-use mathlib.Core.Logic.{⊎-elim}
+use mathlib.Core.Path.{_≡_, subst}
 use mathlib.Core.Bool.{Bool, not}
-use mathlib.Core.List.{List, [], _∷_, map, List·Memᴰ·cases-cons, List·Memᴰ·not-nil, List·Memᴰ·append-cases, Memᴰ·append-left, Memᴰ·append-right, Memᴰ·cast, Memᴰ·map, Memᴰ·of-map}
+use mathlib.Core.List.{List}
 use lib.Dec.{T, T-not, not-T}
 use Rattle.monomial.specs.Lists.{any, some, gather}
 use Rattle.monomial.specs.Claims.{_∈_, Ascending, Order}
 use Rattle.monomial.proofs.Tests.{same-test}
-use Rattle.monomial.proofs.Members.{here, there, any-in, any-out, Passing, some-in, some-out, keep-in, keep-out, gather-in, gather-out, Gathered}
-use Rattle.monomial.proofs.order.Ascending.{arrange-asc, arrange-in, arrange-out, among-in, among-out}
+use Rattle.monomial.proofs.Members.{any-in, any-out, Passing, some-in, some-out, keep-in, keep-out, gather-in, gather-out, Gathered}
+use Rattle.monomial.proofs.order.Ascending.{arrange-asc, arrange-in, arrange-out}
 use Rattle.wiring.specs.Poly.{Kind, Poly, support}
-use Rattle.wiring.specs.Quadratic.{products, factor, inV2, unmet, nonsquares}
-use Rattle.wiring.specs.Kinds.{Lawful}
+use Rattle.wiring.specs.Quadratic.{factor, inV2, unmet, nonsquares}
 
 module _ {M : Type 0} (k : Kind M) (o : Order (k .same) (k .before)) (v : List M) where
   -- ---- V2
@@ -82,43 +80,3 @@ module _ {M : Type 0} (k : Kind M) (o : Order (k .same) (k .before)) (v : List M
           let p : Passing has v = any-out has v t in
           let x : (m : M) × (m ∈ unmet k v (d (p .entry))) = some-out (unmet k v (d (p .entry))) (p .passes) in
           some-in (nonsquares-in d (p .entry) (x .0) (p .member) (x .1))
-
--- ---- the table
-module _ {M : Type 0} (k : Kind M) (l : Lawful k) where
-  -- a product of two members is listed under the one that comes first, since products commute
-  products-in : (v : List M) (a b : M) → a ∈ v → b ∈ v → k .mul a b ∈ products k v
-  unfolding products
-  products-in [] a b h n = absurd (List·Memᴰ·not-nil h)
-  products-in (x ∷ v) a b h n =
-      ⊎-elim
-      (λ e. Memᴰ·append-left (products k v) (subst (λ (y : M). k .mul y b ∈ map (k .mul x) (x ∷ v)) (sym e) (Memᴰ·map (k .mul x) n)))
-      (λ i. ⊎-elim (λ e. Memᴰ·append-left (products k v) (second e)) (λ j. Memᴰ·append-right (map (k .mul x) (x ∷ v)) (products-in v a b i j)) (List·Memᴰ·cases-cons n))
-      (List·Memᴰ·cases-cons h)
-    where
-      second : b ≡ x → k .mul a b ∈ map (k .mul x) (x ∷ v)
-      second e = Memᴰ·cast (l .mul-comm a b ∙ ap (λ (y : M). k .mul y a) e) (Memᴰ·map (k .mul x) h)
-
-  products-out : (v : List M) (m : M) → m ∈ products k v → Factors k (l .order) v m
-  unfolding products
-  products-out [] m h = absurd (List·Memᴰ·not-nil h)
-  products-out (x ∷ v) m h = ⊎-elim own (λ i. later (products-out v m i)) (List·Memᴰ·append-cases (map (k .mul x) (x ∷ v)) h)
-    where
-      own : m ∈ map (k .mul x) (x ∷ v) → Factors k (l .order) (x ∷ v) m
-      own i =
-          let p : (y : M) × (y ∈ (x ∷ v)) × (k .mul x y ≡ m) = Memᴰ·of-map (k .mul x) (x ∷ v) i in
-          record { a = x; b = p .0; a-in = here; b-in = p .1; is = p .2 }
-
-      later : Factors k (l .order) v m → Factors k (l .order) (x ∷ v) m
-      later f = record { a = f .a; b = f .b; a-in = there (f .a-in); b-in = there (f .b-in); is = f .is }
-
-  -- it holds V2
-  pub products-is : (v : List M) (m : M) → any (k .same m) (products k v) ≡ inV2 k v m
-  products-is v m = same-test (any (k .same m) (products k v)) (inV2 k v m) into out
-    where
-      into : T (any (k .same m) (products k v)) → T (inV2 k v m)
-      into t = inV2-in k (l .order) v m (products-out v m (among-out (l .order) m (products k v) t))
-
-      out : T (inV2 k v m) → T (any (k .same m) (products k v))
-      out t =
-          let f : Factors k (l .order) v m = inV2-out k (l .order) v m t in
-          among-in (l .order) (subst (λ (x : M). x ∈ products k v) (f .is) (products-in v (f .a) (f .b) (f .a-in) (f .b-in)))

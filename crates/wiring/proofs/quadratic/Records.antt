@@ -14,7 +14,7 @@ use Rattle.monomial.specs.Monomial.{Mono}
 use Rattle.monomial.specs.Order.{same, before}
 use Rattle.monomial.specs.Claims.{_∈_, _⊆_, Ascending}
 use Rattle.monomial.proofs.Tests.{and-l, and-r, and-i, T→is, nT→is, is→T, is→nT, Tested, passed, failed, test}
-use Rattle.monomial.proofs.Members.{any-in, any-out, Passing, some-in, some-out, keep-in, keep-out, keep-same}
+use Rattle.monomial.proofs.Members.{any-in, any-out, Passing, some-in, some-out, keep-in, keep-out}
 use Rattle.monomial.proofs.Loops.{OfMembers, Collecting, collecting-next, collecting-end}
 use Rattle.monomial.proofs.order.Laws.{mono-order}
 use Rattle.wiring.specs.Panel.{termBytes}
@@ -28,10 +28,8 @@ use Rattle.wiring.specs.Wires.{unmetBeyond}
 use Rattle.wiring.proofs.Poly.{support-in, support-out, zero-is}
 use Rattle.wiring.proofs.derivative.Records.{Derived, derived}
 use Rattle.wiring.proofs.choice.Laws.{heads}
-use Rattle.wiring.specs.Quadratic.{products, inV2, unmet}
+use Rattle.wiring.specs.Quadratic.{inV2, unmet}
 use Rattle.wiring.proofs.terms.Laws.{records-at}
-use Rattle.wiring.proofs.kinds.Plain.{plain-lawful}
-use Rattle.wiring.proofs.quadratic.Laws.{products-is}
 
 -- ---- a record's turn, by the tests of the code: the power x, the monomial m, the test's word, whether the total is zero
 -- nothing is offered
@@ -205,16 +203,13 @@ module _ (g : Record → Bool) (z : Mono) where
 pub at-record : {A : Type 0} (f : Record → A) (bytes : List ℕ) (t : ℕ) → t < length bytes / termBytes → f (getD (records bytes) t (recordAt bytes t)) ≡ f (recordAt bytes t)
 at-record f bytes t h = ap f (records-at bytes t (recordAt bytes t) h)
 
--- ---- with the table of V2 for its test, a loop over the records meets the nonsquares
+-- ---- with "not in V2" for its test, a loop over the records meets the nonsquares
 abbrev pub outside : List Mono → Mono → Bool
-outside l m = not (any (same m) l)
+outside v m = not (inV2 plain v m)
 
-pub passing-unmet : (l v : List Mono) (rs : List Record) (z : Mono) → l ≡ products plain v → passing (outside l) rs z ≡ unmet plain v (derivative plain (system rs) z)
+pub passing-unmet : (v : List Mono) (rs : List Record) (z : Mono) → passing (outside v) rs z ≡ unmet plain v (derivative plain (system rs) z)
 unfolding unmet
-passing-unmet l v rs z e =
-    keep-same (outside l) (λ m. not (inV2 plain v m)) (support plain (derivative plain (system rs) z))
-    (λ m h. ap (λ (t : List Mono). not (any (same m) t)) e ∙ ap not (products-is plain plain-lawful v m))
+passing-unmet v rs z = refl
 
-pub found-unmet : (l v : List Mono) (rs : List Record) (z : Mono) → l ≡ products plain v
-    → any (offers (outside l) (system rs) z) rs ≡ some (unmet plain v (derivative plain (system rs) z))
-found-unmet l v rs z e = offers-some (outside l) rs z ∙ ap some (passing-unmet l v rs z e)
+pub found-unmet : (v : List Mono) (rs : List Record) (z : Mono) → any (offers (outside v) (system rs) z) rs ≡ some (unmet plain v (derivative plain (system rs) z))
+found-unmet v rs z = offers-some (outside v) rs z ∙ ap some (passing-unmet v rs z)

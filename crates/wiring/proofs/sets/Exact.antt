@@ -3,18 +3,18 @@
 use mathlib.Core.Path.{_≡_, refl, sym, ap, ap₂, subst, _∙_}
 use mathlib.Core.Logic.{_↔_}
 use mathlib.Core.Bool.{Bool, cond, not, _&&_}
-use mathlib.Core.List.{List, [], _∷_, _++_, append-nil, List·Memᴰ·head}
+use mathlib.Core.List.{List, [], _∷_, _++_, List·Memᴰ·head}
 use Prim.Native.Nat.{ℕ, zero, suc, _+_, _*_, _-_, _<_, _≤_}
 use native.Mathlib.Omega.{arith}
 use lib.Dec.{T, eqb, eqb→eq, not-T, T-not}
 use lib.ListN.{length, getD, take, drop, replicate, length-append, length-drop, length-replicate, take-append-drop}
-use lib.Seq.{length-take-le, take-suc, take-add, getD-append-add, getD-take, getD-drop, ext-getD}
-use Rattle.monomial.specs.Lists.{any, all, gather, place}
+use lib.Seq.{length-take-le, getD-append-add, getD-take, getD-drop, ext-getD}
+use Rattle.monomial.specs.Lists.{any, all, place}
 use Rattle.monomial.specs.Monomial.{Mono, one, constants, width}
 use Rattle.monomial.specs.Order.{same, before}
 use Rattle.monomial.specs.Claims.{_∈_, _⊆_, Ascending}
 use Rattle.monomial.proofs.Tests.{Tested, passed, failed, test, T→is, nT→is, and-l, and-r, and-i}
-use Rattle.monomial.proofs.Members.{here, all-in, all-out, take-in, gather-append, fill-at}
+use Rattle.monomial.proofs.Members.{here, all-in, all-out, take-in, fill-at}
 use Rattle.monomial.proofs.Counting.{at-in}
 use Rattle.monomial.proofs.Strips.{strip-length, strip-at}
 use Rattle.monomial.proofs.order.Laws.{mono-order}
@@ -28,6 +28,7 @@ use Rattle.wiring.specs.Sets.{places, sizeOf, setOf, ascending, monomial
 use Rattle.wiring.specs.Claims.{Permitted, Free, RightRecord, Recordable, Wide}
 use Rattle.wiring.proofs.sockets.Laws.{may-in, may-out}
 use Rattle.wiring.proofs.terms.Laws.{Fit, exponents-in, exponents-everywhere}
+use Rattle.wiring.proofs.signals.Tables.{flat-cuts}
 use Rattle.wiring.proofs.sets.Laws.{placeAt, places-length, places-at, places-width, used-length, used-at, ascending-in, ascending-out}
 
 -- ---- zeros
@@ -226,15 +227,9 @@ record-right panel s r f =
 
 -- the first k places, one behind the other, are the first 6 * k bytes
 bytes-used : (bytes : List ℕ) (k : ℕ) → k ≤ cards → flat (take k (places bytes)) ≡ take (width * k) bytes
-unfolding gather
-bytes-used bytes zero h = refl
-bytes-used bytes (suc k) h =
-    let t = places bytes in
-    let next : take (suc k) t ≡ take k t ++ (placeAt bytes k ∷ []) =
-    take-suc t k [] (omega (arith, places-length bytes)) ∙ ap (λ m. take k t ++ (m ∷ [])) (places-at bytes k [] (omega arith)) in
-    let e : width * suc k ≡ width * k + width = omega arith in
-    ap flat next ∙ gather-append (λ m. m) (take k t) (placeAt bytes k ∷ []) ∙ ap₂ _++_ (bytes-used bytes k (omega arith)) (append-nil (placeAt bytes k))
-    ∙ sym (take-add (width * k) width bytes) ∙ ap (λ (j : ℕ). take j bytes) (sym e)
+bytes-used bytes k h =
+    let many : length (places bytes) ≡ cards = places-length bytes in
+    flat-cuts bytes (places bytes) (λ i j. places-at bytes i [] (omega arith)) k (omega arith)
 
 module _ (panel : Panel) (bytes : List ℕ) (t : T (setRight panel bytes)) (l : length bytes ≡ setBytes) where
   size-few : sizeOf bytes ≤ cards

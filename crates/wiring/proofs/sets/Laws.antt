@@ -5,9 +5,8 @@ use mathlib.Core.Bool.{Bool, true, false, _&&_}
 use mathlib.Core.List.{List, [], _∷_, List·Memᴰ·cases-cons, Memᴰ·of-map}
 use Prim.Native.Nat.{ℕ, suc, _+_, _*_, _-_, _<_, _≤_}
 use native.Mathlib.Omega.{arith}
-use native.Mathlib.Numerals.{add-one}
 use lib.Dec.{T, eqb}
-use lib.ListN.{length, getD, take, drop, length-drop, drop-of-length-le}
+use lib.ListN.{length, getD, take, drop, length-drop}
 use lib.Seq.{length-take-le, getD-take, drop-cons}
 use Rattle.monomial.specs.Lists.{any, all, below}
 use Rattle.monomial.specs.Monomial.{Mono, constants, width}
@@ -153,24 +152,6 @@ module _ {bytes : List ℕ} {len i : ℕ} (c : Neighbouring bytes len i) where
 
   pub neighbouring-ends : len ≤ i → true ≡ ascending (take len (places bytes))
   neighbouring-ends h = climbing-ends (c .climbing) (omega (arith, used-length bytes len (c .few)))
-
--- ---- a loop that tests the entries of l from place at on, and has come to place i
-pub record CheckingFrom {A : Type 0} (f : A → Bool) (l : List A) (at i : ℕ) : Type 0 where
-  pub within : i ≤ length l
-  pub rest : all f (drop i l) ≡ all f (drop at l)
-
-module _ {A : Type 0} {f : A → Bool} {l : List A} {at i : ℕ} (d : A) (c : CheckingFrom f l at i) where
-  pub from-fails : i < length l → f (getD l i d) ≡ false → false ≡ all f (drop at l)
-  unfolding all
-  from-fails h e = rw (drop-cons l i d h, e) at (c .rest)
-
-  pub from-on : i < length l → f (getD l i d) ≡ true → CheckingFrom f l at (i + 1)
-  unfolding all
-  from-on h e = record { within = omega arith; rest = rw (add-one i) (rw (drop-cons l i d h, e) at (c .rest)) }
-
-  pub from-ends : length l ≤ i → true ≡ all f (drop at l)
-  unfolding all
-  from-ends h = rw (drop-of-length-le l h) at (c .rest)
 
 -- ---- a monomial of a record: the tests in their order
 module _ (panel : Panel) (m : Mono) where

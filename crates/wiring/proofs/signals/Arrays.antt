@@ -1,17 +1,14 @@
--- Arrays of monomials as lists: what their first places hold, and the loops that search and fill them. Assumes nothing.
+-- Arrays of monomials as lists: what their first places hold, and the loops that fill them. Assumes nothing.
 use mathlib.Core.Path.{_≡_, refl, sym, ap, subst, _∙_}
-use mathlib.Core.Bool.{Bool, true, false}
 use mathlib.Core.List.{List, [], _∷_, _++_, map, append-nil}
 use Prim.Native.Nat.{ℕ, zero, suc, _+_, _<_, _≤_}
 use native.Mathlib.Omega.{arith}
 use native.Mathlib.Numerals.{add-one}
 use lib.ListN.{length, getD, take, drop, set, length-append, length-map, length-set, drop-of-length-le}
 use lib.Seq.{length-take-le, getD-take, take-set-lt, take-suc-set, drop-cons, append-snoc}
-use Rattle.monomial.specs.Lists.{any}
 use Rattle.monomial.specs.Monomial.{Mono}
 use Rattle.monomial.specs.Product.{AtMost}
 use Rattle.monomial.specs.declared.Monomial.{Monomial}
-use Rattle.monomial.proofs.Loops.{Seeking, seeking-start, seeking-found, seeking-on, seeking-ends}
 use Rattle.monomial.proofs.Members.{map-at}
 use Rattle.monomial.proofs.Counting.{at-in}
 use Rattle.wiring.specs.Signals.{front, Fitting}
@@ -44,30 +41,6 @@ front-drop k m i h l =
 
 pub front-set : (k : ℕ) (m : List Monomial) (i : ℕ) (x : Monomial) → i < k → front k (set m i x) ≡ set (front k m) i (x .e)
 front-set k m i x h = ap (take k) (map-set (λ y. y .e) m i x) ∙ take-set-lt k (map (λ y. y .e) m) i (x .e) h
-
--- ---- a loop that looks through the first k places for a monomial that passes f, and has come to place i
-pub record Searching (f : Mono → Bool) (k : ℕ) (m : List Monomial) (i : ℕ) : Type 0 where
-  pub room : k ≤ length m
-  pub seeking : Seeking f (front k m) i
-
-pub searching-start : (f : Mono → Bool) (k : ℕ) (m : List Monomial) → k ≤ length m → Searching f k m 0
-searching-start f k m h = record { room = h; seeking = seeking-start f (front k m) }
-
-module _ {f : Mono → Bool} {k : ℕ} {m : List Monomial} {i : ℕ} (s : Searching f k m i) where
-  long : length (front k m) ≡ k
-  long = front-length k m (s .room)
-
-  at-i : i < k → getD (front k m) i [] ≡ entry m i
-  at-i h = front-at k m i [] h (s .room)
-
-  pub searching-found : i < k → f (entry m i) ≡ true → true ≡ any f (front k m)
-  searching-found h e = seeking-found f [] (s .seeking) (omega (arith, long)) (ap f (at-i h) ∙ e)
-
-  pub searching-on : i < k → f (entry m i) ≡ false → Searching f k m (i + 1)
-  searching-on h e = record { room = s .room; seeking = seeking-on f [] (s .seeking) (omega (arith, long)) (ap f (at-i h) ∙ e) }
-
-  pub searching-ends : k ≤ i → false ≡ any f (front k m)
-  searching-ends h = seeking-ends f (s .seeking) (omega (arith, long))
 
 -- ---- a loop that writes the list t into an array, and has come to place at: what is written, then what is left, is the whole
 pub record Writing (size : ℕ) (t : List Mono) (m : List Monomial) (at : ℕ) (left : List Mono) : Type 0 where

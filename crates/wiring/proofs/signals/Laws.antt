@@ -1,9 +1,9 @@
 -- V: its length, its members, and the two loops that write it. Assumes nothing.
-use mathlib.Core.Path.{_≡_, refl, sym, ap, subst, _∙_}
+use mathlib.Core.Path.{_≡_, sym, ap, subst, _∙_}
 use mathlib.Core.Logic.{_⊎_, ⊎-elim}
 use mathlib.Core.Bool.{Bool}
 use mathlib.Core.List.{List, [], _∷_, _++_, List·Memᴰ·append-cases, Memᴰ·append-left, Memᴰ·append-right}
-use Prim.Native.Nat.{ℕ, suc, _+_, _<_, _≤_}
+use Prim.Native.Nat.{ℕ, suc, _+_, _/_, _<_, _≤_}
 use native.Mathlib.Omega.{arith}
 use native.Mathlib.Numerals.{add-one}
 use lib.ListN.{length, getD, take, set, length-append, List·getD-append}
@@ -11,16 +11,19 @@ use lib.Seq.{length-take-le, getD-take, getD-append-add}
 use Rattle.monomial.specs.Lists.{keep}
 use Rattle.monomial.specs.Monomial.{Mono, one, vars, constants, width}
 use Rattle.monomial.specs.declared.Monomial.{Monomial}
+use Rattle.monomial.specs.Product.{AtMost}
 use Rattle.monomial.specs.Quotient.{divides}
 use Rattle.monomial.specs.Claims.{_∈_, Different, Within}
+use Rattle.monomial.proofs.Counting.{at-in}
 use Rattle.monomial.proofs.Members.{take-in, keep-append, keep-more}
 use Rattle.monomial.proofs.product.Laws.{atMost-weaken}
 use Rattle.monomial.proofs.Different.{different-take, different-append}
 use Rattle.monomial.proofs.Within.{within-divides, vars-beyond}
 use Rattle.monomial.proofs.Variables.{constants-fit, constants-different, vars-length}
 use Rattle.wiring.specs.Panel.{cards, mostSignals}
-use Rattle.wiring.specs.Signals.{signals, front, Fitting}
-use Rattle.wiring.specs.Claims.{base}
+use Rattle.wiring.specs.Signals.{signals, front, tabled, signalsAt, Fitting}
+use Rattle.wiring.specs.Claims.{Wide, base}
+use Rattle.wiring.proofs.signals.Tables.{tabled-length, tabled-wide}
 use Rattle.wiring.proofs.signals.Arrays.{entry, front-length, front-at, Copying, copying-next, copying-end}
 
 -- ---- its length and its members
@@ -56,10 +59,12 @@ module _ (n : ℕ) where
   unfolding signals
   signals-cases s h = List·Memᴰ·append-cases (base n) h
 
--- it begins with 1
-pub signals-begin : (n : ℕ) (s : List Mono) → signals width n s ≡ one width ∷ (take n (vars width) ++ s)
-unfolding signals
-signals-begin n s = refl
+  -- each has the panel's width where those of the set do
+  pub base-wide : Wide (base n)
+  base-wide x h = constants-fit 1 width (omega arith) x (take-in (suc n) (constants width) h) .0
+
+  pub signals-wide : (s : List Mono) → Wide s → Wide (signals width n s)
+  signals-wide s w x h = ⊎-elim (base-wide x) (w x) (signals-cases s h)
 
 -- it has no member twice where none of the set is 1 or a variable: these are different
 pub signals-different : (n : ℕ) (s : List Mono) → Different s → ((m : Mono) → m ∈ s → m ∈ base n → ⊥) → Different (signals width n s)
@@ -74,6 +79,17 @@ signals-divisors n b more s m w =
     let f : Mono → Bool = λ x. divides x m in
     let e : keep f (base n) ≡ keep f (base b) = keep-more f (suc n) (suc b) (constants width) (omega arith) (λ x h t. vars-beyond n width x h (within-divides n x m t w)) in
     keep-append f (base n) s ∙ ap (λ (l : List Mono). l ++ keep f s) e ∙ sym (keep-append f (base b) s)
+
+-- ---- V of a set whose monomials lie side by side
+pub signals-at-length : (n : ℕ) (bytes : List ℕ) → n ≤ width → length (signalsAt n bytes) ≡ n + 1 + length bytes / width
+signals-at-length n bytes h = signals-length n (tabled bytes) h ∙ ap (λ (k : ℕ). n + 1 + k) (tabled-length bytes)
+
+pub signals-at-wide : (n : ℕ) (bytes : List ℕ) → Wide (signalsAt n bytes)
+signals-at-wide n bytes = signals-wide n (tabled bytes) (tabled-wide bytes)
+
+-- a member by its number keeps the bound of all
+pub fitting-at : (b : ℕ) (l : List Mono) (j : ℕ) (d : Mono) → Fitting b l → j < length l → AtMost b (getD l j d)
+fitting-at b l j d f h = f (getD l j d) (at-in l j d h) .1
 
 -- ---- two loops that write V of n variables and the first len places of u: the constants, then the set
 pub record Signalling (n len : ℕ) (u m : List Monomial) (at : ℕ) : Type 0 where

@@ -1,22 +1,24 @@
--- Monomials side by side in bytes: what lies where, a loop that looks through them and one that writes them. Assumes nothing.
+-- Monomials side by side in bytes: what lies where, and loops that look through them from the first or from the last. Assumes nothing.
 use mathlib.Core.Path.{_≡_, refl, sym, ap, ap₂, subst, _∙_}
+use mathlib.Core.Logic.{⊎-elim}
 use mathlib.Core.Bool.{Bool, true, false}
-use mathlib.Core.List.{List, [], _∷_, _++_, append-nil, Memᴰ·append-right, Memᴰ·of-map}
-use Prim.Native.Nat.{ℕ, _+_, _-_, _*_, _/_, _<_, _≤_}
+use mathlib.Core.List.{List, [], _∷_, _++_, append-nil, Memᴰ·of-map, List·Memᴰ·cases-cons, List·Memᴰ·not-nil}
+use Prim.Native.Nat.{ℕ, zero, suc, _+_, _-_, _*_, _/_, _<_, _≤_}
 use native.Mathlib.Omega.{arith}
 use borrow.Author.Tests.{ltb-true, ltb-false}
-use lib.ListN.{length, getD, take, drop, length-append, length-map, length-drop, take-append-drop, List·getD-append}
+use lib.ListN.{length, getD, take, drop, set, length-append, length-map, length-drop, take-append-drop, List·getD-append}
 use lib.Dec.{ltb}
-use lib.Seq.{paste, take-append-le, drop-append-le, drop-at, getD-at, length-take-le, getD-take, take-all, take-paste, length-paste, append-snoc, ext-getD}
+use lib.Seq.{paste, length-paste, length-paste-head, take-paste}
+use lib.Seq.{take-append-le, drop-append-le, drop-append-add, getD-append-add, append-snoc, take-at, drop-at, length-take-le, ext-getD}
+use lib.Seq.{getD-take, take-take, take-suc, take-add, take-all, take-set-lt, set-split}
 use Rattle.monomial.specs.Lists.{any, gather, below}
 use Rattle.monomial.specs.Monomial.{Mono, width}
-use Rattle.monomial.specs.Claims.{_∈_}
 use Rattle.monomial.proofs.Tests.{Tested, passed, failed, test}
-use Rattle.monomial.proofs.Loops.{Seeking, seeking-found, seeking-on, seeking-ends}
-use Rattle.monomial.proofs.Members.{here, gather-append}
+use Rattle.monomial.proofs.Loops.{Seeking, seeking-found, seeking-on, seeking-ends, SeekingDown, down-found, down-on}
+use Rattle.monomial.proofs.Members.{gather-append}
 use Rattle.monomial.proofs.Counting.{below-length, below-out, below-at}
 use Rattle.monomial.proofs.Strips.{strip-length, strip-at}
-use Rattle.wiring.specs.Signals.{flat, tabled}
+use Rattle.wiring.specs.Signals.{flat, tabled, listed}
 use Rattle.wiring.specs.Claims.{Wide}
 
 -- ---- what lies where
@@ -57,70 +59,145 @@ tabled-flat l w = ext-getD [] (tabled (flat l)) l many at
         ∙ ap (λ (u : List ℕ). take width (drop (width * i) u)) (sym (append-nil (flat l)))
         ∙ strip-at (λ m. m) width l w [] i [] (omega (arith, many))
 
--- a monomial more behind n of them
-pub tabled-more : (bytes : List ℕ) (n : ℕ) (x : Mono) → length bytes ≡ width * n → length x ≡ width → tabled (bytes ++ x) ≡ tabled bytes ++ (x ∷ [])
-tabled-more bytes n x l w = ext-getD [] (tabled (bytes ++ x)) (tabled bytes ++ (x ∷ [])) alike at
+-- n monomials, and more bytes behind them
+pub tabled-append : (a b : List ℕ) (n : ℕ) → length a ≡ width * n → tabled (a ++ b) ≡ tabled a ++ tabled b
+tabled-append a b n l = ext-getD [] (tabled (a ++ b)) (tabled a ++ tabled b) alike at
   where
-    many : length (tabled bytes) ≡ n
-    many = tabled-length bytes ∙ omega (arith, l)
+    many : length (tabled a) ≡ n
+    many = tabled-length a ∙ omega (arith, l)
 
-    longer : length (bytes ++ x) ≡ width * n + width
-    longer = length-append bytes x ∙ omega (arith, l, w)
+    long : length (a ++ b) ≡ width * n + length b
+    long = length-append a b ∙ omega (arith, l)
 
-    alike : length (tabled (bytes ++ x)) ≡ length (tabled bytes ++ (x ∷ []))
-    alike = omega (arith, tabled-length (bytes ++ x), longer, many, length-append (tabled bytes) (x ∷ []))
+    alike : length (tabled (a ++ b)) ≡ length (tabled a ++ tabled b)
+    alike = omega (arith, tabled-length (a ++ b), long, many, tabled-length b, length-append (tabled a) (tabled b))
 
-    old : (i : ℕ) → i < n → getD (tabled (bytes ++ x)) i [] ≡ getD (tabled bytes ++ (x ∷ [])) i []
+    old : (i : ℕ) → i < n → getD (tabled (a ++ b)) i [] ≡ getD (tabled a ++ tabled b) i []
     old i h =
-        tabled-at (bytes ++ x) i [] (omega (arith, longer))
-        ∙ ap (take width) (drop-append-le (width * i) bytes x (omega (arith, l)))
-        ∙ take-append-le width (drop (width * i) bytes) x (omega (arith, l, length-drop (width * i) bytes))
-        ∙ sym (List·getD-append (tabled bytes) (x ∷ []) [] i (omega (arith, many)) ∙ tabled-at bytes i [] (omega (arith, l)))
+        tabled-at (a ++ b) i [] (omega (arith, long))
+        ∙ ap (take width) (drop-append-le (width * i) a b (omega (arith, l)))
+        ∙ take-append-le width (drop (width * i) a) b (omega (arith, l, length-drop (width * i) a))
+        ∙ sym (List·getD-append (tabled a) (tabled b) [] i (omega (arith, many)) ∙ tabled-at a i [] (omega (arith, l)))
 
-    new : getD (tabled (bytes ++ x)) n [] ≡ getD (tabled bytes ++ (x ∷ [])) n []
-    new =
-        tabled-at (bytes ++ x) n [] (omega (arith, longer))
-        ∙ ap (take width) (drop-at bytes x (width * n) l)
-        ∙ take-all width x (omega (arith, w))
-        ∙ sym (getD-at (tabled bytes) x [] [] n many)
+    new : (j : ℕ) → j < length b / width → getD (tabled (a ++ b)) (length (tabled a) + j) [] ≡ getD (tabled a ++ tabled b) (length (tabled a) + j) []
+    new j h =
+        let skip : width * (length (tabled a) + j) ≡ length a + width * j = omega (arith, l, many) in
+        tabled-at (a ++ b) (length (tabled a) + j) [] (omega (arith, long, many))
+        ∙ ap (λ (k : ℕ). take width (drop k (a ++ b))) skip
+        ∙ ap (take width) (drop-append-add a b (width * j))
+        ∙ sym (getD-append-add (tabled a) (tabled b) j [] ∙ tabled-at b j [] h)
 
-    at : (i : ℕ) → i < length (tabled (bytes ++ x)) → getD (tabled (bytes ++ x)) i [] ≡ getD (tabled bytes ++ (x ∷ [])) i []
+    at : (i : ℕ) → i < length (tabled (a ++ b)) → getD (tabled (a ++ b)) i [] ≡ getD (tabled a ++ tabled b) i []
     at i h = go (test (ltb i n))
       where
-        go : Tested (ltb i n) → getD (tabled (bytes ++ x)) i [] ≡ getD (tabled bytes ++ (x ∷ [])) i []
+        go : Tested (ltb i n) → getD (tabled (a ++ b)) i [] ≡ getD (tabled a ++ tabled b) i []
         go (passed e) = old i (ltb-true i n e)
         go (failed e) =
-            let q : n ≡ i = omega (arith, ltb-false i n e, tabled-length (bytes ++ x), longer) in
-            subst (λ (k : ℕ). getD (tabled (bytes ++ x)) k [] ≡ getD (tabled bytes ++ (x ∷ [])) k []) q new
+            let behind : n ≤ i = ltb-false i n e in
+            let q : length (tabled a) + (i - n) ≡ i = omega (arith, many) in
+            let few : i - n < length b / width = omega (arith, tabled-length (a ++ b), long) in
+            subst (λ (k : ℕ). getD (tabled (a ++ b)) k [] ≡ getD (tabled a ++ tabled b) k []) q (new (i - n) few)
 
--- the first monomials that lie side by side in bytes
-pub tabled-take : (bytes : List ℕ) (n : ℕ) → width * n ≤ length bytes → tabled (take (width * n) bytes) ≡ take n (tabled bytes)
-tabled-take bytes n h = ext-getD [] (tabled front) (take n (tabled bytes)) alike at
+tabled-one : (x : Mono) → length x ≡ width → tabled x ≡ x ∷ []
+unfolding gather
+tabled-one x w =
+    let wide : Wide (x ∷ []) = λ m h. ⊎-elim (λ e. ap length e ∙ w) (λ k. absurd (List·Memᴰ·not-nil k)) (List·Memᴰ·cases-cons h) in
+    ap (λ (u : List ℕ). tabled u) (sym (append-nil x)) ∙ tabled-flat (x ∷ []) wide
+
+-- a monomial more behind n of them
+pub tabled-more : (bytes : List ℕ) (n : ℕ) (x : Mono) → length bytes ≡ width * n → length x ≡ width → tabled (bytes ++ x) ≡ tabled bytes ++ (x ∷ [])
+tabled-more bytes n x l w = tabled-append bytes x n l ∙ ap (λ (t : List Mono). tabled bytes ++ t) (tabled-one x w)
+
+-- the first n monomials, and those behind them
+module _ (bytes : List ℕ) (n : ℕ) (h : width * n ≤ length bytes) where
+  front-long : length (take (width * n) bytes) ≡ width * n
+  front-long = length-take-le (width * n) bytes h
+
+  pub listed-length : length (listed n bytes) ≡ n
+  listed-length = tabled-length (take (width * n) bytes) ∙ omega (arith, front-long)
+
+  tabled-parts : tabled bytes ≡ listed n bytes ++ tabled (drop (width * n) bytes)
+  tabled-parts =
+      ap (λ (u : List ℕ). tabled u) (sym (take-append-drop (width * n) bytes)) ∙ tabled-append (take (width * n) bytes) (drop (width * n) bytes) n front-long
+
+  pub tabled-take : tabled (take (width * n) bytes) ≡ take n (tabled bytes)
+  tabled-take = sym (ap (take n) tabled-parts ∙ take-at (listed n bytes) (tabled (drop (width * n) bytes)) n listed-length)
+
+  pub tabled-drop : tabled (drop (width * n) bytes) ≡ drop n (tabled bytes)
+  tabled-drop = sym (ap (drop n) tabled-parts ∙ drop-at (listed n bytes) (tabled (drop (width * n) bytes)) n listed-length)
+
+  pub listed-at : (i : ℕ) (d : Mono) → i < n → getD (listed n bytes) i d ≡ take width (drop (width * i) bytes)
+  listed-at i d k = ap (λ (t : List Mono). getD t i d) tabled-take ∙ getD-take n (tabled bytes) i d k ∙ tabled-at bytes i d (omega arith)
+
+-- the first of the first ones
+pub listed-less : (m n : ℕ) (bytes : List ℕ) → m ≤ n → width * n ≤ length bytes → take m (listed n bytes) ≡ listed m bytes
+listed-less m n bytes h k =
+    ap (take m) (tabled-take bytes n k) ∙ take-take m n (tabled bytes) h ∙ sym (tabled-take bytes m (omega arith))
+
+-- a monomial written over another: this entry of the table is set
+pub tabled-put : (bytes : List ℕ) (i : ℕ) (x : Mono) → length x ≡ width → width * i + width ≤ length bytes
+    → tabled (paste bytes (width * i) x width) ≡ set (tabled bytes) i x
+tabled-put bytes i x w h =
+    tabled-append (low ++ take width x) (drop (width * i + width) bytes) (suc i) (head-long ∙ omega arith)
+    ∙ ap₂ _++_ new behind
+    ∙ append-snoc (take i (tabled bytes)) x (drop (suc i) (tabled bytes))
+    ∙ sym (set-split (tabled bytes) i x (omega (arith, tabled-length bytes)))
   where
-    front : List ℕ
-    front = take (width * n) bytes
+    low : List ℕ
+    low = take (width * i) bytes
 
-    long : length front ≡ width * n
-    long = length-take-le (width * n) bytes h
+    head-long : length (low ++ take width x) ≡ width * i + width
+    head-long = length-paste-head bytes (width * i) x width (omega arith) (omega arith)
 
-    many : length (tabled front) ≡ n
-    many = tabled-length front ∙ omega (arith, long)
+    new : tabled (low ++ take width x) ≡ take i (tabled bytes) ++ (x ∷ [])
+    new =
+        ap (λ (u : List ℕ). tabled (low ++ u)) (take-all width x (omega arith))
+        ∙ tabled-more low i x (length-take-le (width * i) bytes (omega arith)) w
+        ∙ ap (λ (t : List Mono). t ++ (x ∷ [])) (tabled-take bytes i (omega arith))
 
-    alike : length (tabled front) ≡ length (take n (tabled bytes))
-    alike = many ∙ sym (length-take-le n (tabled bytes) (omega (arith, tabled-length bytes)))
+    behind : tabled (drop (width * i + width) bytes) ≡ drop (suc i) (tabled bytes)
+    behind =
+        let e : width * i + width ≡ width * suc i = omega arith in
+        ap (λ (k : ℕ). tabled (drop k bytes)) e ∙ tabled-drop bytes (suc i) (omega arith)
 
-    at : (i : ℕ) → i < length (tabled front) → getD (tabled front) i [] ≡ getD (take n (tabled bytes)) i []
-    at i k =
-        let few : i < n = omega (arith, many) in
-        let near : width * i ≤ length front = omega (arith, long) in
-        let room : width ≤ length (drop (width * i) front) = omega (arith, long, length-drop (width * i) front) in
-        let same : take width (drop (width * i) (front ++ drop (width * n) bytes)) ≡ take width (drop (width * i) front) =
-        ap (take width) (drop-append-le (width * i) front (drop (width * n) bytes) near) ∙ take-append-le width (drop (width * i) front) (drop (width * n) bytes) room in
-        tabled-at front i [] (omega (arith, long))
-        ∙ sym same
-        ∙ ap (λ (l : List ℕ). take width (drop (width * i) l)) (take-append-drop (width * n) bytes)
-        ∙ sym (tabled-at bytes i [] (omega arith))
-        ∙ sym (getD-take n (tabled bytes) i [] few)
+-- the same among the first n
+pub listed-put : (n : ℕ) (bytes : List ℕ) (i : ℕ) (x : Mono) → length x ≡ width → i < n → width * n ≤ length bytes
+    → listed n (paste bytes (width * i) x width) ≡ set (listed n bytes) i x
+listed-put n bytes i x w h k =
+    let long : length (paste bytes (width * i) x width) ≡ length bytes = length-paste bytes (width * i) x width (omega arith) (omega arith) in
+    tabled-take (paste bytes (width * i) x width) n (omega arith)
+    ∙ ap (take n) (tabled-put bytes i x w (omega arith))
+    ∙ take-set-lt n (tabled bytes) i x h
+    ∙ ap (λ (t : List Mono). set t i x) (sym (tabled-take bytes n k))
+
+-- n monomials written over the first ones
+pub listed-copied : (n : ℕ) (out bytes : List ℕ) → length bytes ≡ width * n → listed n (paste out 0 bytes (length bytes)) ≡ tabled bytes
+listed-copied n out bytes l =
+    let copied : take (0 + length bytes) (paste out 0 bytes (length bytes)) ≡ take (length bytes) bytes =
+    take-paste out 0 bytes (length bytes) (omega arith) (omega arith) in
+    let e : width * n ≡ 0 + length bytes = omega (arith, l) in
+    ap (λ (k : ℕ). tabled (take k (paste out 0 bytes (length bytes)))) e
+    ∙ ap (λ (u : List ℕ). tabled u) (copied ∙ take-all (length bytes) bytes (omega arith))
+
+-- ---- the bytes of what lies in bytes
+-- the first k of a list, one behind the other, are the first bytes, where each entry lies at its place
+pub flat-cuts : (bytes : List ℕ) (l : List Mono) → ((i : ℕ) → i < length l → getD l i [] ≡ take width (drop (width * i) bytes))
+    → (k : ℕ) → k ≤ length l → flat (take k l) ≡ take (width * k) bytes
+unfolding gather
+flat-cuts bytes l at zero h = refl
+flat-cuts bytes l at (suc k) h =
+    let x : Mono = take width (drop (width * k) bytes) in
+    let next : take (suc k) l ≡ take k l ++ (x ∷ []) = take-suc l k [] (omega arith) ∙ ap (λ m. take k l ++ (m ∷ [])) (at k (omega arith)) in
+    let e : width * suc k ≡ width * k + width = omega arith in
+    ap flat next ∙ gather-append (λ m. m) (take k l) (x ∷ []) ∙ ap₂ _++_ (flat-cuts bytes l at k (omega arith)) (append-nil x)
+    ∙ sym (take-add (width * k) width bytes) ∙ ap (λ (j : ℕ). take j bytes) (sym e)
+
+pub flat-tabled : (bytes : List ℕ) → length bytes ≡ width * length (tabled bytes) → flat (tabled bytes) ≡ bytes
+flat-tabled bytes l =
+    let t : List Mono = tabled bytes in
+    ap flat (sym (take-all (length t) t (omega arith)))
+    ∙ flat-cuts bytes t (λ i h. tabled-at bytes i [] (omega (arith, tabled-length bytes))) (length t) (omega arith)
+    ∙ take-all (width * length t) bytes (omega (arith, l))
 
 -- ---- a loop that looks through a table for a monomial that passes f, and has come to place i
 module _ (f : Mono → Bool) (bytes : List ℕ) {i : ℕ} (s : Seeking f (tabled bytes) i) where
@@ -133,46 +210,10 @@ module _ (f : Mono → Bool) (bytes : List ℕ) {i : ℕ} (s : Seeking f (tabled
   pub tabled-ends : length bytes / width ≤ i → false ≡ any f (tabled bytes)
   tabled-ends h = seeking-ends f s (omega (arith, tabled-length bytes))
 
--- ---- a loop that writes the list t into bytes, and has written `done`, up to byte at; the rest is left
-pub record Laying (t : List Mono) (bytes : List ℕ) (at : ℕ) (left : List Mono) : Type 0 where
-  pub done : List Mono
-  pub wide : Wide t
-  pub room : width * length t ≤ length bytes
-  pub reached : at ≡ width * length done
-  pub laid : take at bytes ≡ flat done
-  pub whole : done ++ left ≡ t
+-- ---- the same from the last monomial down: the loop has come to place i + 1
+module _ (f : Mono → Bool) (bytes : List ℕ) {j : ℕ} (s : SeekingDown f (tabled bytes) j) (i : ℕ) (e : j ≡ i + 1) where
+  pub tabled-last : f (take width (drop (width * i) bytes)) ≡ true → true ≡ any f (tabled bytes)
+  tabled-last t = down-found f [] s i e (ap f (tabled-at bytes i [] (omega (arith, s .within, tabled-length bytes))) ∙ t)
 
-pub laying-start : (t : List Mono) (bytes : List ℕ) → Wide t → width * length t ≤ length bytes → Laying t bytes 0 t
-unfolding gather
-laying-start t bytes w h = record { done = []; wide = w; room = h; reached = refl; laid = refl; whole = refl }
-
-module _ {t : List Mono} {bytes : List ℕ} {at : ℕ} where
-  -- something is left, so there is room for it
-  pub laying-room : {y : Mono} {left : List Mono} → Laying t bytes at (y ∷ left) → at + width ≤ length bytes
-  laying-room {y} {left} w =
-      let all : length (w .done) + length (y ∷ left) ≡ length t = sym (length-append (w .done) (y ∷ left)) ∙ ap length (w .whole) in
-      omega (arith, w .room, w .reached)
-
-  pub laying-put : {y : Mono} {left : List Mono} → Laying t bytes at (y ∷ left) → (x : Mono) → x ≡ y → Laying t (paste bytes at x width) (at + width) left
-  unfolding gather
-  laying-put {y} {left} w x e =
-      let h : at + width ≤ length bytes = laying-room w in
-      let six : length x ≡ width = ap length e ∙ w .wide y (subst (λ (l : List Mono). y ∈ l) (w .whole) (Memᴰ·append-right (w .done) here)) in
-      let more : flat (w .done ++ (y ∷ [])) ≡ flat (w .done) ++ y =
-      gather-append (λ m. m) (w .done) (y ∷ []) ∙ ap (λ (l : List ℕ). flat (w .done) ++ l) (append-nil y) in
-      record {
-        done = w .done ++ (y ∷ []);
-        wide = w .wide;
-        room = omega (arith, w .room, length-paste bytes at x width h (omega arith));
-        reached = omega (arith, w .reached, length-append (w .done) (y ∷ []));
-        laid = take-paste bytes at x width (omega arith) (omega arith) ∙ ap₂ _++_ (w .laid) (take-all width x (omega arith) ∙ e) ∙ sym more;
-        whole = append-snoc (w .done) y left ∙ w .whole;
-      }
-
-  pub laying-end : Laying t bytes at [] → tabled (take at bytes) ≡ t
-  laying-end w =
-      let all : w .done ≡ t = sym (append-nil (w .done)) ∙ w .whole in
-      ap tabled (w .laid ∙ ap flat all) ∙ tabled-flat t (w .wide)
-
-  pub laying-within : {left : List Mono} → Laying t bytes at left → at ≤ width * length t
-  laying-within {left} w = omega (arith, w .reached, length-append (w .done) left, ap length (w .whole))
+  pub tabled-down : f (take width (drop (width * i) bytes)) ≡ false → SeekingDown f (tabled bytes) i
+  tabled-down t = down-on f [] s i e (ap f (tabled-at bytes i [] (omega (arith, s .within, tabled-length bytes))) ∙ t)

@@ -10,7 +10,7 @@ use lib.ListN.{take, drop}
 use lib.Seq.{length-take-le}
 use Rattle.monomial.specs.Monomial.{Mono, one, width}
 use Rattle.monomial.proofs.Tests.{is→T}
-use Rattle.wiring.specs.Signals.{tabled}
+use Rattle.wiring.specs.Signals.{tabled, signalsAt}
 use Rattle.wiring.specs.Sockets.{mayBe}
 use Rattle.wiring.proofs.signals.Tables.{tabled-at, tabled-take}
 use Rattle.counting.specs.Counting.{hits, begins}
@@ -35,7 +35,7 @@ returns c =
     let l = a .list .now in
     let here = c .before .before .read .ensures ∙ sym (tabled-at l (a .i) (one width) (start .pre .0)) in
     begins-undivided (mayBe (a .panel)) _ _ _ _ _ _ (sym (c .before .divides .ensures) ∙ not-true _ (c .if1 .taken))
-    ∙ ap (λ (m : Mono). begins (mayBe (a .panel)) (tabled (a .v .now)) (a .often) (take (a .i) (tabled l)) (drop (a .i + 1) (tabled l)) m (a .x .e)) here
+    ∙ ap (λ (m : Mono). begins (mayBe (a .panel)) (signalsAt (a .panel .n) (a .set .now)) (a .often) (take (a .i) (tabled l)) (drop (a .i + 1) (tabled l)) m (a .x .e)) here
 
 over-requires : tie.Need-over-requires
 over-requires c κs = is→T _ (sym (c .before .divides .ensures) ∙ not-false _ (c .if1 .left))
@@ -55,7 +55,7 @@ returns-2 c =
     let divided = sym (at-divides .divides .ensures) ∙ not-false _ (at-over .before .if1 .left) in
     let barred = ap may (sym (at-over .over .ensures)) ∙ sym (c .before .may-be .ensures) ∙ not-true _ (c .if2 .taken) in
     begins-barred may _ _ _ _ _ _ divided barred
-    ∙ ap (λ (m : Mono). begins may (tabled (a .v .now)) (a .often) (take (a .i) (tabled l)) (drop (a .i + 1) (tabled l)) m (a .x .e)) here
+    ∙ ap (λ (m : Mono). begins may (signalsAt (a .panel .n) (a .set .now)) (a .often) (take (a .i) (tabled l)) (drop (a .i + 1) (tabled l)) m (a .x .e)) here
 
 add-recurs : tie.Need-add-recurs
 add-recurs c = search needs
@@ -74,7 +74,7 @@ returns-3 c =
     let start = at-divides .before .before .before .before in
     let a = start .args in
     let l = a .list .now in
-    let v = tabled (a .v .now) in
+    let v = signalsAt (a .panel .n) (a .set .now) in
     let may = mayBe (a .panel) in
     let here = at-divides .before .read .ensures ∙ sym (tabled-at l (a .i) (one width) (start .pre .0)) in
     let divided = sym (at-divides .divides .ensures) ∙ not-false _ (at-over .before .if1 .left) in
@@ -105,7 +105,7 @@ returns-4 c =
     let start = at-divides .before .before .before .before in
     let a = start .args in
     let l = a .list .now in
-    let v = tabled (a .v .now) in
+    let v = signalsAt (a .panel .n) (a .set .now) in
     let near = start .pre .0 in
     let may = mayBe (a .panel) in
     let here = at-divides .before .read .ensures ∙ sym (tabled-at l (a .i) (one width) (start .pre .0)) in

@@ -8,7 +8,7 @@ use native.Mathlib.Nat.{div-le-self}
 use lib.ListN.{length}
 use Rattle.monomial.specs.Monomial.{width}
 use Rattle.wiring.specs.Panel.{cards}
-use Rattle.wiring.specs.Signals.{tabled}
+use Rattle.wiring.specs.Signals.{tabled, signalsAt}
 use Rattle.wiring.specs.Sockets.{mayBe}
 use Rattle.wiring.proofs.signals.Tables.{tabled-length}
 use Rattle.counting.specs.Counting.{frequent}
@@ -24,7 +24,7 @@ add-own c = search needs
 mul-own : tie.Need-mul-own
 mul-own c =
     let start = c .before .before in
-    let small = twos-small (start .args .room) cards (start .pre .1 .0) in
+    let small = twos-small (start .args .room) cards (start .pre .1 .1 .0) in
     search needs
 
 returns : tie.Need-returns
@@ -60,8 +60,8 @@ returns-2 c =
     let wanted = length l / width - a .room * (a .room + 1) / 2 in
     let split : length (tabled l) ≡ wanted + a .room * suc (a .room) / 2 = omega (arith, tabled-length l, ap (λ k. a .room * k / 2) (add-one (a .room))) in
     let share = (wanted - 1) / a .room in
-    let none = upTo-none 1 (frequent may (tabled (a .v .now)) (tabled l) (share + 1)) (omega arith) (omega (arith, c .before .frequent .ensures)) in
-    closes-rare may _ (tabled l) (a .room) wanted split share (share-less wanted (a .room) (omega arith)) (ap (frequent may (tabled (a .v .now)) (tabled l)) (sym (add-one share)) ∙ none)
+    let none = upTo-none 1 (frequent may (signalsAt (a .panel .n) (a .set .now)) (tabled l) (share + 1)) (omega arith) (omega (arith, c .before .frequent .ensures)) in
+    closes-rare may _ (tabled l) (a .room) wanted split share (share-less wanted (a .room) (omega arith)) (ap (frequent may (signalsAt (a .panel .n) (a .set .now)) (tabled l)) (sym (add-one share)) ∙ none)
 
 returns-3 : tie.Need-returns-3
 returns-3 c =
@@ -72,9 +72,9 @@ returns-3 c =
     let wanted = length l / width - a .room * (a .room + 1) / 2 in
     let split : length (tabled l) ≡ wanted + a .room * suc (a .room) / 2 = omega (arith, tabled-length l, ap (λ k. a .room * k / 2) (add-one (a .room))) in
     let share = (wanted - 1) / a .room in
-    let alone : a .room ≡ 1 = omega (arith, start .pre .0) in
-    let some = upTo-some 1 (frequent may (tabled (a .v .now)) (tabled l) (share + 1)) (omega (arith, c .before .before .frequent .ensures)) in
-    closes-one may _ (tabled l) (a .room) wanted split alone share (share-whole wanted (a .room) alone) (subst (λ k. 1 ≤ frequent may (tabled (a .v .now)) (tabled l) k) (add-one share) some)
+    let alone : a .room ≡ 1 = omega (arith, start .pre .1 .0) in
+    let some = upTo-some 1 (frequent may (signalsAt (a .panel .n) (a .set .now)) (tabled l) (share + 1)) (omega (arith, c .before .before .frequent .ensures)) in
+    closes-one may _ (tabled l) (a .room) wanted split alone share (share-whole wanted (a .room) alone) (subst (λ k. 1 ≤ frequent may (signalsAt (a .panel .n) (a .set .now)) (tabled l) k) (add-one share) some)
 
 stays-below-requires : tie.Need-stays-below-requires
 stays-below-requires c κs = search needs

@@ -5,7 +5,7 @@ use Prim.Native.Nat.{_-_, _/_, _<_}
 use native.Mathlib.Omega.{arith}
 use lib.ListN.{length}
 use Rattle.monomial.specs.Monomial.{one, width}
-use Rattle.wiring.specs.Signals.{tabled}
+use Rattle.wiring.specs.Signals.{tabled, signalsAt}
 use Rattle.wiring.proofs.signals.Tables.{tabled-length, tabled-at}
 use Rattle.counting.specs.Counting.{shares}
 use Rattle.counting.proofs.counting.Hits.{Recurring, recurring-start, recurring-short, recurring-end, recurring-hit, recurring-miss}
@@ -14,10 +14,10 @@ use Rattle.counting.proofs.counting.recurs.Statement.{statement}
 use Rattle.counting.proofs.counting.recurs.Tie as tie
 
 abbrev Inv-loop : tie.InvT-loop
-Inv-loop list from v q often len left₀ a₀ left a = (len ≡ length list / width) × Recurring (tabled v) (q .e) (tabled list) from often left a
+Inv-loop list from n set q often len left₀ a₀ left a = (len ≡ length list / width) × Recurring (signalsAt n set) (q .e) (tabled list) from often left a
 
 abbrev μ-loop : tie.MeasureT-loop
-μ-loop list from v q often len left₀ a₀ left a = len - a
+μ-loop list from n set q often len left₀ a₀ left a = len - a
 
 loop-holds : tie.Need-loop-holds Inv-loop μ-loop
 loop-holds c = (refl, recurring-start _ _ _ _ _ (omega (arith, tabled-length (c .before .before .args .list .now), c .before .before .pre)))
@@ -63,8 +63,8 @@ loop-again c =
     let gap = c .before .before .before .if1 .left in
     let near : k .a < length l / width = omega arith in
     let few : k .a < length (tabled l) = omega (arith, tabled-length l) in
-    let here = ap (shares (tabled (a .v .now)) (a .q .e)) (tabled-at l (k .a) (one width) near) in
-    let met = ap (shares (tabled (a .v .now)) (a .q .e)) (sym (c .before .before .read .ensures)) ∙ sym (c .before .is-multiple .ensures) in (
+    let here = ap (shares (signalsAt (a .n) (a .set .now)) (a .q .e)) (tabled-at l (k .a) (one width) near) in
+    let met = ap (shares (signalsAt (a .n) (a .set .now)) (a .q .e)) (sym (c .before .before .read .ensures)) ∙ sym (c .before .is-multiple .ensures) in (
       k .inv .0,
       ⊎-elim
           (λ w. rw (w .1) (recurring-hit _ _ (k .inv .1) (one width) few _ (omega arith) (here ∙ met ∙ w .0 .taken)))

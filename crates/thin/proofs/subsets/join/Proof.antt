@@ -1,5 +1,5 @@
 -- `join` meets its contract: the record stands behind the others, or there is no room for it. Assumes nothing.
-use mathlib.Core.Path.{_≡_, ap₂, _∙_}
+use mathlib.Core.Path.{_≡_, ap, ap₂, _∙_}
 use mathlib.Core.List.{List}
 use Prim.Native.Nat.{ℕ, _*_}
 use native.Mathlib.Omega.{arith}
@@ -13,11 +13,11 @@ use borrow.Author.Needs.{needs}
 use Rattle.thin.proofs.subsets.join.Statement.{statement}
 use Rattle.thin.proofs.subsets.join.Tie as tie
 
-mul-put : tie.Need-mul-put
-mul-put c = search needs
-
 record-of-requires : tie.Need-record-of-requires
 record-of-requires c κs = search needs
+
+mul-put : tie.Need-mul-put
+mul-put c = search needs
 
 put-requires : tie.Need-put-requires
 put-requires c κs = search needs
@@ -29,14 +29,17 @@ returns : tie.Need-returns
 returns c =
     λ l many b.
     let at-put = c .before .before in
-    let at-record-of = at-put .before in
-    let start = at-put .before .before .before .before .before in
+    let at-record-of = at-put .before .before .before .before .before in
+    let at-if1 = at-record-of .before in
+    let start = at-if1 .before .before in
     let a = start .args in
     let s = monomialsOf (a .set) in
     let long : length (setRecord s) ≡ setBytes = record-length s (start .pre .0) (start .pre .1) in
     let written : at-put .put .last .0 ≡ paste (a .out .now) (setBytes * length l) (setRecord s) setBytes =
-    at-put .put .ensures ∙ ap₂ (λ (k : ℕ) (r : List ℕ). paste (a .out .now) (setBytes * k) r setBytes) many (at-record-of .record-of .ensures) in
-    begun-more l s (a .out .now) b long (omega (arith, many, at-record-of .before .before .if1 .taken)) (at-put .put .last .0) written
+    at-put .put .ensures
+    ∙ ap₂ (λ (k : ℕ) (r : List ℕ). paste (a .out .now) (setBytes * k) r (length r)) many (at-record-of .record-of .ensures)
+    ∙ ap (λ (k : ℕ). paste (a .out .now) (setBytes * length l) (setRecord s) k) long in
+    begun-more l s (a .out .now) b long (omega (arith, many, at-if1 .if1 .taken)) (at-put .put .last .0) written
 
 returns-2 : tie.Need-returns-2
 returns-2 c =
@@ -47,4 +50,4 @@ returns-2 c =
 
 pub join-spec : {M : Type 1} → statement M
 join-spec =
-    tie.close (tie.spec mul-put record-of-requires put-requires same-length returns returns-2)
+    tie.close (tie.spec record-of-requires mul-put put-requires same-length returns returns-2)

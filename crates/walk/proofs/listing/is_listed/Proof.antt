@@ -1,27 +1,26 @@
 -- `is_listed` meets its contract: the loop looks through the finds for the set (`Seeking`). Assumes nothing.
-use mathlib.Core.Path.{_≡_, sym, _∙_}
-use mathlib.Core.List.{List, []}
+use mathlib.Core.Path.{sym, _∙_}
+use mathlib.Core.List.{[]}
 use Prim.Native.Nat.{_-_, _≤_}
 use native.Mathlib.Omega.{arith}
-use Rattle.monomial.specs.Monomial.{Mono}
 use Rattle.monomial.specs.Order.{sameSet}
 use Rattle.monomial.proofs.Loops.{Seeking, seeking-start, seeking-found, seeking-on, seeking-ends}
-use Rattle.wiring.specs.Sets.{setRecord}
+use Rattle.wiring.specs.Signals.{tabled}
 use Rattle.walk.specs.Walk.{Finds}
-use Rattle.walk.specs.Listing.{Recorded, Shown}
+use Rattle.walk.specs.Listing.{Shown}
 use Rattle.walk.proofs.listing.Finds.{cut-length, shown-same}
 use borrow.Author.Needs.{needs}
 use Rattle.walk.proofs.listing.is_listed.Statement.{statement}
 use Rattle.walk.proofs.listing.is_listed.Tie as tie
 
 abbrev Inv-loop : tie.InvT-loop
-Inv-loop s count r i₀ i = (i ≤ count) × ((finds : Finds) (set : List Mono) → Shown finds count s → Recorded set → r .b ≡ setRecord set → Seeking (sameSet set) finds i)
+Inv-loop s count set i₀ i = (i ≤ count) × ((finds : Finds) → Shown finds count s → Seeking (sameSet (tabled set)) finds i)
 
 abbrev μ-loop : tie.MeasureT-loop
-μ-loop s count r i₀ i = count - i
+μ-loop s count set i₀ i = count - i
 
 loop-holds : tie.Need-loop-holds Inv-loop μ-loop
-loop-holds c = (omega arith, λ finds set s r e. seeking-start (sameSet set) finds)
+loop-holds c = (omega arith, λ finds s. seeking-start _ finds)
 
 mul-at : tie.Need-mul-at Inv-loop μ-loop
 mul-at c = search needs
@@ -39,14 +38,17 @@ part-is-same-end : tie.Need-part-is-same-end Inv-loop μ-loop
 part-is-same-end c = search needs
 
 is-same-requires : tie.Need-is-same-requires Inv-loop μ-loop
-is-same-requires c κs = cut-length (c .before .before .before .before .args .s .now) (c .before .before .loop .i) (omega arith)
+is-same-requires c κs =
+    let s = c .before .before .before .before .before in
+    (cut-length (s .args .s .now) (c .before .before .loop .i) (omega (arith, s .pre .1)), s .pre .0)
 
 returns : tie.Need-returns Inv-loop μ-loop
 returns c =
     let k = c .before .before .before .before .loop in
-    λ finds set s r e.
-    let hit = sym (shown-same s set r _ e (k .i) (omega arith)) ∙ sym (c .before .is-same .ensures) ∙ c .if1 .taken in
-    seeking-found (sameSet set) [] (k .inv .1 finds set s r e) (omega (arith, s .counted)) hit
+    let own = c .before .before .before .before .before .before .before .pre .0 .recorded in
+    λ finds s.
+    let hit = sym (shown-same s _ own (k .i) (omega arith)) ∙ sym (c .before .is-same .ensures) ∙ c .if1 .taken in
+    seeking-found _ [] (k .inv .1 finds s) (omega (arith, s .counted)) hit
 
 add-i : tie.Need-add-i Inv-loop μ-loop
 add-i c = search needs
@@ -56,15 +58,16 @@ loop-less c = search needs
 
 loop-again : tie.Need-loop-again Inv-loop μ-loop
 loop-again c =
-    let k = c .before .before .before .before .loop in (
+    let k = c .before .before .before .before .loop in
+    let own = c .before .before .before .before .before .before .before .pre .0 .recorded in (
       omega arith,
-      λ finds set s r e.
-          let miss = sym (shown-same s set r _ e (k .i) (omega arith)) ∙ sym (c .before .is-same .ensures) ∙ c .if1 .left in
-          seeking-on (sameSet set) [] (k .inv .1 finds set s r e) (omega (arith, s .counted)) miss,
+      λ finds s.
+          let miss = sym (shown-same s _ own (k .i) (omega arith)) ∙ sym (c .before .is-same .ensures) ∙ c .if1 .left in
+          seeking-on _ [] (k .inv .1 finds s) (omega (arith, s .counted)) miss,
     )
 
 returns-2 : tie.Need-returns-2 Inv-loop μ-loop
-returns-2 c = λ finds set s r e. seeking-ends (sameSet set) (c .before .loop .inv .1 finds set s r e) (omega (arith, s .counted))
+returns-2 c = λ finds s. seeking-ends _ (c .before .loop .inv .1 finds s) (omega (arith, s .counted))
 
 pub is-listed-spec : {M : Type 1} → statement M
 is-listed-spec =

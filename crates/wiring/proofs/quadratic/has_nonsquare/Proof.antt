@@ -5,7 +5,7 @@ use native.Mathlib.Omega.{arith}
 use lib.ListN.{length}
 use Rattle.monomial.proofs.Loops.{Seeking, seeking-start, seeking-found, seeking-on, seeking-ends}
 use Rattle.wiring.specs.Derivative.{offers}
-use Rattle.wiring.specs.Signals.{tabled}
+use Rattle.wiring.specs.Signals.{signalsAt}
 use Rattle.wiring.specs.Terms.{recordAt, records, system}
 use Rattle.wiring.proofs.terms.Laws.{records-length}
 use Rattle.wiring.proofs.quadratic.Records.{outside, found-unmet, at-record}
@@ -15,10 +15,10 @@ use Rattle.wiring.proofs.quadratic.has_nonsquare.Statement.{statement}
 use Rattle.wiring.proofs.quadratic.has_nonsquare.Tie as tie
 
 abbrev Inv-loop : tie.InvT-loop
-Inv-loop terms z sq count t₀ t = (count ≡ length terms / termBytes) × Seeking (offers (outside (tabled sq)) (system (records terms)) (z .e)) (records terms) t
+Inv-loop terms z n set cancels count t₀ t = (count ≡ length terms / termBytes) × Seeking (offers (outside (signalsAt n set)) (system (records terms)) (z .e)) (records terms) t
 
 abbrev μ-loop : tie.MeasureT-loop
-μ-loop terms z sq count t₀ t = count - t
+μ-loop terms z n set cancels count t₀ t = count - t
 
 loop-holds : tie.Need-loop-holds Inv-loop μ-loop
 loop-holds c =
@@ -37,9 +37,9 @@ returns c =
     let a = start .args in
     let l = a .terms .now in
     let k = at-loop .loop in
-    let f = offers (outside (tabled (a .sq .now))) (system (records l)) (a .z .e) in
+    let f = offers (outside (signalsAt (a .n) (a .set .now))) (system (records l)) (a .z .e) in
     let here = at-record f l (k .t) (omega arith) ∙ sym (c .before .nonsquare-of .ensures .told) ∙ c .if1 .taken in
-    λ v e. seeking-found f (recordAt l (k .t)) (k .inv .1) (omega (arith, records-length l)) here ∙ found-unmet (tabled (a .sq .now)) v (records l) (a .z .e) e
+    seeking-found f (recordAt l (k .t)) (k .inv .1) (omega (arith, records-length l)) here ∙ found-unmet (signalsAt (a .n) (a .set .now)) (records l) (a .z .e)
 
 add-t : tie.Need-add-t Inv-loop μ-loop
 add-t c = search needs
@@ -54,7 +54,7 @@ loop-again c =
     let a = start .args in
     let l = a .terms .now in
     let k = at-loop .loop in
-    let f = offers (outside (tabled (a .sq .now))) (system (records l)) (a .z .e) in
+    let f = offers (outside (signalsAt (a .n) (a .set .now))) (system (records l)) (a .z .e) in
     let not-here = at-record f l (k .t) (omega arith) ∙ sym (c .before .nonsquare-of .ensures .told) ∙ c .if1 .left in
     (k .inv .0, seeking-on f (recordAt l (k .t)) (k .inv .1) (omega (arith, records-length l)) not-here)
 
@@ -63,8 +63,8 @@ returns-2 c =
     let a = c .before .before .before .before .args in
     let l = a .terms .now in
     let k = c .before .loop in
-    let f = offers (outside (tabled (a .sq .now))) (system (records l)) (a .z .e) in
-    λ v e. seeking-ends f (k .inv .1) (omega (arith, records-length l)) ∙ found-unmet (tabled (a .sq .now)) v (records l) (a .z .e) e
+    let f = offers (outside (signalsAt (a .n) (a .set .now))) (system (records l)) (a .z .e) in
+    seeking-ends f (k .inv .1) (omega (arith, records-length l)) ∙ found-unmet (signalsAt (a .n) (a .set .now)) (records l) (a .z .e)
 
 pub has-nonsquare-spec : {M : Type 1} → statement M
 has-nonsquare-spec =

@@ -5,7 +5,7 @@ use native.Mathlib.Omega.{arith}
 use borrow.Author.Tests.{eq-eqb, ne-eqb}
 use lib.Dec.{eqb}
 use lib.ListN.{length}
-use Rattle.wiring.proofs.sets.Laws.{CheckingFrom, from-fails, from-on, from-ends}
+use Rattle.monomial.proofs.Loops.{CheckingFrom, from-fails, from-on, from-ends}
 use borrow.Author.Needs.{needs}
 use Rattle.wiring.proofs.sets.zero_from.Statement.{statement}
 use Rattle.wiring.proofs.sets.zero_from.Tie as tie
@@ -17,7 +17,7 @@ abbrev μ-loop : tie.MeasureT-loop
 μ-loop s at i₀ i = length s - i
 
 loop-holds : tie.Need-loop-holds Inv-loop μ-loop
-loop-holds c = record { within = c .pre; rest = refl }
+loop-holds c = record { rest = refl }
 
 shared-slice-read-if1 : tie.Need-shared-slice-read-if1 Inv-loop μ-loop
 shared-slice-read-if1 c = search needs

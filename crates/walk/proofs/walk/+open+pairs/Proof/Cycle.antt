@@ -1,6 +1,8 @@
 -- The cycle of the opener and the pair runner: each leans on the other at a smaller measure, which is twice the room left below the level, and one
 -- more for the opener. Assumes nothing.
 use Prim.Native.Nat.{ℕ, _+_, _*_, _-_, _<_}
+use lib.ListN.{length}
+use Rattle.wiring.specs.Signals.{tabled}
 use borrow.Fn.Kinds.{In}
 use borrow.Fn.PlainCycle.{Measures, is, falls, and}
 use Rattle.walk.proofs.walk.open.Reads as opener
@@ -14,25 +16,24 @@ use Rattle.monomial.proofs.Monomial.next_divisor.Reads as next-divisor-reads
 use Rattle.monomial.proofs.Monomial.over.Reads as over-reads
 use Rattle.walk.proofs.children.offer.Reads as offer-reads
 use Rattle.walk.proofs.walk.take_step.Reads as take-step-reads
-use Rattle.wiring.proofs.signals.signals_of.Reads as signals-of-reads
 
-abbrev pub μ-opener : Measures 3 opener-kinds.ps ℕ
-μ-opener κs a = 2 * (a .1 .1 .1 .0 .level - a .1 .1 .1 .1 .0 .len) + 1
+abbrev pub μ-opener : Measures 4 opener-kinds.ps ℕ
+μ-opener κs a = 2 * (a .1 .1 .1 .0 .level - length (tabled (a .1 .1 .1 .1 .0 .now))) + 1
 
-abbrev pub μ-runner : Measures 3 runner-kinds.ps ℕ
-μ-runner κs a = 2 * (a .1 .1 .1 .0 .level - a .1 .1 .1 .1 .0 .len)
+abbrev pub μ-runner : Measures 4 runner-kinds.ps ℕ
+μ-runner κs a = 2 * (a .1 .1 .1 .0 .level - length (tabled (a .1 .1 .1 .1 .0 .now)))
 
-abbrev pub opener-at : ℕ → In 3 opener-kinds.ps
-opener-at t = and 3 opener-kinds.ps (is 3 opener-kinds.ps μ-opener t) opener.Pre
+abbrev pub opener-at : ℕ → In 4 opener-kinds.ps
+opener-at t = and 4 opener-kinds.ps (is 4 opener-kinds.ps μ-opener t) opener.Pre
 
-abbrev pub opener-below : ℕ → In 3 opener-kinds.ps
-opener-below t = and 3 opener-kinds.ps (falls 3 opener-kinds.ps _<_ μ-opener t) opener.Pre
+abbrev pub opener-below : ℕ → In 4 opener-kinds.ps
+opener-below t = and 4 opener-kinds.ps (falls 4 opener-kinds.ps _<_ μ-opener t) opener.Pre
 
-abbrev pub runner-at : ℕ → In 3 runner-kinds.ps
-runner-at t = and 3 runner-kinds.ps (is 3 runner-kinds.ps μ-runner t) runner.Pre
+abbrev pub runner-at : ℕ → In 4 runner-kinds.ps
+runner-at t = and 4 runner-kinds.ps (is 4 runner-kinds.ps μ-runner t) runner.Pre
 
-abbrev pub runner-below : ℕ → In 3 runner-kinds.ps
-runner-below t = and 3 runner-kinds.ps (falls 3 runner-kinds.ps _<_ μ-runner t) runner.Pre
+abbrev pub runner-below : ℕ → In 4 runner-kinds.ps
+runner-below t = and 4 runner-kinds.ps (falls 4 runner-kinds.ps _<_ μ-runner t) runner.Pre
 
 -- ---- what each may lean on at a measure: of the other, what it promises below it
 abbrev pub opener-claims : ℕ → opener-lts.Claims
@@ -40,8 +41,6 @@ opener-claims t = (take-step-reads.Asked, take-step-reads.Learnt, runner-below t
 
 abbrev pub runner-claims : ℕ → runner-lts.Claims
 runner-claims t = (
-  signals-of-reads.Asked,
-  signals-of-reads.Learnt,
   leads-reads.Asked,
   leads-reads.Learnt,
   over-reads.Asked,

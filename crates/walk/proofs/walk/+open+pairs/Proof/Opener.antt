@@ -4,11 +4,13 @@ use mathlib.Core.Bool.{true}
 use Prim.Native.Nat.{ℕ, _*_, _-_, _<_}
 use native.Mathlib.Omega.{arith}
 use borrow.Author.Needs.{needs}
+use lib.ListN.{length}
+use Rattle.wiring.specs.Signals.{tabled}
 use borrow.Author.Tests.{not-true, not-false}
 use Rattle.walk.specs.Walk.{rulesOf}
 use Rattle.walk.specs.Turns.{Ready, PairsFollow, Splits}
 use Rattle.walk.proofs.walk.Laws.{nothing-follows, pairs-follow}
-use Rattle.walk.proofs.walk.Runner.{split-member, split-ready, split-tells}
+use Rattle.walk.proofs.walk.Runner.{means-kept, split-member, split-ready, split-tells}
 use Rattle.walk.proofs.walk.open.Reads as opener
 use Rattle.walk.proofs.walk.+open+pairs.Lts-open as opener-lts
 use Rattle.walk.proofs.walk.+open+pairs.Proof.Cycle.{opener-at, opener-claims}
@@ -19,30 +21,30 @@ Taken t = opener-lts.After-take-step (opener-claims t) (opener-at t) opener.Post
 
 module _ (t : ℕ) (c : Taken t) where
   abbrev begun : opener-lts.Start (opener-claims t) (opener-at t) opener.Post
-  begun = c .before .before .before .before .before .before
+  begun = c .before .before .before .before .before .before .before
 
   -- the pairs of a nonsquare follow
   module _ (on : c .take-step .result .split ≡ true) where
-    follows : PairsFollow (rulesOf (begun .args .f .panel)) (begun .args .f .panel .n) (begun .args .terms .now) (begun .args .f .level) (begun .args .f .limit) (begun .args .set)
+    follows : PairsFollow (rulesOf (begun .args .f .panel)) (begun .args .f .panel .n) (begun .args .terms .now) (begun .args .f .level) (begun .args .f .limit) (begun .args .set .now)
         (begun .args .st) (begun .args .out .now) (c .take-step .result .m .e) (c .take-step .last .1 .0)
     follows =
         let a = begun .args in
         let j = c .take-step in
-        pairs-follow (rulesOf (a .f .panel)) (a .f .panel .n) (a .terms .now) (a .f .level) (a .f .limit) (a .set) (a .st) (a .out .now) (j .result) (j .last .1 .0) on (j .ensures)
+        pairs-follow (rulesOf (a .f .panel)) (a .f .panel .n) (a .terms .now) (a .f .level) (a .f .limit) (a .set .now) (a .st) (a .out .now) (j .result) (j .last .1 .0) on (j .ensures)
 
-    follows-ready : Ready (begun .args .f .panel .n) (begun .args .terms .now) (begun .args .f .level) (begun .args .set) (begun .args .st .count) (c .take-step .last .1 .0)
+    follows-ready : Ready (begun .args .f .panel .n) (begun .args .terms .now) (begun .args .f .level) (begun .args .set .now) (begun .args .st .count) (c .take-step .last .1 .0)
     follows-ready =
         let a = begun .args in
-        split-ready (rulesOf (a .f .panel)) (a .f .panel .n) (a .terms .now) (a .f .level) (a .f .limit) (a .set) (a .st) (a .out .now) (begun .pre .1 .0) _ _ follows
+        split-ready (rulesOf (a .f .panel)) (a .f .panel .n) (a .terms .now) (a .f .level) (a .f .limit) (a .set .now) (a .st) (a .out .now) (begun .pre .1 .0) _ _ follows
 
-    follows-splits : Splits (begun .args .f .panel .n) (begun .args .terms .now) (begun .args .f .level) (begun .args .set) (c .take-step .result .m .e)
+    follows-splits : Splits (begun .args .f .panel .n) (begun .args .terms .now) (begun .args .f .level) (begun .args .set .now) (c .take-step .result .m .e)
     follows-splits =
         let a = begun .args in
-        split-member (rulesOf (a .f .panel)) (a .f .panel .n) (a .terms .now) (a .f .level) (a .f .limit) (a .set) (a .st) (a .out .now) (begun .pre .1 .0) _ _ follows
+        split-member (rulesOf (a .f .panel)) (a .f .panel .n) (a .terms .now) (a .f .level) (a .f .limit) (a .set .now) (a .st) (a .out .now) (begun .pre .1 .0) _ _ follows
 
 -- ---- its needs
 take-step-requires : (t : ℕ) → opener-lts.Need-take-step-requires (opener-claims t) (opener-at t) opener.Post
-take-step-requires t c κs = c .before .before .before .before .before .pre .1
+take-step-requires t c κs = c .before .before .before .before .before .before .pre .1
 
 same-length : (t : ℕ) → opener-lts.Need-same-length (opener-claims t) (opener-at t) opener.Post
 same-length t c = c .before .before .before .before .before .before .take-step .kept .1 .0
@@ -56,15 +58,15 @@ returns t c =
     let at-take-step = c .before .before .before .before .before .before in
     let a = begun t at-take-step .args in
     let j = at-take-step .take-step in
-    nothing-follows (rulesOf (a .f .panel)) (a .f .panel .n) (a .terms .now) (a .f .level) (a .f .limit) (a .set) (a .st) (a .out .now) (j .result) (j .last .1 .0)
+    nothing-follows (rulesOf (a .f .panel)) (a .f .panel .n) (a .terms .now) (a .f .level) (a .f .limit) (a .set .now) (a .st) (a .out .now) (j .result) (j .last .1 .0)
     (not-true _ (c .if1 .taken)) (j .ensures) d finds (omega arith) sh
 
 add-t15 : (t : ℕ) → opener-lts.Need-add-t15 (opener-claims t) (opener-at t) opener.Post
 add-t15 t c =
-    let a = c .before .before .before .before .before .before .before .before .before .before .before .before .before .before .args in
+    let a = c .before .before .before .before .before .before .before .before .before .before .before .before .before .before .before .args in
     let low : a .st .steps < a .f .limit =
     follows t (c .before .before .before .before .before .before .before .before) (not-false _ (c .before .before .if1 .left)) .taken in
-    search (needs, low, c .before .before .before .before .before .before .before .before .before .before .before .before .before .before .good)
+    search (needs, low, c .before .before .before .before .before .before .before .before .before .before .before .before .before .before .before .good)
 
 pairs-requires : (t : ℕ) → opener-lts.Need-pairs-requires (opener-claims t) (opener-at t) opener.Post
 pairs-requires t c κs =
@@ -72,8 +74,8 @@ pairs-requires t c κs =
     let at-take-step = at-if1 .before .before .before .before .before .before in
     let s = begun t at-take-step in
     let on : at-take-step .take-step .result .split ≡ true = not-false _ (at-if1 .if1 .left) in
-    let step : 2 * (s .args .f .level - s .args .set .len) < t = omega (arith, s .pre .0) in
-    (step, (follows-ready t at-take-step on, (follows-splits t at-take-step on, omega (arith, s .pre .1 .1, at-take-step .take-step .kept .1 .1 .0))))
+    let step : 2 * (s .args .f .level - length (tabled (s .args .set .now))) < t = omega (arith, s .pre .0) in
+    (step, (follows-ready t at-take-step on, (follows-splits t at-take-step on, means-kept _ _ _ _ (at-take-step .take-step .kept .1 .1 .0) (s .pre .1 .1))))
 
 same-length-3 : (t : ℕ) → opener-lts.Need-same-length-3 (opener-claims t) (opener-at t) opener.Post
 same-length-3 t c =
@@ -94,7 +96,7 @@ returns-2 t c =
     let s = begun t at-take-step in
     let a = s .args in
     let r = at-pairs .pairs in
-    split-tells (rulesOf (a .f .panel)) (a .f .panel .n) (a .terms .now) (a .f .level) (a .f .limit) (a .set) (a .st) (a .out .now) (s .pre .1 .0) _ _
+    split-tells (rulesOf (a .f .panel)) (a .f .panel .n) (a .terms .now) (a .f .level) (a .f .limit) (a .set .now) (a .st) (a .out .now) (s .pre .1 .0) _ _
     (follows t at-take-step (not-false _ (at-if1 .if1 .left))) (r .result) (r .last .1 .0) (r .ensures) d finds h sh
 
 pub opener-meets : {M : Type 1} (t : ℕ) → opener-lts.Closed (opener-claims t) (opener-at t) opener.Post M

@@ -4,30 +4,28 @@ use mathlib.Core.Logic.{⊎-elim}
 use Prim.Native.Nat.{ℕ, _+_, _*_, _-_, _<_}
 use native.Mathlib.Omega.{arith}
 use borrow.Author.Needs.{needs}
-use Rattle.monomial.specs.Monomial.{one}
+use lib.ListN.{length}
+use lib.Seq.{length-take-le}
+use Rattle.monomial.specs.Monomial.{one, width}
+use Rattle.wiring.specs.Signals.{listed}
 use Rattle.monomial.proofs.Tests.{is→T, is→nT}
 use Rattle.walk.specs.Walk.{rulesOf}
 use Rattle.walk.specs.declared.walk.Turn.the-variants.{Going, Spent, Full}
 use Rattle.walk.proofs.walk.Laws.{Running, running-start, running-showing, running-end, running-spent, running-shut, running-going, running-child-spent, running-child-full}
-use Rattle.walk.proofs.walk.Runner.{fewer-left, gap-wide, gap-proper, child-ready}
+use Rattle.walk.proofs.walk.Runner.{means-kept, fewer-left, gap-wide, gap-proper, child-ready}
 use Rattle.walk.proofs.walk.pairs.Reads as runner
 use Rattle.walk.proofs.walk.+open+pairs.Lts-pairs as runner-lts
 use Rattle.walk.proofs.walk.+open+pairs.Proof.Cycle.{runner-at, runner-claims}
-use Rattle.walk.proofs.walk.+open+pairs.Proof.Offered.{Inv-loop, μ-loop, at-loop, begun, offered-lead, offered-proper, offered-child, offered-opens, offered-low, offered-more, offered-within, offered-told, offering, returned-go, returned-told, returned-long, returned-list}
-
-signals-of-requires : (t : ℕ) → runner-lts.Need-signals-of-requires (runner-claims t) (runner-at t) runner.Post Inv-loop μ-loop
-signals-of-requires t c κs =
-    let p = c .before .before .before .pre .1 .0 .opening in
-    (p .few, omega (arith, p .within, p .low))
+use Rattle.walk.proofs.walk.+open+pairs.Proof.Offered.{Inv-loop, μ-loop, at-loop, begun, offered-lead, offered-proper, offered-child, offered-opens, offered-low, offered-more, offered-within, offered-told, offered-long, nursery, nursery-long, offering, returned-go, returned-told, returned-long, returned-list}
 
 loop-holds : (t : ℕ) → runner-lts.Need-loop-holds (runner-claims t) (runner-at t) runner.Post Inv-loop μ-loop
 loop-holds t c =
     let s = c .before .before .before .before in
     let a = s .args in
-    let wide = gap-wide (a .f .panel .n) (a .terms .now) (a .f .level) (a .set) (a .m .e) (a .st .count) (a .out .now) (s .pre .1 .0) (s .pre .1 .1 .0) in (
-      subst (λ (w : ℕ). Running (rulesOf (a .f .panel)) (a .f .panel .n) (a .terms .now) (a .f .level) (a .f .limit) (a .set) (a .m .e) (a .st) (a .out .now) (one w) (a .st) (a .out .now)) wide
-          (running-start (rulesOf (a .f .panel)) (a .f .panel .n) (a .terms .now) (a .f .level) (a .f .limit) (a .set) (a .m .e) (a .st) (a .out .now)),
-      refl,
+    let wide = gap-wide (a .f .panel .n) (a .terms .now) (a .f .level) (a .set .now) (a .m .e) (a .st .count) (a .out .now) (s .pre .1 .0) (s .pre .1 .1 .0) in (
+      subst (λ (w : ℕ). Running (rulesOf (a .f .panel)) (a .f .panel .n) (a .terms .now) (a .f .level) (a .f .limit) (a .set .now) (a .m .e) (a .st) (a .out .now) (one w) (a .st) (a .out .now)) wide
+          (running-start (rulesOf (a .f .panel)) (a .f .panel .n) (a .terms .now) (a .f .level) (a .f .limit) (a .set .now) (a .m .e) (a .st) (a .out .now)),
+      (refl, refl),
     )
 
 leads-requires : (t : ℕ) → runner-lts.Need-leads-requires (runner-claims t) (runner-at t) runner.Post Inv-loop μ-loop
@@ -37,7 +35,7 @@ same-length : (t : ℕ) → runner-lts.Need-same-length (runner-claims t) (runne
 same-length t c = c .before .before .before .before .loop .inv .0 .long
 
 same-length-2 : (t : ℕ) → runner-lts.Need-same-length-2 (runner-claims t) (runner-at t) runner.Post Inv-loop μ-loop
-same-length-2 t c = c .before .before .before .before .loop .inv .1
+same-length-2 t c = c .before .before .before .before .loop .inv .1 .0
 
 returns : (t : ℕ) → runner-lts.Need-returns (runner-claims t) (runner-at t) runner.Post Inv-loop μ-loop
 returns t c =
@@ -46,40 +44,54 @@ returns t c =
     let at-loop = at-leads .before in
     let s = at-loop .before .before .before .before .before in
     let a = s .args in
-    let proper = gap-proper (a .f .panel .n) (a .terms .now) (a .f .level) (a .set) (a .m .e) (a .st .count) (a .out .now) (s .pre .1 .0) (s .pre .1 .1 .0) in
+    let proper = gap-proper (a .f .panel .n) (a .terms .now) (a .f .level) (a .set .now) (a .m .e) (a .st .count) (a .out .now) (s .pre .1 .0) (s .pre .1 .1 .0) in
     let lead = is→T _ (sym (at-leads .leads .ensures) ∙ c .before .before .if1 .taken) in
-    running-spent (rulesOf (a .f .panel)) (a .f .panel .n) (a .terms .now) (a .f .level) (a .f .limit) (a .set) (a .m .e) (a .st) (a .out .now)
+    running-spent (rulesOf (a .f .panel)) (a .f .panel .n) (a .terms .now) (a .f .level) (a .f .limit) (a .set .now) (a .m .e) (a .st) (a .out .now)
     (at-loop .loop .inv .0) proper lead (omega arith) d finds h sh
 
-add-t20 : (t : ℕ) → runner-lts.Need-add-t20 (runner-claims t) (runner-at t) runner.Post Inv-loop μ-loop
-add-t20 t c = search needs
+add-t19 : (t : ℕ) → runner-lts.Need-add-t19 (runner-claims t) (runner-at t) runner.Post Inv-loop μ-loop
+add-t19 t c = search needs
+
+slice-aggregate-offer : (t : ℕ) → runner-lts.Need-slice-aggregate-offer (runner-claims t) (runner-at t) runner.Post Inv-loop μ-loop
+slice-aggregate-offer t c = sym (c .before .before .before .before .before .loop .inv .1 .1)
 
 over-requires : (t : ℕ) → runner-lts.Need-over-requires (runner-claims t) (runner-at t) runner.Post Inv-loop μ-loop
-over-requires t c κs = c .before .before .before .before .loop .inv .0 .divisor
+over-requires t c κs = c .before .before .before .before .before .loop .inv .0 .divisor
 
 offer-requires : (t : ℕ) → runner-lts.Need-offer-requires (runner-claims t) (runner-at t) runner.Post Inv-loop μ-loop
 offer-requires t c κs =
-    let at-signals-of = c .before .before .before .before .before .before in
-    let start = at-signals-of .before .before .before .before in
-    let p = start .pre .1 .0 .opening in
-    let v = at-signals-of .signals-of .ensures in
-    (p .low, (p .within, (omega (arith, p .within, p .low, p .few), p .walked .recorded .ascending)))
+    let p = c .before .before .before .before .before .before .before .before .before .before .before .pre .1 .0 .opening in
+    record { whole = p .whole; within = p .within; low = p .low; room = omega (arith, c .before .before .before .before .before .before .loop .inv .1 .1); ascending = p .walked .recorded .ascending }
+
+mul-child : (t : ℕ) → runner-lts.Need-mul-child (runner-claims t) (runner-at t) runner.Post Inv-loop μ-loop
+mul-child t c =
+    let few = offered-within t (c .before .before .before .before .before) (c .before .before .before .if3 .taken) in
+    let low = c .before .before .before .before .before .before .before .before .before .before .before .before .before .before .before .before .before .pre .1 .0 .opening .low in
+    search (needs, few, low)
+
+array-share-prefix-child : (t : ℕ) → runner-lts.Need-array-share-prefix-child (runner-claims t) (runner-at t) runner.Post Inv-loop μ-loop
+array-share-prefix-child t c =
+    let o = c .before .before .before .before .before in
+    omega (arith, offered-within t o (c .before .before .before .if3 .taken), nursery-long t o, begun t o .pre .1 .0 .opening .low)
+
+slice-aggregate-open : (t : ℕ) → runner-lts.Need-slice-aggregate-open (runner-claims t) (runner-at t) runner.Post Inv-loop μ-loop
+slice-aggregate-open t c =
+    let o = c .before .before .before .before .before .before in
+    sym (length-take-le (width * o .offer .result .len) (nursery t o) (omega (arith, offered-within t o (c .before .before .before .before .if3 .taken), nursery-long t o, begun t o .pre .1 .0 .opening .low)))
 
 open-requires : (t : ℕ) → runner-lts.Need-open-requires (runner-claims t) (runner-at t) runner.Post Inv-loop μ-loop
 open-requires t c κs =
-    let o = c .before .before .before .before in
+    let o = c .before .before .before .before .before .before in
     let s = begun t o in
     let a = s .args in
     let k = at-loop t o .loop in
-    let go = c .before .before .before .if3 .taken in
-    let showing = running-showing (rulesOf (a .f .panel)) (a .f .panel .n) (a .terms .now) (a .f .level) (a .f .limit) (a .set) (a .m .e) (a .st) (a .out .now) (k .a .e) (k .cur)
+    let go = c .before .before .before .before .if3 .taken in
+    let showing = running-showing (rulesOf (a .f .panel)) (a .f .panel .n) (a .terms .now) (a .f .level) (a .f .limit) (a .set .now) (a .m .e) (a .st) (a .out .now) (k .a .e) (k .cur)
     (k .out) (k .inv .0) (s .pre .1 .0 .showing) in
-    let ready = child-ready (a .f .panel .n) (a .terms .now) (a .f .level) (a .set) (a .m .e) (a .st .count) (a .out .now) (s .pre .1 .0) (s .pre .1 .1 .0)
-    (k .a .e) (k .inv .0 .divisor) (offered-lead t o) (rulesOf (a .f .panel)) (o .offer .result) (offered-child t o) go (k .cur .count) (k .out) showing in
-    let more = offered-more t o go in
-    let within = offered-within t o go in
-    let step : 2 * (a .f .level - o .offer .result .set .len) + 1 < t = omega (arith, s .pre .0) in
-    (step, (ready, omega (arith, s .pre .1 .1 .1, k .inv .1)))
+    let ready = child-ready (a .f .panel .n) (a .terms .now) (a .f .level) (a .set .now) (a .m .e) (a .st .count) (a .out .now) (s .pre .1 .0) (s .pre .1 .1 .0)
+    (k .a .e) (k .inv .0 .divisor) (offered-lead t o) (rulesOf (a .f .panel)) (o .offer .result) (nursery t o) (offered-child t o) go (omega (arith, nursery-long t o)) (k .cur .count) (k .out) showing in
+    let step : 2 * (a .f .level - length (listed (o .offer .result .len) (nursery t o))) + 1 < t = omega (arith, s .pre .0, offered-more t o go, offered-within t o go, offered-long t o go) in
+    (step, (ready, means-kept _ _ _ _ (k .inv .1 .0) (s .pre .1 .1 .1)))
 
 enum-known-s : (t : ℕ) → runner-lts.Need-enum-known-s (runner-claims t) (runner-at t) runner.Post Inv-loop μ-loop
 enum-known-s t c = search needs
@@ -101,8 +113,8 @@ returns-2 t c =
     let s = begun t o in
     let a = s .args in
     let go = returned-go t w in
-    running-child-spent (rulesOf (a .f .panel)) (a .f .panel .n) (a .terms .now) (a .f .level) (a .f .limit) (a .set) (a .m .e) (a .st) (a .out .now)
-    (at-loop t o .loop .inv .0) (offered-proper t o) (offered-lead t o) (o .offer .result .set .len) (offered-more t o go) (s .pre .1 .1 .0 .below)
+    running-child-spent (rulesOf (a .f .panel)) (a .f .panel .n) (a .terms .now) (a .f .level) (a .f .limit) (a .set .now) (a .m .e) (a .st) (a .out .now)
+    (at-loop t o .loop .inv .0) (offered-proper t o) (offered-lead t o) (o .offer .result .len) (offered-more t o go) (s .pre .1 .1 .0 .below)
     (offered-low t o) (offered-opens t o ∙ go) (w .«open» .last .1 .0) (returned-told t w Spent (c .enum-told .given .1)) d finds h sh
 
 enum-known-s-2 : (t : ℕ) → runner-lts.Need-enum-known-s-2 (runner-claims t) (runner-at t) runner.Post Inv-loop μ-loop
@@ -123,8 +135,8 @@ returns-3 t c =
     let a = s .args in
     let go = returned-go t w in
     let taken = c .before .s2 .given .0 .0 in
-    running-child-full (rulesOf (a .f .panel)) (a .f .panel .n) (a .terms .now) (a .f .level) (a .f .limit) (a .set) (a .m .e) (a .st) (a .out .now)
-    (at-loop t o .loop .inv .0) (offered-proper t o) (offered-lead t o) (o .offer .result .set .len) (offered-more t o go) (s .pre .1 .1 .0 .below)
+    running-child-full (rulesOf (a .f .panel)) (a .f .panel .n) (a .terms .now) (a .f .level) (a .f .limit) (a .set .now) (a .m .e) (a .st) (a .out .now)
+    (at-loop t o .loop .inv .0) (offered-proper t o) (offered-lead t o) (o .offer .result .len) (offered-more t o go) (s .pre .1 .1 .0 .below)
     (offered-low t o) (offered-opens t o ∙ go) taken (w .«open» .last .1 .0) (returned-told t w (Full taken) (c .before .s2 .given .1)) d finds h sh
 
 next-divisor-requires : (t : ℕ) → runner-lts.Need-next-divisor-requires (runner-claims t) (runner-at t) runner.Post Inv-loop μ-loop
@@ -132,19 +144,19 @@ next-divisor-requires t c κs = search needs
 
 loop-less : (t : ℕ) → runner-lts.Need-loop-less (runner-claims t) (runner-at t) runner.Post Inv-loop μ-loop
 loop-less t c =
-    let at-if1 = c .before .before .before .before .before .before in
+    let at-if1 = c .before .before .before .before .before .before .before .before in
     let at-leads = at-if1 .before in
     let at-loop = at-leads .before in
     let s = at-loop .before .before .before .before .before in
     let a = s .args in
     let k = at-loop .loop in
-    let proper = gap-proper (a .f .panel .n) (a .terms .now) (a .f .level) (a .set) (a .m .e) (a .st .count) (a .out .now) (s .pre .1 .0) (s .pre .1 .1 .0) in
+    let proper = gap-proper (a .f .panel .n) (a .terms .now) (a .f .level) (a .set .now) (a .m .e) (a .st .count) (a .out .now) (s .pre .1 .0) (s .pre .1 .1 .0) in
     let lead = is→T _ (sym (at-leads .leads .ensures) ∙ at-if1 .if1 .taken) in
     fewer-left (k .a .e) (a .m .e) (c .next-divisor .result .e) (k .inv .0 .divisor) proper lead (c .next-divisor .ensures)
 
 loop-again : (t : ℕ) → runner-lts.Need-loop-again (runner-claims t) (runner-at t) runner.Post Inv-loop μ-loop
 loop-again t c =
-    let o = c .before .before in
+    let o = c .before .before .before in
     let s = begun t o in
     let a = s .args in
     let k = at-loop t o .loop in
@@ -152,17 +164,17 @@ loop-again t c =
     ⊎-elim
     (λ w.
     let go = w .0 .taken in
-    let told = offered-told t o go (w .4 .result) (Going (w .10 .given .0 .0)) (w .4 .last .1 .0) (w .10 .given .1) (w .4 .ensures) in
-    rw (c .next-divisor .ensures, w .12, w .13, w .14) (
-      running-going (rulesOf (a .f .panel)) (a .f .panel .n) (a .terms .now) (a .f .level) (a .f .limit) (a .set) (a .m .e) (a .st) (a .out .now) (k .inv .0) (offered-proper t o) (offered-lead t o)
-          (r .set .len) (offered-more t o go) (s .pre .1 .1 .0 .below) (offered-low t o) (offered-opens t o ∙ go) (w .10 .given .0 .0) (w .4 .last .1 .0) (w .4 .kept .1 .0) told,
-      w .4 .kept .1 .1 .0 ∙ k .inv .1,
+    let told = offered-told t o go (w .5 .result) (Going (w .11 .given .0 .0)) (w .5 .last .1 .0) (w .11 .given .1) (w .5 .ensures) in
+    rw (c .next-divisor .ensures, w .13, w .14, w .15) (
+      running-going (rulesOf (a .f .panel)) (a .f .panel .n) (a .terms .now) (a .f .level) (a .f .limit) (a .set .now) (a .m .e) (a .st) (a .out .now) (k .inv .0) (offered-proper t o) (offered-lead t o)
+          (r .len) (offered-more t o go) (s .pre .1 .1 .0 .below) (offered-low t o) (offered-opens t o ∙ go) (w .11 .given .0 .0) (w .5 .last .1 .0) (w .5 .kept .1 .0) told,
+      (w .5 .kept .1 .1 .0 ∙ k .inv .1 .0, nursery-long t o),
     ))
     (λ w.
     rw (c .next-divisor .ensures, w .1, w .2, w .3) (
-      running-shut (rulesOf (a .f .panel)) (a .f .panel .n) (a .terms .now) (a .f .level) (a .f .limit) (a .set) (a .m .e) (a .st) (a .out .now) (k .inv .0) (offered-proper t o) (offered-lead t o)
+      running-shut (rulesOf (a .f .panel)) (a .f .panel .n) (a .terms .now) (a .f .level) (a .f .limit) (a .set .now) (a .m .e) (a .st) (a .out .now) (k .inv .0) (offered-proper t o) (offered-lead t o)
           _ refl refl (offered-low t o) (offered-opens t o ∙ w .0 .left),
-      k .inv .1,
+      (k .inv .1 .0, nursery-long t o),
     ))
     (c .before .if3 .came)
 
@@ -170,28 +182,31 @@ same-length-7 : (t : ℕ) → runner-lts.Need-same-length-7 (runner-claims t) (r
 same-length-7 t c = c .before .before .loop .inv .0 .long
 
 same-length-8 : (t : ℕ) → runner-lts.Need-same-length-8 (runner-claims t) (runner-at t) runner.Post Inv-loop μ-loop
-same-length-8 t c = c .before .before .loop .inv .1
+same-length-8 t c = c .before .before .loop .inv .1 .0
 
 returns-4 : (t : ℕ) → runner-lts.Need-returns-4 (runner-claims t) (runner-at t) runner.Post Inv-loop μ-loop
 returns-4 t c =
     λ d finds h sh.
     let start = c .before .before .before .before .before .before .before in
     let a = start .args in
-    running-end (rulesOf (a .f .panel)) (a .f .panel .n) (a .terms .now) (a .f .level) (a .f .limit) (a .set) (a .m .e) (a .st) (a .out .now) (c .before .before .loop .inv .0)
+    running-end (rulesOf (a .f .panel)) (a .f .panel .n) (a .terms .now) (a .f .level) (a .f .limit) (a .set .now) (a .m .e) (a .st) (a .out .now) (c .before .before .loop .inv .0)
     (is→nT _ (sym (c .before .leads .ensures) ∙ c .if1 .left)) d finds h sh
 
 pub runner-meets : {M : Type 1} (t : ℕ) → runner-lts.Closed (runner-claims t) (runner-at t) runner.Post M
 runner-meets t =
     runner-lts.spec (runner-claims t) (runner-at t) runner.Post Inv-loop μ-loop
-    (signals-of-requires t)
     (loop-holds t)
     (leads-requires t)
     (same-length t)
     (same-length-2 t)
     (returns t)
-    (add-t20 t)
+    (add-t19 t)
+    (slice-aggregate-offer t)
     (over-requires t)
     (offer-requires t)
+    (mul-child t)
+    (array-share-prefix-child t)
+    (slice-aggregate-open t)
     (open-requires t)
     (enum-known-s t)
     (enum-told t)

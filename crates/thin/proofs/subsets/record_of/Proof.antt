@@ -6,11 +6,11 @@ use native.Mathlib.Omega.{arith}
 use lib.ListN.{length}
 use Rattle.wiring.specs.Sets.{monomialsOf}
 use Rattle.wiring.proofs.signals.Arrays.{array-length}
-use Rattle.walk.proofs.listing.Records.{Making, making-start, making-next, making-end, used-at, used-below, used-all}
+use Rattle.thin.proofs.subsets.Records.{Making, making-start, making-next, making-end, used-at, used-below, used-all}
 use borrow.Author.Needs.{needs}
 use Rattle.wiring.specs.Panel.{cards}
-use Rattle.walk.proofs.listing.record_of.Statement.{statement}
-use Rattle.walk.proofs.listing.record_of.Tie as tie
+use Rattle.thin.proofs.subsets.record_of.Statement.{statement}
+use Rattle.thin.proofs.subsets.record_of.Tie as tie
 
 abbrev Inv-loop : tie.InvT-loop
 Inv-loop set len b₀ i₀ b i = (len ≡ set .len) × Making (monomialsOf set) b i

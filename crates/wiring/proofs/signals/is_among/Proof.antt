@@ -1,4 +1,4 @@
--- `is_tabled` meets its contract: the loop looks through the monomials of the table (`Seeking`). Assumes nothing.
+-- `is_among` meets its contract: the loop looks through the monomials of the list (`Seeking`). Assumes nothing.
 use mathlib.Core.Path.{_≡_, refl, sym, ap, _∙_}
 use Prim.Native.Nat.{_/_, _-_}
 use native.Mathlib.Omega.{arith}
@@ -9,14 +9,14 @@ use Rattle.wiring.specs.Signals.{tabled}
 use Rattle.wiring.proofs.signals.Tables.{tabled-found, tabled-on, tabled-ends}
 use borrow.Author.Needs.{needs}
 use Rattle.monomial.specs.Monomial.{width}
-use Rattle.wiring.proofs.signals.is_tabled.Statement.{statement}
-use Rattle.wiring.proofs.signals.is_tabled.Tie as tie
+use Rattle.wiring.proofs.signals.is_among.Statement.{statement}
+use Rattle.wiring.proofs.signals.is_among.Tie as tie
 
 abbrev Inv-loop : tie.InvT-loop
-Inv-loop table m count i₀ i = (count ≡ length table / width) × Seeking (same (m .e)) (tabled table) i
+Inv-loop list m count i₀ i = (count ≡ length list / width) × Seeking (same (m .e)) (tabled list) i
 
 abbrev μ-loop : tie.MeasureT-loop
-μ-loop table m count i₀ i = count - i
+μ-loop list m count i₀ i = count - i
 
 loop-holds : tie.Need-loop-holds Inv-loop μ-loop
 loop-holds c = (refl, seeking-start _ _)
@@ -37,7 +37,7 @@ returns c =
     let a = start .args in
     let k = at-loop .loop in
     let here = ap (same (a .m .e)) (sym (c .before .before .read .ensures)) ∙ sym (c .before .same .ensures) ∙ c .if1 .taken in
-    tabled-found (same (a .m .e)) (a .table .now) (k .inv .1) (omega arith) here
+    tabled-found (same (a .m .e)) (a .list .now) (k .inv .1) (omega arith) here
 
 add-i : tie.Need-add-i Inv-loop μ-loop
 add-i c = search needs
@@ -52,15 +52,15 @@ loop-again c =
     let a = start .args in
     let k = at-loop .loop in
     let not-here = ap (same (a .m .e)) (sym (c .before .before .read .ensures)) ∙ sym (c .before .same .ensures) ∙ c .if1 .left in
-    (k .inv .0, tabled-on (same (a .m .e)) (a .table .now) (k .inv .1) (omega arith) not-here)
+    (k .inv .0, tabled-on (same (a .m .e)) (a .list .now) (k .inv .1) (omega arith) not-here)
 
 returns-2 : tie.Need-returns-2 Inv-loop μ-loop
 returns-2 c =
     let a = c .before .before .before .args in
-    tabled-ends (same (a .m .e)) (a .table .now) (c .before .loop .inv .1) (omega arith)
+    tabled-ends (same (a .m .e)) (a .list .now) (c .before .loop .inv .1) (omega arith)
 
-pub is-tabled-spec : {M : Type 1} → statement M
-is-tabled-spec =
+pub is-among-spec : {M : Type 1} → statement M
+is-among-spec =
     tie.close
     (tie.spec
     Inv-loop

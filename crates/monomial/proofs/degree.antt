@@ -1,0 +1,2 @@
+-- The laws of specs/Degree.antt.
+pub mod Laws
