@@ -20,9 +20,8 @@ pub const WIRES: usize = (1 + CARDS) * TERMS * WIRE_BYTES;
 // Thinning lists no more sets than a set has subsets.
 pub const SUBSETS: usize = (1 << CARDS) * SET_BYTES;
 
-// 1, the variables and the new signals; and each product of two of them.
+// 1, the variables and the new signals.
 pub const SIGNALS: usize = 1 + VARIABLES + CARDS;
-pub const PRODUCTS: usize = SIGNALS * (SIGNALS + 1) / 2;
 
 // As many nonsquares as a set may have that the counting rule does not close: each new monomial that is still to come
 // serves at most one for each signal, and each pair of such serves one.

@@ -1,49 +1,92 @@
-// Times the proved planning against the walk in Rust, system by system, in one process. Ends with status 1 where a
-// reply or a buffer differs.
+// Times the proved planning against the walk in Rust, system by system, in one process; with --cfg before also against
+// the proved planning of an earlier tree. Ends with status 1 where a reply or a buffer differs.
 
 mod clock;
+mod groups;
 mod panel;
+#[macro_use]
 mod proved;
 mod systems;
 mod walk;
 
-use clock::once;
+use clock::{Plan, once};
 use panel::ROOM;
+use systems::System;
 
 // The best of these is the one that other work on the machine disturbed least.
-const RUNS: usize = 15;
+const RUNS: usize = 9;
 
-// A shorter walk is repeated within a run until it has as many steps, so that the clock's grain does not count.
-const STEPS: u64 = 100_000;
+// A shorter walk is repeated within a run until it has taken as many seconds, so that the clock's grain does not count.
+const SECONDS: f64 = 0.005;
+
+// The first is timed against each of the others.
+const WALKS: &[(&str, Plan)] = &[
+    ("proved", proved::plan),
+    ("Rust", walk::plan::<true>),
+    #[cfg(before)]
+    ("before", before),
+];
+
+#[cfg(before)]
+planning!(before, before_plan);
+
+// The reply to a system, and the seconds of each walk.
+fn timed(s: &System) -> ([u64; 5], Vec<f64>) {
+    // Unlike bytes at the start: that the buffers end alike is then the work of the walks.
+    let mut outs: Vec<Vec<u8>> = (1..=WALKS.len()).map(|i| vec![0x5a + i as u8; ROOM]).collect();
+    let mut replies = vec![[0; 5]; WALKS.len()];
+    let mut repeats = vec![1; WALKS.len()];
+    for (i, &(name, plan)) in WALKS.iter().enumerate() {
+        let (five, took) = once(plan, s, 1, &mut outs[i]);
+        replies[i] = five;
+        repeats[i] = (SECONDS / took.max(1e-7)).ceil().max(1.0) as u64;
+        if replies[i] != replies[0] || outs[i] != outs[0] {
+            let same = outs[i] == outs[0];
+            println!("{}: {name}; the replies are {replies:?}; same buffers: {same}", s.name);
+            std::process::exit(1);
+        }
+    }
+    // Taken in turn, so that a slow spell of the machine meets all.
+    let mut best = vec![f64::INFINITY; WALKS.len()];
+    for _ in 0..RUNS {
+        for (i, &(_, plan)) in WALKS.iter().enumerate() {
+            best[i] = best[i].min(once(plan, s, repeats[i], &mut outs[i]).1);
+        }
+    }
+    (replies[0], best)
+}
+
+// The geometric mean, the least and the largest.
+fn spread(xs: &[f64]) -> String {
+    let mean = (xs.iter().map(|x| x.ln()).sum::<f64>() / xs.len() as f64).exp();
+    let (least, largest) = xs.iter().fold((f64::INFINITY, 0f64), |(a, b), &x| (a.min(x), b.max(x)));
+    format!("{mean:.2} ({least:.2} to {largest:.2})")
+}
 
 fn main() {
-    let mut logs = 0.0;
-    println!("{:<28} {:>20} {:>10} {:>10} {:>6}", "variables: system", "reply", "proved ms", "Rust ms", "ratio");
-    for s in systems::SYSTEMS {
-        // Unlike bytes at the start: that the buffers end alike is then the work of the walks.
-        let mut out = (vec![0xa5; ROOM], vec![0x5a; ROOM]);
-        let mut best = (f64::INFINITY, f64::INFINITY);
-        let mut repeats = 1;
-        let mut reply = [0; 5];
-        // Taken in turn, so that a slow spell of the machine meets both.
-        for _ in 0..RUNS {
-            let (proved, took) = once(proved::plan, s, repeats, &mut out.0);
-            best.0 = best.0.min(took);
-            let (rust, took) = once(walk::plan::<true>, s, repeats, &mut out.1);
-            best.1 = best.1.min(took);
-            if proved != rust || out.0 != out.1 {
-                let same = out.0 == out.1;
-                println!("{}: the proved planning replies {proved:?}, Rust {rust:?}; same buffers: {same}", s.name);
-                std::process::exit(1);
+    print!("{:<28} {:>24}", "variables: system", "reply");
+    WALKS.iter().for_each(|(name, _)| print!(" {:>10}", format!("{name} ms")));
+    WALKS[1..].iter().for_each(|(name, _)| print!(" {:>12}", format!("over {name}")));
+    println!();
+    let mut sums = Vec::new();
+    for g in groups::groups() {
+        let mut ratios = vec![Vec::new(); WALKS.len()];
+        let mut seconds = vec![0.0; WALKS.len()];
+        for s in &g.systems {
+            let (reply, times) = timed(s);
+            print!("{:<28} {:>24}", s.name, reply.map(|x| x.to_string()).join(" "));
+            times.iter().for_each(|t| print!(" {:>10.3}", 1e3 * t));
+            times[1..].iter().for_each(|t| print!(" {:>12.2}", times[0] / t));
+            println!();
+            for (i, t) in times.iter().enumerate() {
+                ratios[i].push(times[0] / t);
+                seconds[i] += t;
             }
-            reply = proved;
-            repeats = STEPS.div_ceil(reply[3].max(1));
         }
-        let ratio = best.0 / best.1;
-        logs += ratio.ln();
-        let five = reply.map(|x| x.to_string()).join(" ");
-        println!("{:<28} {:>20} {:>10.3} {:>10.3} {:>6.2}", s.name, five, 1e3 * best.0, 1e3 * best.1, ratio);
+        for (i, (name, _)) in WALKS.iter().enumerate().skip(1) {
+            let (mean, all) = (spread(&ratios[i]), seconds[0] / seconds[i]);
+            sums.push(format!("{}: {}: over {name}: {mean}; all together {all:.2}", g.name, g.systems.len()));
+        }
     }
-    let mean = (logs / systems::SYSTEMS.len() as f64).exp();
-    println!("geometric mean of {} ratios: {mean:.2}", systems::SYSTEMS.len());
+    println!("\ngeometric means, with the least and the largest ratio:\n{}", sums.join("\n"));
 }

@@ -1,11 +1,12 @@
-// The walk in plain Rust: the yardstick of the benchmark. It keeps sets, signals, products and nonsquares in the shapes
-// of the proved code, so that the times compare; for that reason it is not an independent second program. No heap.
+// The walk in plain Rust: the yardstick of the benchmark. It keeps sets, signals and nonsquares in the shapes of the
+// proved code and divides as it does, so that the times compare; for that reason it is not an independent second
+// program. No heap.
 // Input is taken as clean: the checks cost nothing beside a walk.
 //
 // The walk with the counting rule (CLOSING) is the proved one; the walk without it is there to be compared with. Each
 // has its own copy of what both call: shared, it is left out of line, and a walk takes a tenth longer.
 
-use crate::panel::{CARDS, COEFFICIENT_AT, EXPONENTS_AT, NONSQUARES, PRODUCTS};
+use crate::panel::{CARDS, COEFFICIENT_AT, EXPONENTS_AT, NONSQUARES};
 use crate::panel::{SET_BYTES, SIGNALS, TERM_BYTES, TERMS, VARIABLES};
 
 pub type Mono = [u8; VARIABLES];
@@ -30,11 +31,6 @@ struct Signals {
     len: usize,
 }
 
-struct Products {
-    m: [Mono; PRODUCTS],
-    len: usize,
-}
-
 // The nonsquares of a set, each once.
 struct Nonsquares {
     m: [Mono; NONSQUARES],
@@ -55,6 +51,7 @@ struct Walk<'a, const CLOSING: bool> {
     count: usize,
     terms: [Term; TERMS],
     len: usize,
+    cancels: bool,
     out: &'a mut [u8],
 }
 
@@ -124,26 +121,30 @@ impl Signals {
     }
 }
 
-impl Products {
-    fn of<const CLOSING: bool>(v: &Signals) -> Products {
-        let mut p = Products { m: [ONE; PRODUCTS], len: 0 };
-        let v = v.members();
-        for (i, &a) in v.iter().enumerate() {
-            for &b in &v[i..] {
-                p.m[p.len] = times(a, b);
-                p.len += 1;
-            }
-        }
-        p
-    }
-
-    #[inline(always)]
-    fn has(&self, m: Mono) -> bool {
-        self.m[..self.len].contains(&m)
-    }
+// Whether m is of the first n variables alone, and of degree below the bound.
+#[inline(always)]
+fn is_low(m: Mono, n: usize, bound: u32) -> bool {
+    m.iter().map(|&e| e as u32).sum::<u32>() < bound && m[n..].iter().all(|&e| e == 0)
 }
 
 impl Set {
+    #[inline(always)]
+    fn members(&self) -> &[Mono] {
+        &self.m[..self.len]
+    }
+
+    // Whether m is in V: 1 and the variables are those of degree below 2.
+    #[inline(always)]
+    fn has(&self, n: usize, m: Mono) -> bool {
+        is_low(m, n, 2) || self.members().contains(&m)
+    }
+
+    // Whether m is in V2: two of 1 and the variables multiply to it, or a new monomial divides it and leaves one of V.
+    #[inline(always)]
+    fn squares(&self, n: usize, m: Mono) -> bool {
+        is_low(m, n, 3) || self.members().iter().rev().any(|&z| divides(z, m) && self.has(n, over(m, z)))
+    }
+
     // Keeps the set ascending. m is not in it.
     fn add(&mut self, m: Mono) {
         let mut i = self.len;
@@ -192,17 +193,30 @@ impl<const CLOSING: bool> Walk<'_, CLOSING> {
         sum
     }
 
-    // Whether they leave a total.
+    // Whether they leave a total. It is summed only where two records may give one monomial.
+    #[inline(always)]
     fn stays(&self, z: Mono, m: Mono) -> bool {
-        self.total(z, m) != 0
+        !self.cancels || self.total(z, m) != 0
+    }
+
+    // Whether two records of two equations give one monomial wherever both give one.
+    fn may_cancel(&self) -> bool {
+        let crosses = |t: &Term, u: &Term| {
+            let (mut x, mut y) = (t.e, u.e);
+            x[u.var] += 1;
+            y[t.var] += 1;
+            t.var != u.var && x == y
+        };
+        self.terms().iter().any(|t| self.terms().iter().any(|u| crosses(t, u)))
     }
 
     // Most sets that are opened stand at the level and only have to be refused, so the first nonsquare ends the search.
-    fn any_nonsquare(&self, v: &Signals, p: &Products) -> bool {
-        for &z in v.members() {
+    // The newest signals have most.
+    fn any_nonsquare(&self, v: &Signals, set: &Set) -> bool {
+        for &z in v.members().iter().rev() {
             for t in self.terms() {
                 if let Some(m) = Self::image(t, z) {
-                    if !p.has(m) && self.stays(z, m) {
+                    if !set.squares(self.n, m) && self.stays(z, m) {
                         return true;
                     }
                 }
@@ -212,12 +226,12 @@ impl<const CLOSING: bool> Walk<'_, CLOSING> {
     }
 
     // The nonsquare that is split.
-    fn choose(&self, v: &Signals, p: &Products) -> Option<Mono> {
+    fn choose(&self, v: &Signals, set: &Set) -> Option<Mono> {
         let mut best: Option<(u64, Mono)> = None;
         for &z in v.members() {
             for t in self.terms() {
                 if let Some(m) = Self::image(t, z) {
-                    if !p.has(m) && self.stays(z, m) {
+                    if !set.squares(self.n, m) && self.stays(z, m) {
                         let s = (score(m), m);
                         if best.is_none_or(|b| s < b) {
                             best = Some(s);
@@ -230,12 +244,12 @@ impl<const CLOSING: bool> Walk<'_, CLOSING> {
     }
 
     // Lists the nonsquares; false where they are more than `most`.
-    fn gather(&self, list: &mut Nonsquares, v: &Signals, p: &Products, most: usize) -> bool {
+    fn gather(&self, list: &mut Nonsquares, v: &Signals, set: &Set, most: usize) -> bool {
         list.len = 0;
-        for &z in v.members() {
+        for &z in v.members().iter().rev() {
             for t in self.terms() {
                 if let Some(m) = Self::image(t, z) {
-                    if !p.has(m) && !list.members().contains(&m) && self.total(z, m) != 0 {
+                    if !set.squares(self.n, m) && !list.members().contains(&m) && self.stays(z, m) {
                         if list.len == most {
                             return false;
                         }
@@ -249,8 +263,8 @@ impl<const CLOSING: bool> Walk<'_, CLOSING> {
     }
 
     // How many quotients occur at least `often` times, up to `cap`. Each is counted where it is first met.
-    fn frequent(&self, list: &[Mono], v: &[Mono], often: usize, cap: usize) -> usize {
-        let is_multiple = |q: Mono, m: Mono| divides(q, m) && v.contains(&over(m, q));
+    fn frequent(&self, list: &[Mono], v: &[Mono], set: &Set, often: usize, cap: usize) -> usize {
+        let is_multiple = |q: Mono, m: Mono| divides(q, m) && set.has(self.n, over(m, q));
         let mut met = 0;
         for i in 0..(list.len() + 1).saturating_sub(often) {
             for &x in v {
@@ -280,14 +294,14 @@ impl<const CLOSING: bool> Walk<'_, CLOSING> {
 
     // The counting rule: whether the nonsquares are more than the t(t+1)/2 products of t new monomials among themselves
     // and the t largest counts.
-    fn closes(&self, list: &[Mono], v: &[Mono], t: usize) -> bool {
+    fn closes(&self, list: &[Mono], v: &[Mono], set: &Set, t: usize) -> bool {
         let own = t * (t + 1) / 2;
         if list.len() <= own {
             return false;
         }
         let wanted = list.len() - own;
         // One of t counts that reach it together has its share.
-        if self.frequent(list, v, wanted.div_ceil(t), 1) == 0 {
+        if self.frequent(list, v, set, wanted.div_ceil(t), 1) == 0 {
             return true;
         }
         if t == 1 {
@@ -297,7 +311,7 @@ impl<const CLOSING: bool> Walk<'_, CLOSING> {
         let mut left = wanted;
         let mut often = 1;
         loop {
-            let many = self.frequent(list, v, often, t);
+            let many = self.frequent(list, v, set, often, t);
             if left <= many {
                 return false;
             }
@@ -344,35 +358,34 @@ impl<const CLOSING: bool> Walk<'_, CLOSING> {
     fn open(&mut self, list: &mut Nonsquares, set: &Set) -> Result<(), Stop> {
         self.step()?;
         let v = Signals::of::<CLOSING>(self.n, set);
-        let p = Products::of::<CLOSING>(&v);
         let m = if CLOSING && set.len < self.level {
             let t = self.level - set.len;
             // No count is above the size of V, so with more nonsquares the set is closed uncounted.
-            if !self.gather(list, &v, &p, t * v.len + t * (t + 1) / 2) {
+            if !self.gather(list, &v, set, t * v.len + t * (t + 1) / 2) {
                 return Ok(());
             }
             if list.len == 0 {
                 return self.keep(set);
             }
-            if self.closes(list.members(), v.members(), t) {
+            if self.closes(list.members(), v.members(), set, t) {
                 return Ok(());
             }
             list.members().iter().copied().min_by_key(|&m| (score(m), m))
-        } else if !self.any_nonsquare(&v, &p) {
+        } else if !self.any_nonsquare(&v, set) {
             return self.keep(set);
         } else if CLOSING || set.len == self.level {
             // With the rule only a set at the level comes here.
             return Ok(());
         } else {
-            self.choose(&v, &p)
+            self.choose(&v, set)
         };
         match m {
-            Some(m) => self.pairs(list, set, &v, m),
+            Some(m) => self.pairs(list, set, m),
             None => Ok(()),
         }
     }
 
-    fn pairs(&mut self, list: &mut Nonsquares, set: &Set, v: &Signals, m: Mono) -> Result<(), Stop> {
+    fn pairs(&mut self, list: &mut Nonsquares, set: &Set, m: Mono) -> Result<(), Stop> {
         let mut a = ONE;
         loop {
             let b = over(m, a);
@@ -380,8 +393,8 @@ impl<const CLOSING: bool> Walk<'_, CLOSING> {
                 return Ok(());
             }
             self.step()?;
-            let new_a = !v.members().contains(&a);
-            let new_b = a != b && !v.members().contains(&b);
+            let new_a = !set.has(self.n, a);
+            let new_b = a != b && !set.has(self.n, b);
             // No new monomial contains a signal from outside; only a pair that has room is asked.
             let fits = set.len + new_a as usize + new_b as usize <= self.level;
             if fits && !(new_a && meets(a, self.outside)) && !(new_b && meets(b, self.outside)) {
@@ -418,6 +431,7 @@ pub fn plan<const CLOSING: bool>(
         count: 0,
         terms: [Term { var: 0, e: ONE, c: 0 }; TERMS],
         len: terms.len() / TERM_BYTES,
+        cancels: false,
         out,
     };
     for (t, r) in w.terms.iter_mut().zip(terms.chunks_exact(TERM_BYTES)) {
@@ -425,6 +439,7 @@ pub fn plan<const CLOSING: bool>(
         t.e.copy_from_slice(&r[EXPONENTS_AT..COEFFICIENT_AT]);
         t.c = i32::from_le_bytes(std::array::from_fn(|i| r[COEFFICIENT_AT + i]));
     }
+    w.cancels = w.may_cancel();
     let mut list = Nonsquares { m: [ONE; NONSQUARES], len: 0 };
     let empty = Set { m: [ONE; CARDS], len: 0 };
     for k in 0..=cap {
