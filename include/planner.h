@@ -14,7 +14,7 @@
  * `five` is never NULL.
  *
  * Calls. There is no state behind them: they may run in any thread and at the same time. They take no heap, call
- * nothing but memcpy and memset, and always return. Stack, measured on x86-64 and rounded up: 12 KB for planning, 6 KB
+ * nothing but memcpy and memset, and always return. Stack, measured on x86-64 and rounded up: 6 KB for planning, 6 KB
  * for thinning, 1 KB for wiring.
  */
 #ifndef SIRAGUMON_PLANNER_H
