@@ -82,7 +82,8 @@ fn gather_in(
     }
 }
 
-// The nonsquares of a set in the list, or that they are more than it may hold. The signals are asked from the last: the newest ones have most.
+// The nonsquares of a set in the list, or that they are more than it may hold. The signals are asked from the last: the newest ones have most. Those
+// of the set and those before them are asked in two loops: so what asks one of them stays out of the opener's frame.
 pub fn gather(
     terms: &[u8],
     list: &mut [u8],
@@ -95,10 +96,20 @@ pub fn gather(
     ensures { λ r. ⌜ Gathers most (nonsquares plain (signalsAt n (now (set .entry))) (derivative plain (system (records (now (terms .entry)))))) r (now (list .exit)) ⌝ }
 {
     let mut len: usize = 0;
-    let mut j = n + 1 + set.len() / WIDTH;
+    let mut i = set.len() / WIDTH;
+    while 0 < i {
+        i -= 1;
+        let z = Monomial::read(set, WIDTH * i);
+        let got = gather_in(terms, list, len, most, z, n, set, cancels);
+        if got.over {
+            return got;
+        }
+        len = got.len;
+    }
+    let mut j = n + 1;
     while 0 < j {
         j -= 1;
-        let z = signals::signal(n, set, j);
+        let z = Monomial::constant(j);
         let got = gather_in(terms, list, len, most, z, n, set, cancels);
         if got.over {
             return got;
