@@ -10,7 +10,7 @@ use Rattle.monomial.specs.Order.{same, before, beforeSet}
 use Rattle.monomial.specs.Product.{mul}
 use Rattle.monomial.specs.Quotient.{quo, divides}
 use Rattle.monomial.specs.Divisors.{score, divisors, pairs, next}
-use Rattle.monomial.specs.Degree.{degree, within, low}
+use Rattle.monomial.specs.Degree.{degree, low}
 
 -- one row: a list of monomials that the definitions give, and the one that is expected
 record Row : Type 0 where
@@ -61,5 +61,5 @@ table =
     ∷ []
 
 sampled : map (λ r. r .got) table ≡ map (λ r. r .want) table
-unfolding table row said flat vars all degree within arrangeBy insertBy pairwise dictionary pointwise score below divisors gather keep pairs next
+unfolding table row said flat vars all degree arrangeBy insertBy pairwise dictionary pointwise score below divisors gather keep pairs next
 sampled = refl

@@ -13,8 +13,9 @@ degree [] = 0
 degree (e ∷ m) = e + degree m
 
 -- no exponent from number n on
-unfoldable pub within : ℕ → Mono → Bool
+abbrev pub within : ℕ → Mono → Bool
 within n m = all (eqb 0) (drop n m)
 
+-- of the first n variables alone, and of a degree below the bound
 abbrev pub low : ℕ → ℕ → Mono → Bool
 low n bound m = ltb (degree m) bound && within n m

@@ -1,26 +1,20 @@
 // The degree of a monomial, and whether it is low: so few variables, of the first ones alone, multiply to it.
 use super::Monomial;
+use super::divisors;
 use super::width::WIDTH;
 ghost use mathlib.Core.Path.{_≡_};
-ghost use Prim.Native.Nat.{_<_};
 ghost use Rattle.monomial.specs.Degree.{degree, within, low};
-
-fn wide(x: u8) -> usize
-    ensures { λ r. ⌜ (r ≡ x) × (r < 256) ⌝ }
-{
-    x as usize
-}
 
 impl Monomial {
     // The sum of the exponents.
-    pub fn degree(self) -> usize
+    pub fn degree(self) -> u64
         ensures { λ r. ⌜ r ≡ degree (self .e) ⌝ }
     {
         let e = self.e;
-        let mut r: usize = 0;
+        let mut r: u64 = 0;
         let mut i: usize = 0;
         while i < WIDTH {
-            r = r + wide(e[i]);
+            r = r + divisors::wide(e[i]);
             i += 1;
         }
         r
@@ -42,7 +36,7 @@ impl Monomial {
     }
 
     // Whether self is of the first n variables alone and its degree is below the bound. The degree is asked first: there most monomials fail.
-    pub fn is_low(self, n: usize, bound: usize) -> bool
+    pub fn is_low(self, n: usize, bound: u64) -> bool
         ensures { λ r. ⌜ r ≡ low n bound (self .e) ⌝ }
     {
         if bound <= self.degree() {

@@ -7,7 +7,7 @@ ghost use lib.Dec.{T};
 ghost use Rattle.monomial.specs.Quotient.{divides};
 ghost use Rattle.monomial.specs.Divisors.{score, leads, next};
 
-fn wide(x: u8) -> u64
+pub(crate) fn wide(x: u8) -> u64
     ensures { λ r. ⌜ (r ≡ x) × (r < 256) ⌝ }
 {
     x as u64

@@ -9,6 +9,7 @@ use lib.ListN.{length, getD, take, drop}
 use Rattle.monomial.specs.Lists.{any, all, keep, below}
 use Rattle.monomial.specs.Monomial.{Mono, width}
 use Rattle.monomial.specs.Order.{same}
+use Rattle.monomial.specs.Degree.{within}
 use Rattle.wiring.specs.Panel.{termBytes, mostTerms, termExponent, mostCoefficient, coefficientAt, monomialAt}
 use Rattle.wiring.specs.Sockets.{panelOf, marked}
 use Rattle.wiring.specs.Coefficient.{word, signed, isZero}
@@ -41,7 +42,7 @@ lengthRight bytes = eqb (length bytes % termBytes) 0 && leb (length bytes) (term
 
 -- exponents up to most, zero beyond xn
 unfoldable pub exponentsRight : ℕ → ℕ → Mono → Bool
-exponentsRight most n m = all (λ e. leb e most) m && all (eqb 0) (drop n m)
+exponentsRight most n m = all (λ e. leb e most) m && within n m
 
 -- nonzero, from -1,000,000 to 1,000,000
 unfoldable pub coefficientRight : ℤ → Bool

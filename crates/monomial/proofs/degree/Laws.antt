@@ -24,14 +24,14 @@ use Rattle.monomial.proofs.Within.{within-mul, within-divides, first-wi
 
 -- ---- the test is passed by those without an exponent from number n on
 pub within-is : (n : ℕ) (m : Mono) → T (within n m) → Within n m
-unfolding within all
+unfolding all
 within-is zero [] t = tt
 within-is zero (e ∷ m) t = let q : 0 ≡ e = eqb→eq 0 e (and-l (eqb 0 e) (within zero m) t) in (omega arith, within-is zero m (and-r (eqb 0 e) (within zero m) t))
 within-is (suc n) [] t = tt
 within-is (suc n) (e ∷ m) t = within-is n m t
 
 pub is-within : (n : ℕ) (m : Mono) → Within n m → T (within n m)
-unfolding within all
+unfolding all
 is-within zero [] h = tt
 is-within zero (e ∷ m) h = let q : 0 ≡ e = omega (arith, h .0) in and-i (eqb 0 e) (within zero m) (subst (λ k. T (eqb 0 k)) q (eqb-refl 0)) (is-within zero m (h .1))
 is-within (suc n) [] h = tt

@@ -7,7 +7,6 @@ use borrow.Author.Needs.{needs}
 use lib.Dec.{eqb}
 use lib.ListN.{length}
 use Rattle.monomial.specs.Monomial.{width}
-use Rattle.monomial.specs.Degree.{within}
 use Rattle.monomial.proofs.Loops.{CheckingFrom, from-fails, from-on, from-ends}
 use Rattle.monomial.proofs.Monomial.is_within.Statement.{statement}
 use Rattle.monomial.proofs.Monomial.is_within.Tie as tie
@@ -25,7 +24,6 @@ array-read-if1 : tie.Need-array-read-if1 Inv-loop μ-loop
 array-read-if1 c = search needs
 
 returns : tie.Need-returns Inv-loop μ-loop
-unfolding within
 returns c =
     let l : length (c .before .before .before .before .args .self .e) ≡ width = search needs in
     from-fails 0 (c .before .before .loop .inv) (omega arith) (ne-eqb 0 _ (λ e. c .if1 .taken (sym e)))
@@ -42,7 +40,6 @@ loop-again c =
     from-on 0 (c .before .before .loop .inv) (omega arith) (eq-eqb 0 _ (sym (c .if1 .left)))
 
 returns-2 : tie.Need-returns-2 Inv-loop μ-loop
-unfolding within
 returns-2 c =
     let l : length (c .before .before .before .args .self .e) ≡ width = search needs in
     from-ends 0 (c .before .loop .inv) (omega arith)
