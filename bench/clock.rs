@@ -1,6 +1,6 @@
 // Times a planning.
 
-use crate::panel::CAP;
+use crate::panel::{CAP, FULL_DEGREE};
 use crate::systems::System;
 use std::hint::black_box;
 
@@ -23,7 +23,7 @@ fn now() -> f64 {
     t.seconds as f64 + 1e-9 * t.nanoseconds as f64
 }
 
-pub type Plan = fn(u64, u64, u64, u64, &[u8], &mut [u8]) -> [u64; 5];
+pub type Plan = fn(u64, u64, u64, u64, u64, &[u8], &mut [u8]) -> [u64; 5];
 
 // The reply, and the seconds of one walk.
 pub fn once(plan: Plan, s: &System, repeats: u64, out: &mut [u8]) -> ([u64; 5], f64) {
@@ -31,7 +31,8 @@ pub fn once(plan: Plan, s: &System, repeats: u64, out: &mut [u8]) -> ([u64; 5], 
     let mut five = [0; 5];
     let began = now();
     for _ in 0..repeats {
-        five = black_box(plan(black_box(s.n), black_box(s.marks), CAP, s.limit, black_box(terms), out));
+        let (n, marks, degree) = black_box((s.n, s.marks, FULL_DEGREE));
+        five = black_box(plan(n, marks, degree, CAP, s.limit, black_box(terms), out));
     }
     (five, (now() - began) / repeats as f64)
 }

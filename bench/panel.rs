@@ -9,11 +9,15 @@ pub const TERMS: usize = 32;
 pub const EXPONENTS_AT: usize = 2;
 pub const COEFFICIENT_AT: usize = EXPONENTS_AT + VARIABLES;
 pub const TERM_BYTES: usize = COEFFICIENT_AT + 4;
+pub const TERM_EXPONENT: u64 = 9;
 
 pub const SET_BYTES: usize = VARIABLES * CARDS;
+pub const SET_EXPONENT: u64 = CARDS as u64 * TERM_EXPONENT;
 pub const WIRE_BYTES: usize = 8;
 
-// Planning goes to the last card, with room for a thousand sets. No wiring list is longer than WIRES.
+// Planning is for the full kit, whose limit no monomial of a set passes. It goes to the last card, with room for a
+// thousand sets. No wiring list is longer than WIRES.
+pub const FULL_DEGREE: u64 = VARIABLES as u64 * SET_EXPONENT;
 pub const CAP: u64 = CARDS as u64;
 pub const ROOM: usize = 1000 * SET_BYTES;
 pub const WIRES: usize = (1 + CARDS) * TERMS * WIRE_BYTES;

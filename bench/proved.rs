@@ -4,6 +4,7 @@ unsafe extern "C" {
     fn siragumon_wire(
         n: u64,
         marks: u64,
+        degree: u64,
         terms: *const u8,
         terms_len: usize,
         set: *const u8,
@@ -15,6 +16,7 @@ unsafe extern "C" {
     fn siragumon_thin(
         n: u64,
         marks: u64,
+        degree: u64,
         terms: *const u8,
         terms_len: usize,
         set: *const u8,
@@ -30,11 +32,12 @@ unsafe extern "C" {
 // Planning, by the name that it has in its archive.
 macro_rules! planning {
     ($name:ident, $symbol:ident) => {
-        pub fn $name(n: u64, marks: u64, cap: u64, limit: u64, terms: &[u8], out: &mut [u8]) -> [u64; 5] {
+        pub fn $name(n: u64, marks: u64, degree: u64, cap: u64, limit: u64, terms: &[u8], out: &mut [u8]) -> [u64; 5] {
             unsafe extern "C" {
                 fn $symbol(
                     n: u64,
                     marks: u64,
+                    degree: u64,
                     cap: u64,
                     limit: u64,
                     terms: *const u8,
@@ -46,7 +49,7 @@ macro_rules! planning {
             }
             let (from, len) = (terms.as_ptr(), terms.len());
             let mut five = [0; 5];
-            unsafe { $symbol(n, marks, cap, limit, from, len, out.as_mut_ptr(), out.len(), &mut five) };
+            unsafe { $symbol(n, marks, degree, cap, limit, from, len, out.as_mut_ptr(), out.len(), &mut five) };
             five
         }
     };
@@ -55,22 +58,23 @@ macro_rules! planning {
 planning!(plan, siragumon_plan);
 
 // Wiring and thinning are lent the same.
-type OnSet = unsafe extern "C" fn(u64, u64, *const u8, usize, *const u8, usize, *mut u8, usize, *mut [u64; 5]);
+type OnSet = unsafe extern "C" fn(u64, u64, u64, *const u8, usize, *const u8, usize, *mut u8, usize, *mut [u64; 5]);
 
 #[inline(always)]
-fn on_set(call: OnSet, n: u64, marks: u64, terms: &[u8], set: &[u8], out: &mut [u8]) -> [u64; 5] {
+fn on_set(call: OnSet, n: u64, marks: u64, degree: u64, terms: &[u8], set: &[u8], out: &mut [u8]) -> [u64; 5] {
+    let (from, len) = (terms.as_ptr(), terms.len());
     let mut five = [0; 5];
-    unsafe { call(n, marks, terms.as_ptr(), terms.len(), set.as_ptr(), set.len(), out.as_mut_ptr(), out.len(), &mut five) };
+    unsafe { call(n, marks, degree, from, len, set.as_ptr(), set.len(), out.as_mut_ptr(), out.len(), &mut five) };
     five
 }
 
 // The timing takes planning alone.
 #[allow(dead_code)]
-pub fn wire(n: u64, marks: u64, terms: &[u8], set: &[u8], out: &mut [u8]) -> [u64; 5] {
-    on_set(siragumon_wire, n, marks, terms, set, out)
+pub fn wire(n: u64, marks: u64, degree: u64, terms: &[u8], set: &[u8], out: &mut [u8]) -> [u64; 5] {
+    on_set(siragumon_wire, n, marks, degree, terms, set, out)
 }
 
 #[allow(dead_code)]
-pub fn thin(n: u64, marks: u64, terms: &[u8], set: &[u8], out: &mut [u8]) -> [u64; 5] {
-    on_set(siragumon_thin, n, marks, terms, set, out)
+pub fn thin(n: u64, marks: u64, degree: u64, terms: &[u8], set: &[u8], out: &mut [u8]) -> [u64; 5] {
+    on_set(siragumon_thin, n, marks, degree, terms, set, out)
 }

@@ -7,7 +7,7 @@ mod panel;
 mod proved;
 mod systems;
 
-use panel::{CAP, ROOM, SET_BYTES, SUBSETS, WIRES};
+use panel::{CAP, FULL_DEGREE, ROOM, SET_BYTES, SUBSETS, WIRES};
 use std::hint::black_box;
 
 // Several times what a call takes, and little enough for any thread.
@@ -55,17 +55,18 @@ fn main() {
         let mut most = [0; 3];
         for s in &g.systems {
             let terms = s.terms.as_flattened();
+            let (n, marks, degree) = (s.n, s.marks, FULL_DEGREE);
             let mut sets = vec![0; ROOM];
             let mut wires = vec![0; WIRES];
-            let plan = measured(&mut || proved::plan(s.n, s.marks, CAP, s.limit, black_box(terms), &mut sets));
+            let plan = measured(&mut || proved::plan(n, marks, degree, CAP, s.limit, black_box(terms), &mut sets));
             // The first set, or the empty one where planning is not done: the buffer is all zeros then.
             let set = &sets[..SET_BYTES];
-            let wire = measured(&mut || proved::wire(s.n, s.marks, black_box(terms), set, &mut wires));
+            let wire = measured(&mut || proved::wire(n, marks, degree, black_box(terms), set, &mut wires));
             // The verdict alone may go another way than a list.
-            let (_, verdict) = measured(&mut || proved::wire(s.n, s.marks, black_box(terms), set, &mut []));
+            let (_, verdict) = measured(&mut || proved::wire(n, marks, degree, black_box(terms), set, &mut []));
             let deepest = wire.1.max(verdict);
             let mut subsets = [0; SUBSETS];
-            let thin = measured(&mut || proved::thin(s.n, s.marks, black_box(terms), set, &mut subsets));
+            let thin = measured(&mut || proved::thin(n, marks, degree, black_box(terms), set, &mut subsets));
             print!("{:<28} {:>4} {:>7} {:>4} {:>7}", s.name, plan.0[1], plan.1, wire.0[0], deepest);
             println!(" {:>4} {:>7}", thin.0[0], thin.1);
             for (m, used) in most.iter_mut().zip([plan.1, deepest, thin.1]) {

@@ -45,6 +45,7 @@ enum Stop {
 struct Walk<'a, const CLOSING: bool> {
     n: usize,
     outside: Mono,
+    degree: u32,
     level: usize,
     limit: u64,
     steps: u64,
@@ -88,6 +89,11 @@ fn meets(m: Mono, outside: Mono) -> bool {
     met != 0
 }
 
+#[inline(always)]
+fn degree(m: Mono) -> u32 {
+    m.iter().map(|&e| e as u32).sum()
+}
+
 fn score(m: Mono) -> u64 {
     m.iter().map(|&e| e as u64 + 1).product()
 }
@@ -124,7 +130,7 @@ impl Signals {
 // Whether m is of the first n variables alone, and of degree below the bound.
 #[inline(always)]
 fn is_low(m: Mono, n: usize, bound: u32) -> bool {
-    m.iter().map(|&e| e as u32).sum::<u32>() < bound && m[n..].iter().all(|&e| e == 0)
+    degree(m) < bound && m[n..].iter().all(|&e| e == 0)
 }
 
 impl Set {
@@ -168,6 +174,12 @@ impl<const CLOSING: bool> Walk<'_, CLOSING> {
     #[inline(always)]
     fn terms(&self) -> &[Term] {
         &self.terms[..self.len]
+    }
+
+    // Whether a new monomial may be m: no signal from outside is in it, and its degree is within the kit's limit.
+    #[inline(always)]
+    fn may(&self, m: Mono) -> bool {
+        !meets(m, self.outside) && degree(m) <= self.degree
     }
 
     // The monomial of a term in the derivative of z.
@@ -272,7 +284,7 @@ impl<const CLOSING: bool> Walk<'_, CLOSING> {
                     continue;
                 }
                 let q = over(list[i], x);
-                if meets(q, self.outside) {
+                if !self.may(q) {
                     continue;
                 }
                 let mut left = often - 1;
@@ -395,9 +407,9 @@ impl<const CLOSING: bool> Walk<'_, CLOSING> {
             self.step()?;
             let new_a = !set.has(self.n, a);
             let new_b = a != b && !set.has(self.n, b);
-            // No new monomial contains a signal from outside; only a pair that has room is asked.
+            // Only a pair that has room is asked what it would add.
             let fits = set.len + new_a as usize + new_b as usize <= self.level;
-            if fits && !(new_a && meets(a, self.outside)) && !(new_b && meets(b, self.outside)) {
+            if fits && (!new_a || self.may(a)) && (!new_b || self.may(b)) {
                 let mut child = *set;
                 if new_a {
                     child.add(a);
@@ -416,6 +428,7 @@ impl<const CLOSING: bool> Walk<'_, CLOSING> {
 pub fn plan<const CLOSING: bool>(
     n: u64,
     marks: u64,
+    degree: u64,
     cap: u64,
     limit: u64,
     terms: &[u8],
@@ -425,6 +438,7 @@ pub fn plan<const CLOSING: bool>(
     let mut w = Walk::<CLOSING> {
         n: n as usize,
         outside: std::array::from_fn(|i| if marks >> i & 1 == 1 { u8::MAX } else { 0 }),
+        degree: degree as u32,
         level: 0,
         limit,
         steps: 0,

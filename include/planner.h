@@ -47,7 +47,7 @@ enum siragumon_code {
        thin: all smallest quadratic subsets of the set; order: size of a subset, count of subsets, steps: all subsets
        of the set, 2 to the power of its size. */
     SIRAGUMON_DONE = 0,
-    /* n, cap or limit out of range, or a mark beyond xn. */
+    /* n, cap or limit out of range, a mark beyond xn, or a degree that no kit has. */
     SIRAGUMON_SETTING = 1,
     /* terms_len is no multiple of SIRAGUMON_TERM_BYTES or over SIRAGUMON_TERMS_BYTES; set_len is not
        SIRAGUMON_SET_BYTES. */
@@ -57,7 +57,8 @@ enum siragumon_code {
     SIRAGUMON_TERM = 3,
     /* A term record repeats an earlier one's equation and exponents; place: the later record. */
     SIRAGUMON_TWICE = 4,
-    /* plan: no set with at most cap new signals, none of them with a marked variable; order: cap + 1, steps. */
+    /* plan: no set with at most cap new signals, none of them with a marked variable or above the kit's limit; order:
+       cap + 1, steps. */
     SIRAGUMON_NONE = 5,
     /* plan: more sets than `out` holds; order: the level, steps with the finding step.
        wire: the set is quadratic, and its list is longer than `out` holds; order: size of the set.
@@ -65,7 +66,7 @@ enum siragumon_code {
     SIRAGUMON_FULL = 6,
     /* plan: the next step would pass the limit; order: the level of the step not taken, steps: the limit. */
     SIRAGUMON_SPENT = 7,
-    /* The set record breaks its rule, as does a monomial with a marked variable. */
+    /* The set record breaks its rule, as does a monomial with a marked variable or above the kit's limit. */
     SIRAGUMON_SET = 8,
     /* The set is not quadratic; order: its size, place: number of the first signal whose derivative no products of two
        signals make up. It is never a marked variable. */
@@ -107,11 +108,22 @@ enum siragumon_code {
 
 /*
  * A set record: a monomial for each card (exponents 0 to SIRAGUMON_SET_EXPONENT_MOST, zero beyond xn and for marked
- * variables), strictly ascending, none of them 1 or a single variable, then zeros for unused places. All zeros are the
- * empty set.
+ * variables, their sum at most `degree`), strictly ascending, none of them 1 or a single variable, then zeros for
+ * unused places. All zeros are the empty set.
  */
 #define SIRAGUMON_SET_EXPONENT_MOST (SIRAGUMON_CARDS * SIRAGUMON_EXPONENT_MOST)
 #define SIRAGUMON_SET_BYTES (SIRAGUMON_CARDS * SIRAGUMON_VARIABLES)
+
+/*
+ * The kit's limit, `degree`: no new signal has a total degree, the sum of its exponents, above it. Terms may.
+ *
+ * A junior kit has no cascade bus, and its limit is printed on it: SIRAGUMON_JUNIOR_LEAST to SIRAGUMON_JUNIOR_MOST. The
+ * full kit's is SIRAGUMON_FULL_DEGREE and leaves nothing out: no monomial of a set record is above it, nor any of a set
+ * that planning opens. No kit has another limit.
+ */
+#define SIRAGUMON_JUNIOR_LEAST 2
+#define SIRAGUMON_JUNIOR_MOST 9
+#define SIRAGUMON_FULL_DEGREE (SIRAGUMON_VARIABLES * SIRAGUMON_SET_EXPONENT_MOST)
 
 /* The most subsets that a set has: each signal is kept or dropped. */
 #define SIRAGUMON_SUBSETS_MOST (1 << SIRAGUMON_CARDS)
@@ -131,12 +143,14 @@ enum siragumon_code {
 
 /*
  * Plans: finds all smallest sets of new signals that make the system quadratic, up to `cap` of them (0 to
- * SIRAGUMON_CARDS), within `limit` steps (1 to SIRAGUMON_STEPS_MOST). They are the smallest of the sets that contain no
- * marked variable. `out` holds out_len / SIRAGUMON_SET_BYTES sets, rounded down; they are written ascending. A step is a
- * set that is opened or a pair of factors that is tried; of a set that counting shows to need too many more no pair is.
+ * SIRAGUMON_CARDS), within `limit` steps (1 to SIRAGUMON_STEPS_MOST). They are the smallest among the sets that the kit
+ * can build: those that contain no marked variable and no monomial above its limit. `out` holds
+ * out_len / SIRAGUMON_SET_BYTES sets, rounded down; they are written ascending. A step is a set that is opened or a
+ * pair of factors that is tried. A pair that would add what the kit cannot build opens nothing, and of a set that
+ * counting shows to need too many more no pair is tried.
  */
-void siragumon_plan(uint64_t n, uint64_t marks, uint64_t cap, uint64_t limit, const uint8_t *terms, size_t terms_len,
-                    uint8_t *out, size_t out_len, uint64_t five[SIRAGUMON_NUMBERS]);
+void siragumon_plan(uint64_t n, uint64_t marks, uint64_t degree, uint64_t cap, uint64_t limit, const uint8_t *terms,
+                    size_t terms_len, uint8_t *out, size_t out_len, uint64_t five[SIRAGUMON_NUMBERS]);
 
 /*
  * Wires: says whether a set of new signals makes the system quadratic, and writes the wiring list of one that does: for
@@ -147,8 +161,9 @@ void siragumon_plan(uint64_t n, uint64_t marks, uint64_t cap, uint64_t limit, co
  * that it is not. Who wants this verdict alone lends an `out` of length 0: then SIRAGUMON_FULL says that the set is
  * quadratic and its list is not empty, SIRAGUMON_DONE that it is quadratic and its list is empty.
  */
-void siragumon_wire(uint64_t n, uint64_t marks, const uint8_t *terms, size_t terms_len, const uint8_t *set,
-                    size_t set_len, uint8_t *out, size_t out_len, uint64_t five[SIRAGUMON_NUMBERS]);
+void siragumon_wire(uint64_t n, uint64_t marks, uint64_t degree, const uint8_t *terms, size_t terms_len,
+                    const uint8_t *set, size_t set_len, uint8_t *out, size_t out_len,
+                    uint64_t five[SIRAGUMON_NUMBERS]);
 
 /*
  * Thins: finds all smallest quadratic subsets of a quadratic set, which the set itself and the empty set may be. They
@@ -156,8 +171,9 @@ void siragumon_wire(uint64_t n, uint64_t marks, const uint8_t *terms, size_t ter
  * out_len / SIRAGUMON_SET_BYTES subsets, rounded down; they are written ascending, and each of them can be wired.
  * SIRAGUMON_SUBSETS_BYTES are always enough.
  */
-void siragumon_thin(uint64_t n, uint64_t marks, const uint8_t *terms, size_t terms_len, const uint8_t *set,
-                    size_t set_len, uint8_t *out, size_t out_len, uint64_t five[SIRAGUMON_NUMBERS]);
+void siragumon_thin(uint64_t n, uint64_t marks, uint64_t degree, const uint8_t *terms, size_t terms_len,
+                    const uint8_t *set, size_t set_len, uint8_t *out, size_t out_len,
+                    uint64_t five[SIRAGUMON_NUMBERS]);
 
 #ifdef __cplusplus
 }

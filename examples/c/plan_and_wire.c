@@ -1,11 +1,12 @@
-/* Plans x1' = x1^4 + x1^3 and wires the first set. Ends with status 1 where the box says anything but done. */
+/* Plans x1' = x1^4 + x1^3 for the full kit, and wires the first set. Ends with status 1 where the box says anything but
+   done. */
 #include "planner.h"
 
 /* Declared here and not by <stdio.h>: so the example is compiled for x86-64 on a machine that has only its own C
    headers. */
 extern int printf(const char *format, ...);
 
-enum { N = 1, CAP = SIRAGUMON_CARDS, LIMIT = 1000000, ROOM = 1000 };
+enum { N = 1, KIT = SIRAGUMON_FULL_DEGREE, CAP = SIRAGUMON_CARDS, LIMIT = 1000000, ROOM = 1000 };
 
 static const uint8_t terms[] = {
     1, 0, 4, 0, 0, 0, 0, 0, 1, 0, 0, 0,
@@ -55,7 +56,7 @@ static void print_wire(const uint8_t *wire, const uint8_t *set) {
 int main(void) {
     uint64_t five[SIRAGUMON_NUMBERS];
 
-    siragumon_plan(N, SIRAGUMON_NO_MARKS, CAP, LIMIT, terms, sizeof terms, sets, sizeof sets, five);
+    siragumon_plan(N, SIRAGUMON_NO_MARKS, KIT, CAP, LIMIT, terms, sizeof terms, sets, sizeof sets, five);
     if (five[SIRAGUMON_CODE] != SIRAGUMON_DONE) {
         printf("planning says %d\n", (int)five[SIRAGUMON_CODE]);
         return 1;
@@ -64,7 +65,8 @@ int main(void) {
     printf("%d smallest sets of %d new signals, after %d steps\n", (int)five[SIRAGUMON_COUNT], size, (int)five[SIRAGUMON_STEPS]);
     for (int i = 0; i < (int)five[SIRAGUMON_COUNT]; i++) print_set(sets + SIRAGUMON_SET_BYTES * i, size);
 
-    siragumon_wire(N, SIRAGUMON_NO_MARKS, terms, sizeof terms, sets, SIRAGUMON_SET_BYTES, wires, sizeof wires, five);
+    siragumon_wire(N, SIRAGUMON_NO_MARKS, KIT, terms, sizeof terms, sets, SIRAGUMON_SET_BYTES, wires, sizeof wires,
+                   five);
     if (five[SIRAGUMON_CODE] != SIRAGUMON_DONE) {
         printf("wiring says %d\n", (int)five[SIRAGUMON_CODE]);
         return 1;

@@ -5,6 +5,11 @@ use crate::panel::VARIABLES;
 /// An exponent for each variable, as the box holds a monomial.
 pub type Exponents = [u8; VARIABLES];
 
+/// The total degree of a monomial.
+pub fn degree(exponents: &Exponents) -> u64 {
+    exponents.iter().map(|&e| u64::from(e)).sum()
+}
+
 /// `x^2*y`; `1` where all exponents are 0.
 pub fn monomial(names: &[String], exponents: &Exponents) -> String {
     let factors: Vec<String> = names
@@ -65,6 +70,11 @@ mod tests {
         assert_eq!(monomial(&names, &[0; VARIABLES]), "1");
         assert_eq!(monomial(&names, &[1, 0, 0, 0, 0, 0]), "x");
         assert_eq!(monomial(&names, &[2, 1, 10, 0, 0, 0]), "x^2*y*z^10");
+    }
+
+    #[test]
+    fn degrees() {
+        assert_eq!([[0; VARIABLES], [2, 1, 0, 0, 0, 1], [255; VARIABLES]].map(|e| degree(&e)), [0, 4, 1530]);
     }
 
     #[test]

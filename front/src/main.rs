@@ -23,8 +23,9 @@ use drawing::{sheet, svg};
 use patch::Patch;
 use saying::help::help;
 use saying::report::{Drawn, Report};
+use saying::searched::Searched;
 use saying::watch::Watch;
-use saying::{export, report, words};
+use saying::{export, report};
 use typed::given::Aim;
 use typed::options::Options;
 use typed::settings::Settings;
@@ -121,9 +122,10 @@ fn ask(system: &System, settings: &Settings) -> Result<Answer, String> {
     let runner =
         std::env::var(RUNNER).map_err(|_| format!("{RUNNER} does not say how to run the planner; use ./plan"))?;
     let terms = records.iter().flat_map(Record::bytes).collect();
-    let planner = Planner { runner, n: system.names.len(), marks: system.marks(), terms };
+    let degree = settings.degree.clone();
+    let planner = Planner { runner, n: system.names.len(), marks: system.marks(), degree, terms };
     let Some(given) = &system.given else {
-        return plan(&planner, settings, &system.outside());
+        return plan(&planner, settings, &Searched::of(system, settings));
     };
     match (given.set(), given.aim) {
         (None, _) => Ok(Answer::refused(SET, 0)),
@@ -132,17 +134,17 @@ fn ask(system: &System, settings: &Settings) -> Result<Answer, String> {
     }
 }
 
-fn plan(planner: &Planner, settings: &Settings, outside: &[&str]) -> Result<Answer, String> {
+fn plan(planner: &Planner, settings: &Settings, searched: &Searched) -> Result<Answer, String> {
     let began = Instant::now();
-    let watch = std::cell::RefCell::new(Watch::new(std::io::stderr(), std::io::stderr().is_terminal()));
+    let watch = Watch::new(std::io::stderr(), std::io::stderr().is_terminal(), searched);
+    let watch = std::cell::RefCell::new(watch);
     let mut known = String::new();
     let answer = climb::climb(
         settings,
         |settings| planner.ask(settings, || watch.borrow_mut().tick(began.elapsed())),
         |cards, steps| {
-            let excluded = words::excluded(cards, outside);
-            watch.borrow_mut().shown(cards, &excluded, steps, began.elapsed());
-            known = format!("; what it had shown: {excluded}");
+            watch.borrow_mut().shown(cards, steps, began.elapsed());
+            known = format!("; what it had shown: {}", searched.excluded(cards));
         },
     );
     watch.borrow_mut().end();

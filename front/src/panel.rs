@@ -22,6 +22,12 @@ pub const TERM_BYTES: usize = COEFFICIENT_AT + std::mem::size_of::<i32>();
 pub const SET_BYTES: usize = CARDS as usize * VARIABLES;
 pub const SET_POWER: u128 = CARDS as u128 * POWER;
 
+/// The total degree of a new signal, at most: the least and the most that is printed on a junior kit, and what stands
+/// for the full kit, which no signal of a set record passes.
+pub const LEAST_DEGREE: u64 = 2;
+pub const MOST_DEGREE: u64 = 9;
+pub const FULL_DEGREE: u64 = VARIABLES as u64 * SET_POWER as u64;
+
 /// Steps of a search: at most, and where none are typed.
 pub const STEPS: u64 = 1_000_000_000;
 pub const USUAL_STEPS: u64 = 1_000_000;

@@ -2,6 +2,7 @@
 
 use crate::algebra::Exponents;
 use crate::asking::answer::{planned, thinned, wired, Answer};
+use crate::panel::FULL_DEGREE;
 use crate::patch::Patch;
 use crate::typed::given::{self, Aim};
 use crate::typed::names::Kind;
@@ -13,7 +14,7 @@ const RECORDED: &str = include_str!("../tests/recorded");
 /// What the program wrote. The call must be one that a case of front/tests/cases makes.
 fn written(system: &System, words: &str, input: &[u8]) -> String {
     let hex: String = input.iter().map(|byte| format!("{byte:02x}")).collect();
-    let call = format!("ask {} {}{words} [{hex}]", system.names.len(), system.marks());
+    let call = format!("ask {} {} {words} [{hex}]", system.names.len(), system.marks());
     let mut lines = RECORDED.lines();
     assert!(lines.by_ref().any(|line| line == call), "not recorded: {call}");
     lines.take_while(|line| !line.starts_with("ask ")).map(|line| format!("{line}\n")).collect()
@@ -25,16 +26,16 @@ fn terms(system: &System) -> Vec<u8> {
 
 /// The plan for a system.
 pub fn plan(system: &System, settings: &Settings) -> Answer {
-    let Settings { cards, steps, sets, which } = settings;
-    let words = format!(" {} {} {} {which}", cards.digits(), steps.digits(), sets.digits());
+    let Settings { cards, steps, sets, degree, which } = settings;
+    let words = format!("{} {} {} {} {which}", degree.digits(), cards.digits(), steps.digits(), sets.digits());
     planned(system.names.len(), &written(system, &words, &terms(system))).unwrap()
 }
 
-/// The set that is given with a system, and what the program wrote of it.
+/// The set that is given with a system, and what the program wrote of it for the full kit.
 fn of_set(system: &System, words: &str) -> (Vec<Exponents>, String) {
     let set = system.given.as_ref().unwrap().set().unwrap();
     let input = [&given::record(&set)[..], &terms(system)].concat();
-    let text = written(system, words, &input);
+    let text = written(system, &format!("{FULL_DEGREE}{words}"), &input);
     (set, text)
 }
 

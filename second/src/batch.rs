@@ -1,6 +1,6 @@
 //! Batches: cases side by side as bytes, and one line of answer for each.
 //!
-//! All numbers are low byte first. A case is a head of 40 bytes, then its
+//! All numbers are low byte first. A case is a head of 48 bytes, then its
 //! terms, then its set:
 //!
 //! | bytes | meaning |
@@ -9,12 +9,16 @@
 //! | 1 | length of the set |
 //! | 2-3 | length of the terms, at most 600 |
 //! | 4-7 | length of the answer buffer, at most 65,536 |
-//! | 8-15, 16-23 | n, marks |
-//! | 24-31, 32-39 | K, limit (planning's alone) |
+//! | 8-15, 16-23, 24-31 | n, marks, degree |
+//! | 32-39, 40-47 | K, limit (planning's alone) |
 
+use crate::degree::Degree;
 use crate::marks::Marks;
 use crate::operations::{plan_by, thin, wire};
+use crate::panel::FULL_DEGREE;
 use crate::reply::Reply;
+use crate::setting::Setting;
+use crate::system::System;
 use crate::walk::Hopeless;
 use std::fmt::Write;
 
@@ -56,6 +60,7 @@ pub struct Case {
     pub operation: Operation,
     pub n: u64,
     pub marks: u64,
+    pub degree: u64,
     pub cap: u64,
     pub limit: u64,
     pub buffer: usize,
@@ -69,6 +74,7 @@ impl Case {
             operation: Operation::Plan,
             n,
             marks: 0,
+            degree: FULL_DEGREE,
             cap,
             limit,
             buffer,
@@ -82,6 +88,7 @@ impl Case {
             operation: Operation::Wire,
             n,
             marks: 0,
+            degree: FULL_DEGREE,
             cap: 0,
             limit: 0,
             buffer,
@@ -105,13 +112,35 @@ impl Case {
         }
     }
 
+    /// The same case with this limit on the degree.
+    pub fn limited(self, degree: Degree) -> Case {
+        Case {
+            degree: degree.0,
+            ..self
+        }
+    }
+
+    /// The same case with the marks and the limit of a system.
+    pub fn kit_of(self, system: &System) -> Case {
+        self.marked(system.marks).limited(system.degree)
+    }
+
+    /// What the operation is told before all else.
+    pub fn setting(&self) -> Setting {
+        Setting {
+            n: self.n,
+            marks: Marks(self.marks),
+            degree: Degree(self.degree),
+        }
+    }
+
     /// Appends the case to a batch.
     pub fn write(&self, batch: &mut Vec<u8>) {
         batch.push(self.operation as u8);
         batch.push(self.set.len() as u8);
         batch.extend((self.terms.len() as u16).to_le_bytes());
         batch.extend((self.buffer as u32).to_le_bytes());
-        for number in [self.n, self.marks, self.cap, self.limit] {
+        for number in [self.n, self.marks, self.degree, self.cap, self.limit] {
             batch.extend(number.to_le_bytes());
         }
         batch.extend(&self.terms);
@@ -125,20 +154,13 @@ impl Case {
 
     /// The same where planning does so with hopeless sets.
     pub fn answer_by(&self, hopeless: Hopeless) -> (Reply, Vec<u8>) {
-        let Case {
-            n,
-            marks,
-            cap,
-            limit,
-            terms,
-            set,
-            ..
-        } = self;
+        let Case { terms, set, .. } = self;
+        let setting = self.setting();
         let mut buffer = vec![UNTOUCHED; self.buffer];
         let reply = match self.operation {
-            Operation::Plan => plan_by(hopeless, *n, *marks, *cap, *limit, terms, &mut buffer),
-            Operation::Wire => wire(*n, *marks, terms, set, &mut buffer),
-            Operation::Thin => thin(*n, *marks, terms, set, &mut buffer),
+            Operation::Plan => plan_by(hopeless, setting, self.cap, self.limit, terms, &mut buffer),
+            Operation::Wire => wire(setting, terms, set, &mut buffer),
+            Operation::Thin => thin(setting, terms, set, &mut buffer),
         };
         (reply, buffer)
     }
@@ -230,6 +252,7 @@ impl<'a> Cases<'a> {
             operation,
             n: self.number()?,
             marks: self.number()?,
+            degree: self.number()?,
             cap: self.number()?,
             limit: self.number()?,
             buffer,
@@ -279,6 +302,8 @@ mod tests {
             Case::thin(2, vec![3; 24], vec![2; 36], 71),
             Case::plan(1, 2, 3, 4, vec![]).marked(Marks(u64::MAX)),
             Case::wire(4, vec![9], vec![8], 0).marked(Marks(1 << 63)),
+            Case::plan(1, 2, 3, 4, vec![]).limited(Degree(u64::MAX)),
+            Case::thin(5, vec![7], vec![6], 1).limited(Degree(2)),
         ]
     }
 
@@ -304,6 +329,7 @@ mod tests {
             operation: Operation::Wire,
             n,
             marks: 0x0d0c,
+            degree: 0x0f0e,
             cap: 2,
             limit: 0x0a09,
             buffer: 0x0001_0000,
@@ -314,10 +340,11 @@ mod tests {
         assert_eq!(batch[..8], [2, 36, 1, 2, 0, 0, 1, 0]);
         assert_eq!(batch[8..16], [1, 2, 3, 4, 5, 6, 7, 8]);
         assert_eq!(batch[16..24], [12, 13, 0, 0, 0, 0, 0, 0]);
-        assert_eq!(batch[24..32], [2, 0, 0, 0, 0, 0, 0, 0]);
-        assert_eq!(batch[32..40], [9, 10, 0, 0, 0, 0, 0, 0]);
-        assert_eq!(batch.len(), 40 + 0x0201 + 36);
-        assert_eq!(batch[40 + 0x0201], 8);
+        assert_eq!(batch[24..32], [14, 15, 0, 0, 0, 0, 0, 0]);
+        assert_eq!(batch[32..40], [2, 0, 0, 0, 0, 0, 0, 0]);
+        assert_eq!(batch[40..48], [9, 10, 0, 0, 0, 0, 0, 0]);
+        assert_eq!(batch.len(), 48 + 0x0201 + 36);
+        assert_eq!(batch[48 + 0x0201], 8);
     }
 
     #[test]
@@ -365,7 +392,7 @@ mod tests {
         long_terms.extend([0; 601]);
         let mut long_buffer = good.clone();
         long_buffer[4..8].copy_from_slice(&65_537_u32.to_le_bytes());
-        let short_head = good[..39].to_vec();
+        let short_head = good[..47].to_vec();
         let short_set = good[..good.len() - 1].to_vec();
         for broken in [unknown, none, long_terms, long_buffer] {
             let batch = [good.clone(), broken, good.clone()].concat();

@@ -1,5 +1,5 @@
-//! The counting rule that closes hopeless sets (document 02, [4]; document 001,
-//! section 5.1).
+//! The counting rule that closes hopeless sets (document 02, [4] and [6]; document
+//! 001, section 5.1).
 //!
 //! Whoever adds r monomials to a set makes nonsquares into products of two: of an
 //! added one and a member of V, or of two added ones. Of the first kind each added
@@ -12,7 +12,8 @@ use crate::system::{Set, System};
 use std::collections::{BTreeMap, BTreeSet};
 
 /// How often each quotient of a nonsquare and a member of V occurs. No marked
-/// variable can be in an added monomial, so that quotients with one are left out.
+/// variable can be in an added monomial, and none can be above the limit on the
+/// degree, so that such quotients are left out.
 pub fn quotients(
     system: &System,
     set: &Set,
@@ -23,7 +24,7 @@ pub fn quotients(
     for &nonsquare in nonsquares {
         for &member in signals.iter().filter(|member| member.divides(nonsquare)) {
             let quotient = nonsquare.over(member);
-            if !system.marks.touch(quotient) {
+            if system.takes(quotient) {
                 *counts.entry(quotient).or_insert(0) += 1;
             }
         }

@@ -8,7 +8,7 @@ use crate::panel::{CARDS, MOST_CAP, SET_BYTES};
 use crate::random::Random;
 use crate::records::write_terms;
 use crate::system::System;
-use crate::systems::{self, Outside};
+use crate::systems::{self, Kit, Outside};
 use crate::walk::Hopeless;
 
 /// Planning alone.
@@ -16,6 +16,7 @@ pub const CLOSING: Mix = Mix {
     asks: &[Ask::Plan],
     given: &[],
     outside: Outside::Nothing,
+    kit: Kit::Full,
     hopeless: Hopeless::Closed,
     shares: &[
         (24, Maker::around_six_terms),
@@ -44,9 +45,10 @@ impl Maker {
     }
 
     /// The cases around the own walk of a system that is made and fed so.
-    fn around(&mut self, made: fn(&mut Random) -> System, outside: Outside) {
+    pub fn around(&mut self, made: fn(&mut Random) -> System, outside: Outside) {
         let system = made(&mut self.random);
         let system = outside.feed(&mut self.random, system);
+        let system = self.kit().limit(&mut self.random, system);
         let cap = match self.random.below(10) {
             0..=4 => MOST_CAP,
             _ => self.random.between(1, CARDS) as u64,
@@ -69,7 +71,7 @@ impl Maker {
             let cap = self.random.pick(&[4, 5, MOST_CAP, MOST_CAP]);
             let terms = write_terms(&system.terms);
             let plan = Case::plan(system.n as u64, cap, limit, MOST_CASE_BUFFER, terms);
-            let plan = plan.marked(system.marks);
+            let plan = plan.kit_of(&system);
             let closed = plan.answer().0;
             if closed.code != 7 && plan.answer_by(Hopeless::Tried).0.code == 7 {
                 break (plan, closed.steps, closed.count as usize);

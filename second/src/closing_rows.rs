@@ -119,7 +119,7 @@ fn around_each_end_with_signals() -> Vec<Case> {
 
 /// So many nonsquares of the empty set, all in the first equation: powers and
 /// products of x2 to x6, the lowest first.
-fn nonsquares(count: usize) -> Vec<Term> {
+pub fn nonsquares(count: usize) -> Vec<Term> {
     let mut monomials = Vec::new();
     for degree in 3..=9 {
         for i in 1..VARIABLES {
@@ -153,20 +153,25 @@ fn as_many_as_can_be_made() -> Vec<Case> {
         };
         for marks in [Marks::NONE, signals] {
             let system = System {
-                n: VARIABLES,
                 marks,
-                terms: nonsquares(count),
+                ..System::unmarked(VARIABLES, nonsquares(count))
             };
-            let empty = Set::new();
-            let lacks = lacks(&system, &empty, &system.nonsquares(&empty)) as u64;
-            for cap in [lacks - 1, lacks] {
-                let terms = write_terms(&system.terms);
-                let plan = Case::plan(system.n as u64, cap.min(CAP), 400, SET_BYTES, terms);
-                cases.push(plan.marked(marks));
-            }
+            cases.extend(around_what_it_lacks(&system));
         }
     }
     cases
+}
+
+/// Plans up to the level below what the empty set lacks, where it is closed, and up
+/// to that level, where it is not.
+pub fn around_what_it_lacks(system: &System) -> [Case; 2] {
+    let empty = Set::new();
+    let lacks = lacks(system, &empty, &system.nonsquares(&empty)) as u64;
+    [lacks - 1, lacks].map(|cap| {
+        let terms = write_terms(&system.terms);
+        let plan = Case::plan(system.n as u64, cap.min(CAP), 400, SET_BYTES, terms);
+        plan.kit_of(system)
+    })
 }
 
 /// So many steps are too few for the three-variable systems below where hopeless

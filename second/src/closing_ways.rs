@@ -3,20 +3,14 @@
 
 use crate::batch::Case;
 use crate::maker::stored_closing;
-use crate::marks::Marks;
 use crate::monomial::Monomial;
 use crate::panel::SET_BYTES;
 use crate::records::{read_terms, write_places};
 use crate::reply::Reply;
 use crate::system::{squares, Set, System};
+use crate::ways::{Answer, ENOUGH};
 use std::collections::{BTreeMap, BTreeSet};
 use std::sync::OnceLock;
-
-/// The reply, and the buffer after the call.
-type Answer = (Reply, Vec<u8>);
-
-/// So many cases at least show that a way is hasty.
-const ENOUGH: usize = 3;
 
 /// Ways of closing.
 #[derive(Clone, Copy, PartialEq, Eq, Debug)]
@@ -336,7 +330,7 @@ impl Walk<'_> {
 
 /// A plan in this way, with no more steps than a limit of its own.
 fn walked(case: &Case, way: Way, limit: u64) -> Answer {
-    let system = read_terms(case.n as usize, Marks(case.marks), &case.terms).expect("it is taken");
+    let system = read_terms(case.setting(), &case.terms).expect("it is taken");
     let mut walk = Walk {
         system: &system,
         way,

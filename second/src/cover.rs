@@ -2,11 +2,11 @@
 //! and how near the cases come to their own limits.
 
 use crate::batch::{Case, Operation};
+use crate::closing::lacks;
+use crate::degree::Degree;
 use crate::marks::Marks;
 use crate::monomial::Monomial;
-use crate::operations::{
-    cap_is_in_range, limit_is_in_range, n_is_in_range, variables_are_in_range,
-};
+use crate::operations::{cap_is_in_range, limit_is_in_range};
 use crate::panel::{
     MOST_COEFFICIENT, MOST_EXPONENT, MOST_LIMIT, MOST_SET_EXPONENT, MOST_WIRES_BYTES, SET_BYTES,
     TERM_BYTES, WIRE_BYTES,
@@ -15,6 +15,7 @@ use crate::records::{
     read_set, read_terms, set_faults, set_places, terms_have_a_length, Fields, SetFault, TermFault,
 };
 use crate::reply::{Reply, NAMES};
+use crate::setting::n_is_in_range;
 use crate::system::{Set, System, Term};
 use crate::thin_cover::Thinning;
 use crate::thinning::thinned;
@@ -54,6 +55,10 @@ impl Cover {
         if case.operation == Operation::Wire {
             self.lent(case, &reply);
         }
+        let degree = case.setting().degree;
+        if degree != Degree::FULL && degree.is_in_range() {
+            self.limited(case, &reply);
+        }
         match reply.code {
             1 => self.setting(case),
             2 => self.length(case),
@@ -75,6 +80,33 @@ impl Cover {
         }
     }
 
+    /// A case of a junior kit, beside the same one of the full kit.
+    fn limited(&mut self, case: &Case, reply: &Reply) {
+        let (operation, code) = (case.operation.name(), reply.code);
+        let name = format!("{operation}: degrees with code {code}");
+        self.number(name, case.degree);
+        let (full, _) = case.clone().limited(Degree::FULL).answer();
+        if full.code != code {
+            let before = full.code;
+            self.count(format!(
+                "{operation}: code {before} full kit, {code} junior"
+            ));
+        }
+        if case.operation == Operation::Plan && [full.code, code] == [0, 0] {
+            let facts = [
+                (reply.order > full.order, "larger sets"),
+                (reply.count < full.count, "fewer sets"),
+                (reply.count > full.count, "more sets"),
+                (reply.steps < full.steps, "fewer steps"),
+                (reply.steps > full.steps, "more steps"),
+                (*reply == full, "the same numbers"),
+            ];
+            for (_, name) in facts.into_iter().filter(|(holds, _)| *holds) {
+                self.count(format!("plan: {name} with a junior kit"));
+            }
+        }
+    }
+
     /// What is lent to wiring, by the code that answers it.
     fn lent(&mut self, case: &Case, reply: &Reply) {
         let code = reply.code;
@@ -92,11 +124,15 @@ impl Cover {
     }
 
     fn setting(&mut self, case: &Case) {
+        let (operation, setting) = (case.operation.name(), case.setting());
         if !n_is_in_range(case.n) {
-            self.number(format!("{}: n refused", case.operation.name()), case.n);
-        } else if !variables_are_in_range(case.n, case.marks) {
-            let name = format!("{}, n {}: marks refused", case.operation.name(), case.n);
+            self.number(format!("{operation}: n refused"), case.n);
+        } else if !setting.variables_are_in_range() {
+            let name = format!("{operation}, n {}: marks refused", case.n);
             self.number(name, case.marks);
+        }
+        if !setting.degree.is_in_range() {
+            self.number(format!("{operation}: degrees refused"), case.degree);
         }
         if case.operation == Operation::Plan {
             if !cap_is_in_range(case.cap) {
@@ -146,7 +182,7 @@ impl Cover {
             self.number(format!("code 4, {kind} coefficient: places"), place);
         }
         let later = &case.terms[(at + 1) * TERM_BYTES..];
-        if let Err(second) = read_terms(case.n as usize, Marks(case.marks), later) {
+        if let Err(second) = read_terms(case.setting(), later) {
             self.count(format!(
                 "code {code}: a later record has code {}",
                 second.code
@@ -155,12 +191,15 @@ impl Cover {
     }
 
     fn set_rule(&mut self, case: &Case) {
-        let faults = set_faults(case.n as usize, Marks(case.marks), &case.set);
+        let faults = set_faults(case.setting(), &case.set);
         let [fault] = faults[..] else {
             self.count("code 8: several rules broken");
             return;
         };
         self.count(format!("code 8: {fault}"));
+        if fault == SetFault::DegreeAbove {
+            self.above(case);
+        }
         for (j, monomial) in set_places(&case.set).iter().enumerate() {
             let Monomial(exponents) = monomial;
             if fault == SetFault::SingleVariable && monomial.is_variable() {
@@ -172,6 +211,23 @@ impl Cover {
                 let name = format!("code 8: exponents above {MOST_SET_EXPONENT}");
                 self.number(name, u64::from(exponent));
             }
+        }
+    }
+
+    /// Where a set is above its limit, and by what.
+    fn above(&mut self, case: &Case) {
+        let limit = case.degree;
+        let mut by_exponent = false;
+        for (j, monomial) in set_places(&case.set).iter().enumerate() {
+            if monomial.degree() > limit {
+                self.number("code 8: places above the limit", j as u64 + 1);
+                let name = format!("code 8, limit {limit}: degrees above it");
+                self.number(name, monomial.degree());
+            }
+            by_exponent |= monomial.0.iter().any(|&e| u64::from(e) > limit);
+        }
+        if !by_exponent {
+            self.count("code 8: degree above the limit, and no exponent");
         }
     }
 
@@ -234,10 +290,16 @@ impl Cover {
         let room = case.buffer / SET_BYTES;
         let cap = case.cap as usize;
         let walked = walk(&system, Hopeless::Closed, cap, case.limit, room);
-        for room in walked.closed {
-            self.number("plan: room for what is closed", room as u64);
+        let full = system.clone().limited(Degree::FULL);
+        for (level, set) in walked.closed {
+            let room = (level - set.len()) as u64;
+            self.number("plan: room for what is closed", room);
             if system.marks != Marks::NONE {
-                self.number("plan: room for what is closed, with signals", room as u64);
+                self.number("plan: room for what is closed, with signals", room);
+            }
+            let junior = system.degree != Degree::FULL;
+            if junior && set.len() + lacks(&full, &set, &full.nonsquares(&set)) <= level {
+                self.number("plan: room for what a junior kit alone closes", room);
             }
         }
         if case.limit <= FAR {
@@ -412,27 +474,27 @@ fn broken(record: &Fields, case: &Case) -> String {
 
 /// The system and the set (empty for planning) where both are good.
 fn good_input(case: &Case) -> Option<(System, Set)> {
-    if !variables_are_in_range(case.n, case.marks) || !terms_have_a_length(&case.terms) {
+    let setting = case.setting();
+    if !setting.is_in_range() || !terms_have_a_length(&case.terms) {
         return None;
     }
-    let (n, marks) = (case.n as usize, Marks(case.marks));
-    let system = read_terms(n, marks, &case.terms).ok()?;
+    let system = read_terms(setting, &case.terms).ok()?;
     if case.operation == Operation::Plan {
         return Some((system, Set::new()));
     }
     if case.set.len() != SET_BYTES {
         return None;
     }
-    Some((system, read_set(n, marks, &case.set).ok()?))
+    Some((system, read_set(setting, &case.set).ok()?))
 }
 
 /// The codes of all refusals that the case would give, each rule by itself.
 fn all_faults(case: &Case) -> BTreeSet<u64> {
     let mut codes = BTreeSet::new();
     let planning = case.operation == Operation::Plan;
-    let good_variables = variables_are_in_range(case.n, case.marks);
+    let setting = case.setting();
     let good_walk = cap_is_in_range(case.cap) && limit_is_in_range(case.limit);
-    if !good_variables || planning && !good_walk {
+    if !setting.is_in_range() || planning && !good_walk {
         codes.insert(1);
     }
     let good_terms = terms_have_a_length(&case.terms);
@@ -440,18 +502,19 @@ fn all_faults(case: &Case) -> BTreeSet<u64> {
     if !good_terms || !planning && !good_set {
         codes.insert(2);
     }
-    if !good_variables {
+    if !setting.variables_are_in_range() {
         return codes;
     }
-    let (n, marks) = (case.n as usize, Marks(case.marks));
     let whole = case.terms.len() / TERM_BYTES * TERM_BYTES;
-    if let Err(refusal) = read_terms(n, marks, &case.terms[..whole]) {
+    if let Err(refusal) = read_terms(setting, &case.terms[..whole]) {
         codes.insert(refusal.code);
     }
-    if !planning && good_set && read_set(n, marks, &case.set).is_err() {
+    if !planning && good_set && read_set(setting, &case.set).is_err() {
         codes.insert(8);
     }
-    if let Some((system, set)) = good_input(case).filter(|_| !planning) {
+    // A set above the limit is judged as the full kit would.
+    let unlimited = case.clone().limited(Degree::FULL);
+    if let Some((system, set)) = good_input(&unlimited).filter(|_| !planning) {
         if !system.is_quadratic(&set) {
             codes.insert(9);
         }
@@ -574,6 +637,33 @@ mod tests {
         }
         let empty = Case::thin(1, Vec::new(), set, 35);
         assert!(report_of(&[empty]).contains("thin: buffer one byte short for the empty set: 1\n"));
+    }
+
+    #[test]
+    fn junior_kits_are_recognised() {
+        let input = write_terms(&terms("x1' = x1^4 + x1^3"));
+        let plan = |limit| {
+            let plan = Case::plan(1, USUAL_CAP, 90, 3 * SET_BYTES, input.clone());
+            plan.limited(Degree(limit))
+        };
+        let set = set_of(&["x1^2", "x1^3"]);
+        let wiring = Case::wire(1, input.clone(), set, 0).limited(Degree(2));
+        let text = report_of(&[plan(2), plan(3), plan(4), plan(5), plan(10), wiring]);
+        for line in [
+            "plan: code 0 full kit, 5 junior: 1",
+            "plan: fewer sets with a junior kit: 1",
+            "plan: fewer steps with a junior kit: 2",
+            "plan: the same numbers with a junior kit: 1",
+            "plan: degrees with code 0: 3-5 (3)",
+            "plan: degrees refused: 10 (1)",
+            "wire: code 6 full kit, 8 junior: 1",
+            "code 8: degree above the limit: 1",
+            "code 8: places above the limit: 2 (1)",
+            "code 8, limit 2: degrees above it: 3 (1)",
+            "checks: 8 before 6: 1",
+        ] {
+            assert!(text.lines().any(|l| l == line), "{line} in\n{text}");
+        }
     }
 
     #[test]

@@ -197,6 +197,7 @@ mod tests {
     use crate::marks::Marks;
     use crate::panel::MOST_TERMS;
     use crate::records::{read_terms, set_faults, write_places, write_terms, Fields};
+    use crate::setting::Setting;
     use crate::systems;
 
     #[test]
@@ -208,7 +209,7 @@ mod tests {
                     let mut terms =
                         write_terms(&systems::run(&mut random, n, Marks::NONE, MOST_TERMS).terms);
                     break_term(&mut random, &mut terms, n, place, field);
-                    let refusal = read_terms(n, Marks::NONE, &terms).unwrap_err();
+                    let refusal = read_terms(Setting::full(n, Marks::NONE), &terms).unwrap_err();
                     assert_eq!(refusal.numbers(), [3, 0, 0, 0, place as u64]);
                     let broken = Fields::of(&terms[(place - 1) * TERM_BYTES..]);
                     assert_eq!(broken.faults(n, Marks::NONE).len(), 1);
@@ -228,7 +229,8 @@ mod tests {
                         let mut members: Vec<_> = set.into_iter().collect();
                         break_set(&mut random, &mut members, n, place, way);
                         assert!(members.len() <= CARDS);
-                        let faults = set_faults(n, Marks::NONE, &write_places(&members));
+                        let setting = Setting::full(n, Marks::NONE);
+                        let faults = set_faults(setting, &write_places(&members));
                         assert!(!faults.is_empty(), "{way:?} {n} {size} {place}");
                     }
                 }

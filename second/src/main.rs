@@ -11,6 +11,13 @@ mod closing_ways;
 mod closing_worked;
 mod cover;
 mod damage;
+mod degree;
+mod degree_maker;
+mod degree_rows;
+#[cfg(test)]
+mod degree_ways;
+#[cfg(test)]
+mod degree_worked;
 mod maker;
 mod mark_maker;
 mod mark_rows;
@@ -29,6 +36,7 @@ mod random;
 mod records;
 mod reply;
 mod rows;
+mod setting;
 mod show;
 mod system;
 mod systems;
@@ -39,6 +47,8 @@ mod thin_rows;
 mod thin_worked;
 mod thinning;
 mod walk;
+#[cfg(test)]
+mod ways;
 mod wire_cover;
 mod wire_maker;
 mod wire_rows;
@@ -55,7 +65,7 @@ usage: second program            term records in, document 01's lines out
        second answer             a batch in, one line of answer per case out
        second rows               the batch of fixed rows out
        second batch SEED COUNT   a random batch out
-       second stored             the stored batch out: the rows, then random cases
+       second stored             the stored batch out: rows and random cases of each kit
        second show [NUMBER]      a batch in, its cases (or one) written for a person
        second cover              a batch in, what it covers out
 ";

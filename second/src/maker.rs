@@ -9,6 +9,8 @@ use crate::closing_maker::CLOSING;
 #[cfg(test)]
 use crate::closing_rows;
 use crate::damage::{break_set, break_term, Field, FIELDS, WAYS};
+use crate::degree_maker::JUNIOR;
+use crate::degree_rows;
 use crate::mark_maker::MARKED;
 #[cfg(test)]
 use crate::mark_rows;
@@ -22,9 +24,9 @@ use crate::panel::{
 use crate::random::Random;
 use crate::records::{read_set, write_places, write_set, write_terms};
 use crate::reply::Reply;
-use crate::rows::rows;
+use crate::rows::full_kit;
 use crate::system::{Set, System};
-use crate::systems::{self, Outside};
+use crate::systems::{self, Kit, Outside};
 use crate::thin_maker::THINNING;
 use crate::thin_rows::as_thinning;
 use crate::walk::Hopeless;
@@ -35,17 +37,27 @@ const STORED_SEED: u64 = 1;
 const STORED_COUNT: usize = 4_400;
 const STORED_MARKED: usize = 320;
 const STORED_CLOSING: usize = 400;
+const STORED_JUNIOR: usize = 300;
 
-/// The batch that is stored: the fixed rows, then random cases.
+/// The batch that is stored: fixed rows, then random cases, of the full kit, and
+/// after them those of the junior kit.
 pub fn stored() -> Vec<Case> {
-    let mut cases = rows();
+    let mut cases = full_kit();
     cases.extend(first_unmarked(STORED_SEED, STORED_COUNT));
     cases.extend(first_marked(STORED_SEED, STORED_MARKED));
     cases.extend(first_closing(STORED_SEED, STORED_CLOSING));
+    cases.extend(stored_junior());
     cases
 }
 
-/// Of the stored cases those with marks.
+/// Of the stored cases those of the junior kit.
+pub fn stored_junior() -> Vec<Case> {
+    let mut cases = degree_rows::rows();
+    cases.extend(first_junior(STORED_SEED, STORED_JUNIOR));
+    cases
+}
+
+/// Of the stored cases of the full kit those with marks.
 #[cfg(test)]
 pub fn stored_marked() -> Vec<Case> {
     let mut cases = mark_rows::rows();
@@ -61,17 +73,26 @@ pub fn stored_closing() -> Vec<Case> {
     cases
 }
 
-/// Of each eight cases the last is one of the counting rule.
-const CLOSING_ROUND: usize = 8;
+/// Of each six cases the last is one of the junior kit.
+const JUNIOR_ROUND: usize = 6;
 
 /// The first so many cases that a seed gives.
 pub fn batch(seed: u64, count: usize) -> Vec<Case> {
+    let junior = count / JUNIOR_ROUND;
+    let others = first_full_kit(seed, count - junior);
+    with_last(JUNIOR_ROUND, others, first_junior(seed, junior))
+}
+
+/// Of each eight of the others the last is one of the counting rule.
+const CLOSING_ROUND: usize = 8;
+
+fn first_full_kit(seed: u64, count: usize) -> Vec<Case> {
     let closing = count / CLOSING_ROUND;
     let others = first_others(seed, count - closing);
     with_last(CLOSING_ROUND, others, first_closing(seed, closing))
 }
 
-/// Of each three of the others the last has marks.
+/// Of each three of the rest the last has marks.
 const MARKED_ROUND: usize = 3;
 
 fn first_others(seed: u64, count: usize) -> Vec<Case> {
@@ -124,6 +145,11 @@ fn first_closing(seed: u64, count: usize) -> Vec<Case> {
     first_cases(!seed.rotate_left(16), &CLOSING, count)
 }
 
+/// The cases of the junior kit, with random numbers of their own.
+fn first_junior(seed: u64, count: usize) -> Vec<Case> {
+    first_cases(!seed.rotate_left(48), &JUNIOR, count)
+}
+
 fn first_cases(seed: u64, mix: &'static Mix, count: usize) -> Vec<Case> {
     let mut maker = Maker {
         random: Random::from_seed(seed),
@@ -138,10 +164,12 @@ fn first_cases(seed: u64, mix: &'static Mix, count: usize) -> Vec<Case> {
         marks_beyond: 0,
         marked_records: 0,
         marked_sets: 0,
+        limits_refused: 0,
+        sets_above: 0,
         no_room: NoRoom::default(),
         noted: 0,
     };
-    maker.no_room.note(&rows());
+    maker.no_room.note(&full_kit());
     while maker.cases.len() < count {
         maker.group();
     }
@@ -167,6 +195,7 @@ pub struct Mix {
     /// Those that are given a set.
     pub given: &'static [Ask],
     pub outside: Outside,
+    pub kit: Kit,
     /// The walk that stories are laid around. Those from before document 02, [4]
     /// stay where they were, whatever becomes of their answers.
     pub hopeless: Hopeless,
@@ -180,6 +209,7 @@ const PLANNING: Mix = Mix {
     asks: &[Ask::Plan, Ask::Verdict, Ask::Wire],
     given: &[Ask::Verdict, Ask::Wire],
     outside: Outside::Nothing,
+    kit: Kit::Full,
     hopeless: Hopeless::Tried,
     shares: &[
         (15, Maker::around_a_plan),
@@ -257,6 +287,8 @@ pub struct Maker {
     pub marks_beyond: usize,
     pub marked_records: usize,
     pub marked_sets: usize,
+    pub limits_refused: usize,
+    pub sets_above: usize,
     no_room: NoRoom,
     /// How many cases it has taken note of.
     noted: usize,
@@ -284,7 +316,12 @@ impl Maker {
     /// A system for a story.
     pub fn any_system(&mut self) -> System {
         let system = systems::any(&mut self.random);
-        self.mix.outside.feed(&mut self.random, system)
+        let system = self.mix.outside.feed(&mut self.random, system);
+        self.mix.kit.limit(&mut self.random, system)
+    }
+
+    pub fn kit(&self) -> Kit {
+        self.mix.kit
     }
 
     /// What a plan says in the walk that its story is laid around.
@@ -301,7 +338,9 @@ impl Maker {
     pub fn set_with_system(&mut self) -> (System, Set) {
         let (n, marks) = self.variables(1, VARIABLES);
         let size = self.random.between(0, CARDS);
-        systems::around_a_set(&mut self.random, n, marks, size)
+        let (system, set) = systems::around_a_set(&mut self.random, n, marks, size);
+        let system = self.mix.kit.limit_near(&mut self.random, system, &set);
+        (system, set)
     }
 
     /// A set of any size that has nothing to do with its system.
@@ -314,7 +353,9 @@ impl Maker {
 
     /// Some signals, with whatever their derivatives call for.
     pub fn closed_set(&mut self) -> (System, Set) {
-        systems::closed(&mut self.random, self.mix.outside)
+        let (system, set) = systems::closed(&mut self.random, self.mix.outside);
+        let system = self.mix.kit.limit_near(&mut self.random, system, &set);
+        (system, set)
     }
 
     /// A system, a first plan with a generous limit, then some of the cases
@@ -331,7 +372,7 @@ impl Maker {
         };
         let at = self.random.below(count) * SET_BYTES;
         let record = &sets[at..at + SET_BYTES];
-        let found = read_set(system.n, system.marks, record).expect("a found set");
+        let found = read_set(system.setting(), record).expect("a found set");
         if self.random.chance(50) {
             self.with_set(&system, &found);
         } else {
@@ -355,7 +396,7 @@ impl Maker {
             MOST_CASE_BUFFER,
             write_terms(&system.terms),
         )
-        .marked(system.marks);
+        .kit_of(system);
         let (reply, sets) = self.answer(&first);
         let count = reply.count as usize;
         if reply.code == 7 {
@@ -497,11 +538,10 @@ impl Maker {
 
     /// Wires a good set record around the list's own length, and often asks for
     /// its verdict alone.
-    fn with_set(&mut self, system: &System, set: &Set) {
+    pub fn with_set(&mut self, system: &System, set: &Set) {
         let wire = |buffer| {
             let set = write_set(set).to_vec();
-            Case::wire(system.n as u64, write_terms(&system.terms), set, buffer)
-                .marked(system.marks)
+            Case::wire(system.n as u64, write_terms(&system.terms), set, buffer).kit_of(system)
         };
         let (reply, _) = wire(MOST_WIRES_BYTES).answer();
         let judged = self.random.chance(40);
@@ -596,6 +636,22 @@ impl Maker {
             Ask::Verdict => self.judge(wiring),
             _ => wiring,
         }
+    }
+
+    /// The records of a run of two terms at the most, where a fault lies elsewhere.
+    pub fn few_terms(&mut self, n: usize, marks: Marks) -> Vec<u8> {
+        let count = self.random.below(3);
+        write_terms(&systems::run(&mut self.random, n, marks, count).terms)
+    }
+
+    /// Such records, now and then cut by a byte: what comes before lengths is to
+    /// decide.
+    pub fn few_or_cut_terms(&mut self, n: usize, marks: Marks) -> Vec<u8> {
+        let mut terms = self.few_terms(n, marks);
+        if self.random.chance(20) {
+            terms.pop();
+        }
+        terms
     }
 
     /// A run that reaches the place, and now and then goes on after it.
@@ -702,7 +758,7 @@ impl Maker {
             let which = usize::from(!self.random.chance(50));
             let ask = self.given_by(which);
             let wiring = Case::wire(system.n as u64, terms, vec![0; length], 50);
-            let case = self.given(ask, wiring.marked(system.marks));
+            let case = self.given(ask, wiring.kit_of(&system));
             self.cases.push(case);
         }
     }
@@ -711,8 +767,7 @@ impl Maker {
     pub fn bad_setting(&mut self) {
         let turn = turn(&mut self.settings);
         let (n, marks) = self.variables(1, VARIABLES);
-        let count = self.random.below(3);
-        let terms = write_terms(&systems::run(&mut self.random, n, marks, count).terms);
+        let terms = self.few_terms(n, marks);
         let values = match self.mix.asks.contains(&Ask::Plan) {
             true => BAD_N.len() + BAD_CAP.len() + BAD_LIMIT.len(),
             false => BAD_N.len(),
@@ -806,6 +861,7 @@ mod tests {
     use super::*;
     use crate::batch::write_batch;
     use crate::cover::report_of;
+    use crate::panel::FULL_DEGREE;
     use crate::reply::NAMES;
     use std::sync::OnceLock;
 
@@ -824,8 +880,18 @@ mod tests {
 
     #[test]
     fn each_run_of_cases_has_its_own_places_and_changes_no_other() {
+        let (mut junior, mut full_kit) = (Vec::new(), Vec::new());
+        for (index, case) in batch(5, 493).into_iter().enumerate() {
+            match index % JUNIOR_ROUND {
+                5 => junior.push(case),
+                _ => full_kit.push(case),
+            }
+        }
+        assert!(junior.iter().all(|case| case.degree != FULL_DEGREE));
+        assert!(full_kit.iter().all(|case| case.degree == FULL_DEGREE));
+        assert_eq!(junior, first_junior(5, 82));
         let (mut closing, mut others) = (Vec::new(), Vec::new());
-        for (index, case) in batch(5, 411).into_iter().enumerate() {
+        for (index, case) in full_kit.into_iter().enumerate() {
             match index % CLOSING_ROUND {
                 7 => closing.push(case),
                 _ => others.push(case),
@@ -858,7 +924,7 @@ mod tests {
     /// What the stored cases of an operation cover: the fixed rows and its own run
     /// of random ones, without the long walks of the rest.
     fn cover_of(operation: Operation, run: fn(u64, usize) -> Vec<Case>) -> String {
-        let mut cases = rows();
+        let mut cases = full_kit();
         cases.retain(|case| case.operation == operation);
         cases.extend(run(STORED_SEED, STORED_COUNT / ROUND));
         report_of(&cases)
@@ -1109,6 +1175,62 @@ mod tests {
         ];
         for name in kinds {
             assert_count(&report, name, 5);
+        }
+    }
+
+    #[test]
+    fn what_is_stored_of_the_junior_kit_covers_its_kinds() {
+        let report = report_of(&stored_junior());
+        let mut lines = vec![
+            "code 8: places above the limit: 1-6 (6)".to_string(),
+            "plan: room for what a junior kit alone closes: 1-6 (6)".to_string(),
+        ];
+        for (operation, codes) in [
+            ("plan", &[0, 5, 6, 7][..]),
+            ("wire", &[0, 6, 8]),
+            ("thin", &[0, 8]),
+        ] {
+            for code in codes {
+                lines.push(format!("{operation}: degrees with code {code}: 2-9 (8)"));
+            }
+        }
+        assert_lines(&report, lines);
+        let kinds = [
+            "code 8: degree above the limit, and no exponent",
+            "plan: code 0 exactly at the limit",
+            "plan: code 0 full kit, 5 junior",
+            "plan: code 5 exactly at the limit",
+            "plan: code 6 exactly at the limit",
+            "plan: code 6 full kit, 5 junior",
+            "plan: code 7 full kit, 0 junior",
+            "plan: code 7 full kit, 5 junior",
+            "plan: fewer sets with a junior kit",
+            "plan: fewer steps with a junior kit",
+            "plan: full, one set short",
+            "plan: larger sets with a junior kit",
+            "plan: room exactly taken",
+            "plan: spent between two levels",
+            "plan: spent one step before code 0",
+            "plan: spent one step before code 5",
+            "plan: spent one step before code 6",
+            "plan: the same numbers with a junior kit",
+            "thin: code 0 full kit, 8 junior",
+            "thin: code 9 full kit, 8 junior",
+            "wire: code 0 full kit, 8 junior",
+            "wire: code 6 full kit, 8 junior",
+            "wire: code 9 full kit, 8 junior",
+            "checks: 1 before 2",
+            "checks: 1 before 3",
+            "checks: 1 before 4",
+            "checks: 1 before 8",
+            "checks: 2 before 8",
+            "checks: 3 before 8",
+            "checks: 4 before 8",
+            "checks: 8 before 9",
+            "checks: 8 before 6",
+        ];
+        for name in kinds {
+            assert_count(&report, name, 3);
         }
     }
 

@@ -8,7 +8,7 @@ use crate::marks::Marks;
 use crate::monomial::Monomial;
 use crate::panel::{CARDS, MOST_TERMS, TERM_BYTES, VARIABLES};
 use crate::records::{write_places, write_terms};
-use crate::systems::{self, Outside};
+use crate::systems::{self, Kit, Outside};
 use crate::walk::Hopeless;
 
 /// Every operation with marks. Two thirds are stories of a system or a set.
@@ -16,6 +16,7 @@ pub const MARKED: Mix = Mix {
     asks: &[Ask::Plan, Ask::Wire, Ask::Thin, Ask::Verdict],
     given: &[Ask::Wire, Ask::Thin, Ask::Verdict],
     outside: Outside::Signals,
+    kit: Kit::Full,
     hopeless: Hopeless::Tried,
     shares: &[
         (21, Maker::around_a_plan),
@@ -58,12 +59,7 @@ impl Maker {
         let marks = beyond(n);
         let marks = marks[turn / VARIABLES % marks.len()];
         let beside = self.random.below(1 << n) as u64;
-        let count = self.random.below(3);
-        let run = systems::run(&mut self.random, n, Marks::NONE, count);
-        let mut terms = write_terms(&run.terms);
-        if self.random.chance(20) {
-            terms.pop();
-        }
+        let terms = self.few_or_cut_terms(n, Marks::NONE);
         let case = self.any_operation(n as u64, Marks::NONE, terms);
         self.cases.push(case.marked(Marks(marks.0 | beside)));
     }

@@ -50,7 +50,7 @@ fn without_marked(text: &str, marks: Marks) -> Vec<u8> {
 }
 
 /// Planning, wiring and thinning of the same input.
-fn each_operation(n: usize, marks: Marks, terms: &[u8], set: &[u8]) -> [Case; 3] {
+pub fn each_operation(n: usize, marks: Marks, terms: &[u8], set: &[u8]) -> [Case; 3] {
     let n = n as u64;
     let wiring = Case::wire(n, terms.to_vec(), set.to_vec(), 3 * WIRE_BYTES);
     let thinning = Case {
@@ -431,7 +431,7 @@ fn places_with_marks() -> Vec<Case> {
 
 /// A number of variables, a system, its marked variables, a quadratic set, the
 /// length of its list, and how many of its subsets are smallest.
-type Given = (
+pub type Given = (
     u64,
     &'static str,
     &'static [usize],
@@ -442,7 +442,7 @@ type Given = (
 
 /// Signals before, between and after the others; lists that use a signal as the
 /// first factor, as the second, as both; sets with more than is needed.
-const GIVEN: [Given; 16] = [
+pub const GIVEN: [Given; 16] = [
     (3, EXAMPLE_5_3, &[3], &["x1^2"], 5, 1),
     (3, EXAMPLE_5_3, &[3], &["x1^2", "x1^3"], 7, 1),
     (2, CUBE_AND_SIGNAL, &[2], &["x1^2"], 4, 1),

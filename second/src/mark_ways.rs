@@ -6,65 +6,29 @@ use crate::closing::lacks;
 use crate::maker::stored_marked;
 use crate::marks::Marks;
 use crate::monomial::Monomial;
-use crate::operations::{n_is_in_range, planned, wired};
+use crate::operations::{planned, wired};
 use crate::panel::{SET_BYTES, TERM_BYTES, VARIABLES};
-use crate::records::{
-    read_set, read_terms, read_wires, set_places, terms_have_a_length, write_places, write_wire,
-};
+use crate::records::{read_set, read_terms, read_wires, set_places, write_places, write_wire};
 use crate::reply::Reply;
+use crate::setting::Setting;
 use crate::system::{squares, Set, System};
 use crate::walk::Hopeless;
+use crate::ways::{
+    below, fault_of_lengths, fault_of_records, fault_of_set, new_of, refused, Answer, Named,
+    Opened, Steps, Stored, Tried, Walks,
+};
 use crate::wiring::Wire;
-use std::collections::{BTreeSet, HashMap};
+use std::collections::BTreeSet;
 use std::sync::OnceLock;
 
-/// The reply, and the buffer after the call.
-type Answer = (Reply, Vec<u8>);
-
-/// A way with its name: what it makes of a case.
-type Named<T> = (&'static str, fn(&Case) -> T);
-
-/// So many cases at least show that a way is hasty.
-const ENOUGH: usize = 3;
-
-/// The stored cases with marks, and the right answers to them.
-struct Stored {
-    cases: Vec<Case>,
-    answers: HashMap<Case, Answer>,
-}
-
+/// The stored cases with marks.
 fn stored() -> &'static Stored {
     static STORED: OnceLock<Stored> = OnceLock::new();
-    STORED.get_or_init(|| {
-        let cases = stored_marked();
-        let answered = |case: &Case| (case.clone(), case.answer());
-        let answers = cases.iter().map(answered).collect();
-        Stored { cases, answers }
-    })
+    STORED.get_or_init(|| Stored::of(stored_marked()))
 }
 
-/// The right answer to any case.
 fn right(case: &Case) -> Answer {
-    let known = stored().answers.get(case).cloned();
-    known.unwrap_or_else(|| case.answer())
-}
-
-/// Fails for each way that the cases hardly tell from the right one.
-fn assert_told<W>(ways: &[(&str, W)], answer: impl Fn(&W, &Case) -> Answer) {
-    let mut missed = Vec::new();
-    for (name, way) in ways {
-        let differs = |case: &&Case| answer(way, case) != right(case);
-        let told = stored().cases.iter().filter(differs).take(ENOUGH);
-        if told.count() < ENOUGH {
-            missed.push(name);
-        }
-    }
-    assert!(missed.is_empty(), "{missed:?}");
-}
-
-/// Marks below n, whatever n is.
-fn below(n: u64) -> u64 {
-    (1_u64 << n.min(63)) - 1
+    stored().right(case)
 }
 
 fn with_marks(case: &Case, marks: u64) -> Case {
@@ -142,7 +106,7 @@ fn marks_that_are_misread() {
             ..c.clone()
         }),
     ];
-    assert_told(&ways, |way, case| right(&way(case)));
+    stored().assert_told(&ways, |way, case| right(&way(case)));
 }
 
 /// The highest bit that is set.
@@ -157,9 +121,12 @@ fn read_with(case: &Case, records: Marks, set: Marks) -> Answer {
     if [1, 2].contains(&right.0.code) || case.operation == Operation::Thin {
         return right;
     }
-    let n = case.n as usize;
+    let with = |marks| Setting {
+        marks,
+        ..case.setting()
+    };
     let mut answer = vec![0; case.buffer];
-    let reply = match read_terms(n, records, &case.terms) {
+    let reply = match read_terms(with(records), &case.terms) {
         Err(refusal) => refusal,
         Ok(system) => {
             let system = System {
@@ -170,7 +137,7 @@ fn read_with(case: &Case, records: Marks, set: Marks) -> Answer {
                 Operation::Plan => {
                     planned(Hopeless::Closed, &system, case.cap, case.limit, &mut answer)
                 }
-                _ => match read_set(n, set, &case.set) {
+                _ => match read_set(with(set), &case.set) {
                     Err(refusal) => refusal,
                     Ok(set) => wired(&system, &set, &mut answer),
                 },
@@ -178,11 +145,6 @@ fn read_with(case: &Case, records: Marks, set: Marks) -> Answer {
         }
     };
     (reply, answer)
-}
-
-/// A refusal, and the buffer's zeros.
-fn refused(case: &Case, reply: Reply) -> Answer {
-    (reply, vec![0; case.buffer])
 }
 
 /// The set is refused only where its first members up to one of these sizes have
@@ -203,42 +165,12 @@ fn refused_by_first(case: &Case, size: usize) -> Answer {
 fn marked_records_last(case: &Case) -> Answer {
     let right = right(case);
     match right.0.code {
-        3 => match read_terms(case.n as usize, Marks::NONE, &case.terms) {
+        3 => match read_terms(with_marks(case, 0).setting(), &case.terms) {
             Err(refusal) => refused(case, refusal),
             Ok(_) => right,
         },
         _ => right,
     }
-}
-
-/// What another check says comes before these codes.
-fn before(codes: &[u64], case: &Case, check: fn(&Case) -> Option<Reply>) -> Answer {
-    let right = right(case);
-    match check(case) {
-        Some(reply) if codes.contains(&right.0.code) => refused(case, reply),
-        _ => right,
-    }
-}
-
-/// The records, as far as they are whole, with n in range.
-fn fault_of_records(case: &Case) -> Option<Reply> {
-    let good = n_is_in_range(case.n) && terms_have_a_length(&case.terms);
-    let marks = Marks(case.marks & below(case.n));
-    let read = good.then(|| read_terms(case.n as usize, marks, &case.terms))?;
-    read.err()
-}
-
-fn fault_of_lengths(case: &Case) -> Option<Reply> {
-    let set = case.operation == Operation::Plan || case.set.len() == SET_BYTES;
-    let good = terms_have_a_length(&case.terms) && set || !n_is_in_range(case.n);
-    (!good).then(|| Reply::bare(2))
-}
-
-fn fault_of_set(case: &Case) -> Option<Reply> {
-    let given = case.operation != Operation::Plan && case.set.len() == SET_BYTES;
-    let good = n_is_in_range(case.n) && case.marks <= below(case.n) && given;
-    let read = good.then(|| read_set(case.n as usize, Marks(case.marks), &case.set))?;
-    read.err()
 }
 
 /// What is refused, and what comes before it.
@@ -259,14 +191,16 @@ fn refusals_that_are_missed() {
         }),
         ("records of signals are refused last", marked_records_last),
         ("lengths before marks", |c| {
-            before(&[1], c, fault_of_lengths)
+            stored().before(&[1], c, fault_of_lengths)
         }),
         ("records before marks", |c| {
-            before(&[1], c, fault_of_records)
+            stored().before(&[1], c, fault_of_records)
         }),
-        ("sets before records", |c| before(&[3, 4], c, fault_of_set)),
+        ("sets before records", |c| {
+            stored().before(&[3, 4], c, fault_of_set)
+        }),
     ];
-    assert_told(&ways, |way, case| way(case));
+    stored().assert_told(&ways, |way, case| way(case));
 }
 
 /// How many marked variables stand before a signal number or at it.
@@ -368,7 +302,7 @@ fn wiring_that_goes_astray() {
             listed_by(c, |case, list| no_pair(case, list, 1))
         }),
     ];
-    assert_told(&ways, |way, case| way(case));
+    stored().assert_told(&ways, |way, case| way(case));
 }
 
 /// Ways of walking.
@@ -407,19 +341,7 @@ enum Way {
     Slope,
 }
 
-/// The steps of a walk with what each finds, without regard to room.
-struct Steps<'a> {
-    system: &'a System,
-    way: Way,
-    most: usize,
-    level: usize,
-    steps: Vec<(usize, Option<Vec<Monomial>>)>,
-}
-
-/// A walk is followed no further.
-const FAR: u64 = 20_000;
-
-impl Steps<'_> {
+impl Steps<'_, Way> {
     fn marked(&self, monomial: Monomial) -> bool {
         self.system.marks.touch(monomial)
     }
@@ -463,118 +385,56 @@ impl Steps<'_> {
         };
         *over.iter().min_by_key(|m| key(m)).expect("a nonsquare")
     }
+}
 
-    fn open(&mut self, set: &Set) {
-        if self.steps.len() > self.most {
-            return;
-        }
-        let over = self.over(set);
-        let slope = self.way == Way::Slope && self.system.marks != Marks::NONE;
-        let found = over.is_empty() && !slope;
-        let members = set.iter().copied().collect();
-        self.steps.push((self.level, found.then_some(members)));
-        let hopeless = self.way == Way::Hopeless && over.iter().any(|m| self.marked(*m));
+impl Walks for Way {
+    fn opened(walk: &Steps<Way>, set: &Set) -> Opened {
+        let over = walk.over(set);
+        let slope = walk.way == Way::Slope && walk.system.marks != Marks::NONE;
+        let hopeless = walk.way == Way::Hopeless && over.iter().any(|m| walk.marked(*m));
         // What is found lacks nothing.
-        let closed = set.len() + lacks(self.system, set, &over) > self.level;
-        if over.is_empty() || closed || hopeless {
-            return;
-        }
-        for (m1, m2) in self.choose(&over).pairs() {
-            if self.steps.len() > self.most || !self.pair(set, m1, m2) {
-                return;
-            }
+        let closed = set.len() + lacks(walk.system, set, &over) > walk.level;
+        let ends = over.is_empty() || closed || hopeless;
+        Opened {
+            found: over.is_empty() && !slope,
+            chosen: (!ends).then(|| walk.choose(&over)),
         }
     }
 
-    /// Tries a pair. Whether the next one is tried after it.
-    fn pair(&mut self, set: &Set, m1: Monomial, m2: Monomial) -> bool {
-        let v = self.v(set);
-        let mut new = Set::from([m1, m2]);
-        new.retain(|m| !v.contains(m));
-        let judged: Vec<Monomial> = match self.way {
+    fn tried(walk: &Steps<Way>, set: &Set, pair: [Monomial; 2]) -> Tried {
+        let [m1, m2] = pair;
+        let mut new = new_of(pair, &walk.v(set));
+        let judged: Vec<Monomial> = match walk.way {
             Way::Knob => Vec::new(),
             Way::ByMembers => vec![m1, m2],
             Way::BySmaller => new.iter().copied().filter(|m| *m == m1).collect(),
             Way::ByLarger => new.iter().copied().filter(|m| *m == m2).collect(),
             _ => new.iter().copied().collect(),
         };
-        let forbidden = judged.iter().any(|m| self.marked(*m));
+        let forbidden = judged.iter().any(|m| walk.marked(*m));
         let size = set.union(&new).count();
-        let costs = match self.way {
+        let costs = match walk.way {
             Way::NoStep => usize::from(!forbidden),
             Way::TwoSteps => 1 + usize::from(forbidden),
-            Way::NoStepTooLarge => usize::from(!forbidden || size <= self.level),
-            Way::NoStepWithoutRoom => usize::from(size <= self.level),
+            Way::NoStepTooLarge => usize::from(!forbidden || size <= walk.level),
+            Way::NoStepWithoutRoom => usize::from(size <= walk.level),
             _ => 1,
         };
-        for _ in 0..costs {
-            self.steps.push((self.level, None));
+        let adds_the_rest = walk.way == Way::AddsTheRest;
+        if adds_the_rest {
+            new.retain(|m| !walk.marked(*m));
         }
-        if forbidden && self.way == Way::AddsTheRest {
-            new.retain(|m| !self.system.marks.touch(*m));
-        } else if forbidden {
-            return self.way != Way::EndsPairs;
+        Tried {
+            costs,
+            added: (!forbidden || adds_the_rest).then_some(new),
+            ends_pairs: forbidden && walk.way == Way::EndsPairs,
         }
-        let child: Set = set.union(&new).copied().collect();
-        if child.len() <= self.level && child != *set {
-            self.open(&child);
-        }
-        true
     }
 }
 
-/// A plan in this way: the steps first, and then where limit and room end them.
+/// A plan in this way.
 fn walked(case: &Case, way: Way) -> Answer {
-    let right = right(case);
-    if case.operation != Operation::Plan || [1, 2, 3, 4].contains(&right.0.code) {
-        return right;
-    }
-    let system = read_terms(case.n as usize, Marks(case.marks), &case.terms).expect("it is taken");
-    let limit = case.limit.min(FAR) as usize;
-    let mut walk = Steps {
-        system: &system,
-        way,
-        most: limit,
-        level: 0,
-        steps: Vec::new(),
-    };
-    for level in 0..=case.cap as usize {
-        walk.level = level;
-        walk.open(&Set::new());
-        if walk.steps.iter().any(|(_, found)| found.is_some()) {
-            break;
-        }
-    }
-    stopped(case, &walk.steps, limit)
-}
-
-/// What a planner says who takes these steps.
-fn stopped(case: &Case, steps: &[(usize, Option<Vec<Monomial>>)], limit: usize) -> Answer {
-    let said = |code, order: usize, count: usize, steps: usize| Reply {
-        code,
-        order: order as u64,
-        count: count as u64,
-        steps: steps as u64,
-        place: 0,
-    };
-    let mut finds = BTreeSet::new();
-    for (index, (level, found)) in steps.iter().enumerate() {
-        if index == limit {
-            return refused(case, said(7, *level, 0, limit));
-        }
-        let new = found.as_ref().filter(|set| !finds.contains(*set));
-        if new.is_some() && finds.len() == case.buffer / SET_BYTES {
-            return refused(case, said(6, *level, 0, index + 1));
-        }
-        finds.extend(new.cloned());
-    }
-    let Some(first) = finds.first() else {
-        return refused(case, said(5, case.cap as usize + 1, 0, steps.len()));
-    };
-    let reply = said(0, first.len(), finds.len(), steps.len());
-    let mut answer: Vec<u8> = finds.iter().flat_map(|set| write_places(set)).collect();
-    answer.resize(case.buffer, 0);
-    (reply, answer)
+    stored().walked(case, way)
 }
 
 /// So the ways differ from the walk in nothing but what they name.
@@ -609,7 +469,6 @@ fn walks_that_go_astray() {
         Way::NoProduct,
         Way::Slope,
     ];
-    let names = ways.map(|way| format!("{way:?}"));
-    let named: Vec<(&str, Way)> = names.iter().map(String::as_str).zip(ways).collect();
-    assert_told(&named, |way, case| walked(case, *way));
+    let named = ways.map(|way| (way, way));
+    stored().assert_told(&named, |way, case| walked(case, *way));
 }

@@ -21,9 +21,14 @@ impl Monomial {
         Monomial(exponents)
     }
 
+    /// The total degree: all exponents together.
+    pub fn degree(self) -> u64 {
+        self.0.iter().map(|&e| u64::from(e)).sum()
+    }
+
     /// Whether this is a single variable.
     pub fn is_variable(self) -> bool {
-        self.0.iter().sum::<u16>() == 1
+        self.degree() == 1
     }
 
     /// The product of two monomials.

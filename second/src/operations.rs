@@ -1,23 +1,18 @@
 //! The three operations, with the checks in their sequence
-//! (document 01, What the box says; document 02, [1] to [4]).
+//! (document 01, What the box says; document 02, [1] to [4] and [6]).
 
-use crate::marks::Marks;
 use crate::monomial::Monomial;
-use crate::panel::{MOST_CAP, MOST_LIMIT, MOST_N, SET_BYTES, WIRE_BYTES};
+use crate::panel::{MOST_CAP, MOST_LIMIT, SET_BYTES, WIRE_BYTES};
 use crate::records::{
     read_set, read_terms, terms_have_a_length, write_places, write_set, write_wire,
 };
 use crate::reply::Reply;
+use crate::setting::Setting;
 use crate::system::{Set, System};
 use crate::thinning::thinned;
 use crate::walk::{walk, End, Hopeless};
 use crate::wiring::wiring;
 use std::collections::BTreeSet;
-
-/// Code 1 as far as it is about n.
-pub fn n_is_in_range(n: u64) -> bool {
-    (1..=MOST_N).contains(&n)
-}
 
 pub fn cap_is_in_range(cap: u64) -> bool {
     cap <= MOST_CAP
@@ -27,35 +22,28 @@ pub fn limit_is_in_range(limit: u64) -> bool {
     (1..=MOST_LIMIT).contains(&limit)
 }
 
-/// Code 1 as far as it is about the variables: how many there are, and that none
-/// beyond them is marked.
-pub fn variables_are_in_range(n: u64, marks: u64) -> bool {
-    n_is_in_range(n) && Marks(marks).are_among(n as usize)
-}
-
 /// Planning. Whatever the code, every byte of the answer is written.
-pub fn plan(n: u64, marks: u64, cap: u64, limit: u64, terms: &[u8], answer: &mut [u8]) -> Reply {
-    plan_by(Hopeless::Closed, n, marks, cap, limit, terms, answer)
+pub fn plan(setting: Setting, cap: u64, limit: u64, terms: &[u8], answer: &mut [u8]) -> Reply {
+    plan_by(Hopeless::Closed, setting, cap, limit, terms, answer)
 }
 
 /// The same by a walk that does so with hopeless sets.
 pub fn plan_by(
     hopeless: Hopeless,
-    n: u64,
-    marks: u64,
+    setting: Setting,
     cap: u64,
     limit: u64,
     terms: &[u8],
     answer: &mut [u8],
 ) -> Reply {
     answer.fill(0);
-    if !(variables_are_in_range(n, marks) && cap_is_in_range(cap) && limit_is_in_range(limit)) {
+    if !(setting.is_in_range() && cap_is_in_range(cap) && limit_is_in_range(limit)) {
         return Reply::bare(1);
     }
     if !terms_have_a_length(terms) {
         return Reply::bare(2);
     }
-    match read_terms(n as usize, Marks(marks), terms) {
+    match read_terms(setting, terms) {
         Ok(system) => planned(hopeless, &system, cap, limit, answer),
         Err(refusal) => refusal,
     }
@@ -104,23 +92,23 @@ fn list_sets(sets: &BTreeSet<Vec<Monomial>>, answer: &mut [u8]) {
 }
 
 /// The system and the set, or the refusal.
-fn given(n: u64, marks: u64, terms: &[u8], set: &[u8]) -> Result<(System, Set), Reply> {
-    if !variables_are_in_range(n, marks) {
+fn given(setting: Setting, terms: &[u8], set: &[u8]) -> Result<(System, Set), Reply> {
+    if !setting.is_in_range() {
         return Err(Reply::bare(1));
     }
     if !terms_have_a_length(terms) || set.len() != SET_BYTES {
         return Err(Reply::bare(2));
     }
-    let system = read_terms(n as usize, Marks(marks), terms)?;
-    let set = read_set(n as usize, Marks(marks), set)?;
+    let system = read_terms(setting, terms)?;
+    let set = read_set(setting, set)?;
     Ok((system, set))
 }
 
 /// Wiring, and the verdict with it. Whatever the code, every byte of the answer
 /// is written.
-pub fn wire(n: u64, marks: u64, terms: &[u8], set: &[u8], answer: &mut [u8]) -> Reply {
+pub fn wire(setting: Setting, terms: &[u8], set: &[u8], answer: &mut [u8]) -> Reply {
     answer.fill(0);
-    match given(n, marks, terms, set) {
+    match given(setting, terms, set) {
         Ok((system, set)) => wired(&system, &set, answer),
         Err(refusal) => refusal,
     }
@@ -157,16 +145,16 @@ pub fn wired(system: &System, set: &Set, answer: &mut [u8]) -> Reply {
 }
 
 /// Thinning. Whatever the code, every byte of the answer is written.
-pub fn thin(n: u64, marks: u64, terms: &[u8], set: &[u8], answer: &mut [u8]) -> Reply {
+pub fn thin(setting: Setting, terms: &[u8], set: &[u8], answer: &mut [u8]) -> Reply {
     answer.fill(0);
     // Into an empty buffer wiring gives the verdict alone: full is quadratic too.
-    let verdict = |set: &[u8]| wire(n, marks, terms, set, &mut []);
+    let verdict = |set: &[u8]| wire(setting, terms, set, &mut []);
     let quadratic = |reply: Reply| [0, 6].contains(&reply.code);
     let judged = verdict(set);
     if !quadratic(judged) {
         return judged;
     }
-    let set = read_set(n as usize, Marks(marks), set).expect("a set that was judged");
+    let set = read_set(setting, set).expect("a set that was judged");
     let thinned = thinned(&set, |subset| quadratic(verdict(&write_set(subset))))
         .expect("the given set is a subset of itself");
     let reply = Reply {
@@ -188,11 +176,12 @@ pub fn thin(n: u64, marks: u64, terms: &[u8], set: &[u8], answer: &mut [u8]) -> 
 mod tests {
     use super::*;
     use crate::batch::UNTOUCHED;
+    use crate::marks::Marks;
     use crate::panel::{CARDS, MOST_WIRES_BYTES, VARIABLES};
     use crate::random::Random;
     use crate::records::{read_wires, set_places, write_terms};
     use crate::system::Term;
-    use crate::systems::{self, Outside};
+    use crate::systems::{self, Kit, Outside};
     use std::collections::BTreeMap;
 
     const ROOM: usize = 1_800 * SET_BYTES;
@@ -212,17 +201,12 @@ mod tests {
         let mut random = Random::from_seed(seed);
         let mut planned = Vec::new();
         while planned.len() < 60 {
+            let kit = random.pick(&[Kit::Full, Kit::Full, Kit::Junior]);
             let system = any_system(&mut random);
+            let system = kit.limit(&mut random, system);
             let mut sets = vec![UNTOUCHED; ROOM];
             let terms = write_terms(&system.terms);
-            let reply = plan(
-                system.n as u64,
-                system.marks.0,
-                MOST_CAP,
-                2_000,
-                &terms,
-                &mut sets,
-            );
+            let reply = plan(system.setting(), MOST_CAP, 2_000, &terms, &mut sets);
             if reply.code == 0 {
                 planned.push((system, reply, sets));
             }
@@ -239,7 +223,7 @@ mod tests {
             assert!(places.windows(2).all(|two| two[0] < two[1]));
             for record in found {
                 let terms = write_terms(&system.terms);
-                let judged = wire(system.n as u64, system.marks.0, &terms, record, &mut []);
+                let judged = wire(system.setting(), &terms, record, &mut []);
                 let code = if terms.is_empty() { 0 } else { 6 };
                 assert_eq!(judged.numbers(), [code, reply.order, 0, 0, 0]);
             }
@@ -265,7 +249,7 @@ mod tests {
             let walked = super::planned(Hopeless::Closed, &moved, MOST_CAP, 2_000, &mut again);
             assert_eq!(walked, reply);
             assert!(again == sets);
-            let set = read_set(system.n, system.marks, &sets[..SET_BYTES]).unwrap();
+            let set = read_set(system.setting(), &sets[..SET_BYTES]).unwrap();
             let mut lists = [vec![0; MOST_WIRES_BYTES], vec![0; MOST_WIRES_BYTES]];
             let wire = |system, list: &mut Vec<u8>| wired(system, &set, list);
             assert_eq!(wire(&system, &mut lists[0]), wire(&moved, &mut lists[1]));
@@ -323,16 +307,10 @@ mod tests {
     #[test]
     fn the_wiring_adds_up_to_the_derivatives() {
         for (system, reply, sets) in planned(12) {
-            let set = read_set(system.n, system.marks, &sets[..SET_BYTES]).unwrap();
+            let set = read_set(system.setting(), &sets[..SET_BYTES]).unwrap();
             let mut list = vec![UNTOUCHED; MOST_WIRES_BYTES];
             let terms = write_terms(&system.terms);
-            let wired = wire(
-                system.n as u64,
-                system.marks.0,
-                &terms,
-                &write_set(&set),
-                &mut list,
-            );
+            let wired = wire(system.setting(), &terms, &write_set(&set), &mut list);
             assert_eq!((wired.code, wired.order), (0, reply.order));
             let signals = system.signals(&set);
             let mut sums = vec![BTreeMap::new(); signals.len()];
@@ -395,13 +373,7 @@ mod tests {
                 let numbers = [code, set.len() as u64, count, 0, first.unwrap_or(0) as u64];
                 let mut answer = vec![UNTOUCHED; buffer];
                 let terms = write_terms(&system.terms);
-                let reply = wire(
-                    system.n as u64,
-                    system.marks.0,
-                    &terms,
-                    &write_set(&set),
-                    &mut answer,
-                );
+                let reply = wire(system.setting(), &terms, &write_set(&set), &mut answer);
                 assert_eq!(reply.numbers(), numbers);
                 let written = count as usize * WIRE_BYTES;
                 assert!(answer[written..].iter().all(|&byte| byte == 0));
@@ -420,8 +392,10 @@ mod tests {
                 let mut again = vec![0; ROOM];
                 let terms = write_terms(&system.terms);
                 let wider = plan(
-                    n as u64,
-                    system.marks.0,
+                    Setting {
+                        n: n as u64,
+                        ..system.setting()
+                    },
                     MOST_CAP,
                     2_000,
                     &terms,
@@ -436,35 +410,21 @@ mod tests {
     #[test]
     fn a_walk_needs_exactly_its_steps_and_its_room() {
         for (system, reply, sets) in planned(14) {
-            let (n, terms) = (system.n as u64, write_terms(&system.terms));
+            let (setting, terms) = (system.setting(), write_terms(&system.terms));
             let needed = reply.count as usize * SET_BYTES;
             let mut answer = vec![UNTOUCHED; needed];
             assert_eq!(
-                plan(
-                    n,
-                    system.marks.0,
-                    MOST_CAP,
-                    reply.steps,
-                    &terms,
-                    &mut answer
-                ),
+                plan(setting, MOST_CAP, reply.steps, &terms, &mut answer),
                 reply
             );
             assert!(answer == sets[..needed]);
             if reply.steps > 1 {
-                let short = plan(
-                    n,
-                    system.marks.0,
-                    MOST_CAP,
-                    reply.steps - 1,
-                    &terms,
-                    &mut answer,
-                );
+                let short = plan(setting, MOST_CAP, reply.steps - 1, &terms, &mut answer);
                 assert_eq!(short.numbers(), [7, reply.order, 0, reply.steps - 1, 0]);
                 assert!(answer.iter().all(|&byte| byte == 0));
             }
             let mut tight = vec![UNTOUCHED; needed - 1];
-            let full = plan(n, system.marks.0, MOST_CAP, reply.steps, &terms, &mut tight);
+            let full = plan(setting, MOST_CAP, reply.steps, &terms, &mut tight);
             assert_eq!((full.code, full.order, full.count), (6, reply.order, 0));
             assert!(full.steps <= reply.steps);
             assert!(tight.iter().all(|&byte| byte == 0));
@@ -475,7 +435,7 @@ mod tests {
     fn together(system: &System, reply: &Reply, sets: &[u8]) -> (Set, BTreeSet<Set>) {
         let records = sets.chunks(SET_BYTES).take(reply.count as usize);
         let found: BTreeSet<Set> = records
-            .map(|record| read_set(system.n, system.marks, record).unwrap())
+            .map(|record| read_set(system.setting(), record).unwrap())
             .collect();
         let mut given = Set::new();
         for set in &found {
@@ -491,7 +451,7 @@ mod tests {
 
     fn thin_in(system: &System, given: &Set, answer: &mut [u8]) -> Reply {
         let (terms, set) = (write_terms(&system.terms), write_set(given));
-        thin(system.n as u64, system.marks.0, &terms, &set, answer)
+        thin(system.setting(), &terms, &set, answer)
     }
 
     /// Planning lists all smallest sets there are, so that the smallest subsets
@@ -560,14 +520,7 @@ mod tests {
             for cap in 0..reply.order {
                 let mut answer = [UNTOUCHED; SET_BYTES];
                 let terms = write_terms(&system.terms);
-                let none = plan(
-                    system.n as u64,
-                    system.marks.0,
-                    cap,
-                    2_000,
-                    &terms,
-                    &mut answer,
-                );
+                let none = plan(system.setting(), cap, 2_000, &terms, &mut answer);
                 assert_eq!((none.code, none.order), (5, cap + 1));
                 assert!(none.steps < reply.steps);
                 assert_eq!(answer, [0; SET_BYTES]);

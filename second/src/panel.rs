@@ -1,4 +1,4 @@
-//! The numbers of document 01, each once: those that follow from others are
+//! The numbers of documents 01 and 02, each once: those that follow from others are
 //! computed from them.
 
 /// The most variables of a system, and so the exponents of a monomial.
@@ -20,6 +20,12 @@ pub const MOST_COEFFICIENT: i64 = 1_000_000;
 /// The most that an exponent of a set may be: in the walk each new monomial can
 /// add a term's.
 pub const MOST_SET_EXPONENT: u16 = CARDS as u16 * MOST_EXPONENT;
+
+// The limit on the total degree of a new monomial: the junior kits', and that of
+// the full kit, which has every exponent of a set at its most.
+pub const LEAST_DEGREE: u64 = 2;
+pub const MOST_DEGREE: u64 = 9;
+pub const FULL_DEGREE: u64 = VARIABLES as u64 * MOST_SET_EXPONENT as u64;
 
 /// The most that an exponent of a nonsquare comes to: a set's and a term's.
 pub const MOST_NONSQUARE_EXPONENT: u16 = MOST_SET_EXPONENT + MOST_EXPONENT;

@@ -4,16 +4,14 @@ use crate::marks::Marks;
 use crate::monomial::Monomial;
 use crate::operations::{plan, wire};
 use crate::panel::{
-    MOST_N, MOST_TERMS_BYTES, MOST_WIRES_BYTES, SET_BYTES, USUAL_CAP, USUAL_LIMIT, USUAL_ROOM,
+    MOST_TERMS_BYTES, MOST_WIRES_BYTES, SET_BYTES, USUAL_CAP, USUAL_LIMIT, USUAL_ROOM, VARIABLES,
 };
 use crate::records::{read_wires, set_places};
+use crate::setting::Setting;
 use std::io::Read;
 
 /// One byte more than a system has: enough to know that there are too many.
 const MOST_INPUT: usize = MOST_TERMS_BYTES + 1;
-
-/// What the program reads is document 01's: no variable is fed from outside.
-const NO_MARKS: u64 = Marks::NONE.0;
 
 /// Reads what the program needs to know. A failed read is the input's end.
 pub fn read_input(input: impl Read) -> Vec<u8> {
@@ -29,8 +27,11 @@ fn dotted(monomial: &Monomial) -> String {
 
 /// Everything the program writes for these records.
 pub fn output(terms: &[u8]) -> String {
+    // What it reads is document 01's: no variable is fed from outside, and the kit
+    // is the full one.
+    let setting = Setting::full(VARIABLES, Marks::NONE);
     let mut sets = vec![0; USUAL_ROOM * SET_BYTES];
-    let reply = plan(MOST_N, NO_MARKS, USUAL_CAP, USUAL_LIMIT, terms, &mut sets);
+    let reply = plan(setting, USUAL_CAP, USUAL_LIMIT, terms, &mut sets);
     let mut lines = vec![reply.to_string()];
     if reply.code == 0 {
         for record in sets.chunks(SET_BYTES).take(reply.count as usize) {
@@ -42,7 +43,7 @@ pub fn output(terms: &[u8]) -> String {
             lines.push(members.join(" "));
         }
         let mut list = vec![0; MOST_WIRES_BYTES];
-        wire(MOST_N, NO_MARKS, terms, &sets[..SET_BYTES], &mut list);
+        wire(setting, terms, &sets[..SET_BYTES], &mut list);
         for w in read_wires(&list) {
             lines.push(format!("{} {} {} {}", w.left, w.a, w.b, w.coefficient));
         }

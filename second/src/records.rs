@@ -1,5 +1,5 @@
 //! The three kinds of record as bytes, and the rules that refuse them
-//! (document 01, The system on the panel; document 02, [3]).
+//! (document 01, The system on the panel; document 02, [3] and [6]).
 
 use crate::marks::Marks;
 use crate::monomial::Monomial;
@@ -8,6 +8,7 @@ use crate::panel::{
     MOST_TERMS_BYTES, SET_BYTES, TERM_BYTES, VARIABLES, WIRE_BYTES, WIRE_COEFFICIENT_AT,
 };
 use crate::reply::Reply;
+use crate::setting::Setting;
 use crate::system::{Set, System, Term};
 use crate::wiring::Wire;
 use std::fmt;
@@ -99,8 +100,10 @@ impl fmt::Display for TermFault {
 }
 
 /// Reads the terms record by record: 3 before 4 within each, the first fault
-/// decides. The length has been checked before.
-pub fn read_terms(n: usize, marks: Marks, bytes: &[u8]) -> Result<System, Reply> {
+/// decides. The setting and the length have been checked before.
+pub fn read_terms(setting: Setting, bytes: &[u8]) -> Result<System, Reply> {
+    let Setting { n, marks, degree } = setting;
+    let n = n as usize;
     let mut terms: Vec<Term> = Vec::new();
     for (index, record) in bytes.chunks(TERM_BYTES).enumerate() {
         let place = index + 1;
@@ -118,7 +121,12 @@ pub fn read_terms(n: usize, marks: Marks, bytes: &[u8]) -> Result<System, Reply>
         }
         terms.push(term);
     }
-    Ok(System { n, marks, terms })
+    Ok(System {
+        n,
+        marks,
+        degree,
+        terms,
+    })
 }
 
 /// Writes one term record.
@@ -153,6 +161,7 @@ pub enum SetFault {
     ExponentAbove,
     ExponentBeyondXn,
     Marked,
+    DegreeAbove,
 }
 
 impl fmt::Display for SetFault {
@@ -165,12 +174,14 @@ impl fmt::Display for SetFault {
             SetFault::ExponentAbove => write!(f, "exponent above {MOST_SET_EXPONENT}"),
             SetFault::ExponentBeyondXn => write!(f, "exponent beyond xn"),
             SetFault::Marked => write!(f, "monomial with a signal"),
+            SetFault::DegreeAbove => write!(f, "degree above the limit"),
         }
     }
 }
 
 /// Every rule that a set record breaks: none for a good record.
-pub fn set_faults(n: usize, marks: Marks, record: &[u8]) -> Vec<SetFault> {
+pub fn set_faults(setting: Setting, record: &[u8]) -> Vec<SetFault> {
+    let Setting { n, marks, degree } = setting;
     let places = set_places(record);
     let used = places
         .iter()
@@ -198,18 +209,24 @@ pub fn set_faults(n: usize, marks: Marks, record: &[u8]) -> Vec<SetFault> {
     {
         faults.push(SetFault::ExponentAbove);
     }
-    if members.iter().any(|m| m.0[n..].iter().any(|&e| e != 0)) {
+    if members
+        .iter()
+        .any(|m| m.0[n as usize..].iter().any(|&e| e != 0))
+    {
         faults.push(SetFault::ExponentBeyondXn);
     }
     if members.iter().any(|m| marks.touch(*m)) {
         faults.push(SetFault::Marked);
     }
+    if members.iter().any(|m| !degree.reaches(*m)) {
+        faults.push(SetFault::DegreeAbove);
+    }
     faults
 }
 
 /// Reads a set record of the right length.
-pub fn read_set(n: usize, marks: Marks, record: &[u8]) -> Result<Set, Reply> {
-    if !set_faults(n, marks, record).is_empty() {
+pub fn read_set(setting: Setting, record: &[u8]) -> Result<Set, Reply> {
+    if !set_faults(setting, record).is_empty() {
         return Err(Reply::bare(8));
     }
     let used = |m: &Monomial| *m != Monomial::ONE;

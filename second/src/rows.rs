@@ -1,10 +1,11 @@
 //! The fixed rows: document 01's worked sums, both sides of each limit, every
 //! place of code 9, and larger systems from documents 000 and 001. Those of
-//! verdict and room together, those of thinning, and those with marks come after
-//! them.
+//! verdict and room together, those of thinning, those with marks, those of the
+//! counting rule and those of the junior kit come after them.
 
 use crate::batch::{Case, MOST_CASE_BUFFER};
 use crate::closing_rows;
+use crate::degree_rows;
 use crate::mark_rows;
 use crate::monomial::Monomial;
 use crate::no_room::NoRoom;
@@ -40,6 +41,13 @@ pub const CANCELLING_SET: [&str; 4] = ["x3^2 x4", "x2 x3", "x1 x3", "x1 x2"];
 
 /// The batch of fixed rows.
 pub fn rows() -> Vec<Case> {
+    let mut rows = full_kit();
+    rows.extend(degree_rows::rows());
+    rows
+}
+
+/// The rows from before document 02, [6], all of the full kit.
+pub fn full_kit() -> Vec<Case> {
     let mut rows = Rows::default();
     rows.worked();
     rows.further();
@@ -661,6 +669,7 @@ mod tests {
     use crate::marks::Marks;
     use crate::panel::MOST_TERMS_BYTES;
     use crate::records::read_terms;
+    use crate::setting::Setting;
 
     #[test]
     fn rows_are_the_same_each_time_and_well_formed() {
@@ -727,7 +736,7 @@ mod tests {
     fn a_system_fills_the_records() {
         let bytes = bytes_of(&cubes_of_six());
         assert_eq!(bytes.len(), MOST_TERMS_BYTES);
-        assert!(read_terms(VARIABLES, Marks::NONE, &bytes).is_ok());
+        assert!(read_terms(Setting::full(VARIABLES, Marks::NONE), &bytes).is_ok());
     }
 
     #[test]

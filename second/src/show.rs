@@ -2,13 +2,12 @@
 //! whose answers differ.
 
 use crate::batch::{hex, Case, Operation};
-use crate::marks::Marks;
 use crate::monomial::Monomial;
 use crate::notation::{write_members, write_system};
-use crate::operations::n_is_in_range;
-use crate::panel::{SET_BYTES, TERM_BYTES, VARIABLES, WIRE_BYTES};
+use crate::panel::{FULL_DEGREE, MOST_N, SET_BYTES, TERM_BYTES, WIRE_BYTES};
 use crate::records::{read_terms, read_wires, set_places, terms_have_a_length, Fields};
 use crate::reply::Reply;
+use crate::setting::{n_is_in_range, Setting};
 
 /// The block of one case, counted from 1.
 pub fn block(number: usize, case: &Case) -> String {
@@ -35,6 +34,10 @@ fn heading(case: &Case) -> String {
         0 => String::new(),
         marks => format!(", marks {marks:#x}"),
     };
+    let degree = match case.degree {
+        FULL_DEGREE => String::new(),
+        degree => format!(", degree {degree}"),
+    };
     let settings = match case.operation {
         Operation::Plan => format!(", K = {}, limit {}", case.cap, case.limit),
         Operation::Wire | Operation::Thin => String::new(),
@@ -44,7 +47,7 @@ fn heading(case: &Case) -> String {
         Operation::Plan | Operation::Thin => format!("{} sets", case.buffer / SET_BYTES),
     };
     let buffer = case.buffer;
-    format!("{name}, n = {n}{marks}{settings}, buffer {buffer} bytes ({room})")
+    format!("{name}, n = {n}{marks}{degree}{settings}, buffer {buffer} bytes ({room})")
 }
 
 fn numbers(reply: &Reply) -> String {
@@ -56,12 +59,15 @@ fn numbers(reply: &Reply) -> String {
 
 /// The equations; or the bare records where they are refused.
 fn system_lines(case: &Case) -> Vec<String> {
-    let n = match n_is_in_range(case.n) {
-        true => case.n as usize,
-        false => VARIABLES,
+    let setting = Setting {
+        n: match n_is_in_range(case.n) {
+            true => case.n,
+            false => MOST_N,
+        },
+        ..case.setting()
     };
     if terms_have_a_length(&case.terms) {
-        if let Ok(system) = read_terms(n, Marks(case.marks), &case.terms) {
+        if let Ok(system) = read_terms(setting, &case.terms) {
             let lines = write_system(&system);
             return lines.iter().map(|line| format!("  {line}")).collect();
         }
@@ -81,7 +87,7 @@ fn system_lines(case: &Case) -> Vec<String> {
             fields.exponents.map(|e| e.to_string()).join("."),
             fields.coefficient
         );
-        for fault in fields.faults(n, Marks(case.marks)) {
+        for fault in fields.faults(setting.n as usize, setting.marks) {
             line += &format!(" ({fault})");
         }
         lines.push(line);
@@ -127,6 +133,8 @@ fn answer_lines(case: &Case, reply: &Reply, buffer: &[u8]) -> Vec<String> {
 #[cfg(test)]
 mod tests {
     use super::*;
+    use crate::degree::Degree;
+    use crate::marks::Marks;
     use crate::notation::terms;
     use crate::records::write_terms;
     use crate::rows::set_of;
@@ -168,6 +176,19 @@ case 5: thin, n = 2, marks 0x1, buffer 0 bytes (0 sets)
 ";
         let thinning = Case::thin(2, input, set_of(&[]), 0);
         assert_eq!(block(5, &thinning.marked(Marks(0b1))), expected);
+    }
+
+    #[test]
+    fn the_limit_of_a_junior_kit_is_shown() {
+        let input = write_terms(&terms("x1' = x1^5"));
+        let expected = "\
+case 6: plan, n = 1, degree 3, K = 6, limit 100, buffer 0 bytes (0 sets)
+  x1' = x1^5
+  code 5 none: order 7, count 0, steps 46, place 0
+  line 5 7 0 46 0 -
+";
+        let plan = Case::plan(1, 6, 100, 0, input);
+        assert_eq!(block(6, &plan.limited(Degree(3))), expected);
     }
 
     #[test]

@@ -1,8 +1,10 @@
 //! A system, its derivatives, and what a set of new monomials leaves over
-//! (document 01, Monomials, derivatives, squares; document 02, [3]).
+//! (document 01, Monomials, derivatives, squares; document 02, [3] and [6]).
 
+use crate::degree::Degree;
 use crate::marks::Marks;
 use crate::monomial::Monomial;
+use crate::setting::Setting;
 use std::collections::{BTreeMap, BTreeSet};
 
 /// A set of new monomials, in their order.
@@ -23,22 +25,45 @@ impl Term {
     }
 }
 
-/// A system of n variables, some of them marked. Those have no terms.
+/// A system of n variables, some of them marked, and the limit of its kit. Marked
+/// variables have no terms.
 #[derive(Clone, PartialEq, Eq, Debug)]
 pub struct System {
     pub n: usize,
     pub marks: Marks,
+    pub degree: Degree,
     pub terms: Vec<Term>,
 }
 
 impl System {
-    /// A system of document 01, in which nothing is marked.
+    /// A system of document 01, in which nothing is marked, with the full kit.
     pub fn unmarked(n: usize, terms: Vec<Term>) -> System {
         System {
             n,
             marks: Marks::NONE,
+            degree: Degree::FULL,
             terms,
         }
+    }
+
+    /// The same system with this limit.
+    pub fn limited(self, degree: Degree) -> System {
+        System { degree, ..self }
+    }
+
+    /// What an operation on it is told before all else.
+    pub fn setting(&self) -> Setting {
+        Setting {
+            n: self.n as u64,
+            marks: self.marks,
+            degree: self.degree,
+        }
+    }
+
+    /// Whether a new monomial may be this one: it has no marked variable, and its
+    /// degree is not above the limit.
+    pub fn takes(&self, monomial: Monomial) -> bool {
+        !self.marks.touch(monomial) && self.degree.reaches(monomial)
     }
 
     /// The derivative of `z`: like monomials added with sign, zero sums gone.

@@ -1,11 +1,12 @@
 //! Random systems within document 01's limits, of kinds that planning treats
-//! differently, with signals fed from outside and without, and random sets to go
-//! with them.
+//! differently, with signals fed from outside and without, for the full kit and for
+//! junior ones, and random sets to go with them.
 
+use crate::degree::Degree;
 use crate::marks::Marks;
 use crate::monomial::Monomial;
 use crate::panel::{
-    CARDS, MOST_COEFFICIENT, MOST_EXPONENT, MOST_SET_EXPONENT, MOST_TERMS, VARIABLES,
+    CARDS, LEAST_DEGREE, MOST_COEFFICIENT, MOST_EXPONENT, MOST_SET_EXPONENT, MOST_TERMS, VARIABLES,
 };
 use crate::random::Random;
 use crate::system::{Set, System, Term};
@@ -52,9 +53,8 @@ impl Draft {
     fn finish(mut self, random: &mut Random) -> System {
         random.shuffle(&mut self.terms);
         System {
-            n: self.n,
             marks: self.marks,
-            terms: self.terms,
+            ..System::unmarked(self.n, self.terms)
         }
     }
 }
@@ -291,9 +291,8 @@ fn spread(random: &mut Random, system: &System) -> System {
     });
     let marked = system.marks.variables().into_iter();
     System {
-        n,
         marks: Marks::of(marked.map(|i| places[i - 1] + 1)),
-        terms: terms.collect(),
+        ..System::unmarked(n, terms.collect())
     }
 }
 
@@ -328,13 +327,23 @@ pub fn any(random: &mut Random) -> System {
 pub enum Outside {
     Nothing,
     Signals,
+    /// Signals in two systems of five.
+    NowAndThen,
 }
 
 impl Outside {
+    fn is_nothing(self, random: &mut Random) -> bool {
+        match self {
+            Outside::Nothing => true,
+            Outside::Signals => false,
+            Outside::NowAndThen => random.chance(60),
+        }
+    }
+
     /// Marks variables of a system, where signals are taken. One at least stays
     /// as it is, so that there is a set for it.
     pub fn feed(self, random: &mut Random, system: System) -> System {
-        if self == Outside::Nothing {
+        if self.is_nothing(random) {
             return system;
         }
         let fed = match system.n {
@@ -351,11 +360,44 @@ impl Outside {
 
     /// So many variables, and which of them are marked: where any is, one is not.
     pub fn variables(self, random: &mut Random, least: usize, most: usize) -> (usize, Marks) {
-        if self == Outside::Nothing {
+        if self.is_nothing(random) {
             return (random.between(least, most), Marks::NONE);
         }
         let n = random.between(least.max(2), most);
         (n, Marks(random.between(1, (1 << n) - 2) as u64))
+    }
+}
+
+/// The kit that a system is for.
+#[derive(Clone, Copy, PartialEq, Eq, Debug)]
+pub enum Kit {
+    Full,
+    Junior,
+}
+
+impl Kit {
+    /// The system with a limit of the kit, the lower ones more often.
+    pub fn limit(self, random: &mut Random, system: System) -> System {
+        match self {
+            Kit::Full => system,
+            Kit::Junior => {
+                let degree = random.pick(&[2, 2, 3, 3, 4, 4, 5, 6, 7, 8, 9]);
+                system.limited(Degree(degree))
+            }
+        }
+    }
+
+    /// The system with a limit next to the highest degree in a set, on either side.
+    pub fn limit_near(self, random: &mut Random, system: System, set: &Set) -> System {
+        match self {
+            Kit::Full => system,
+            Kit::Junior => {
+                let highest = set.iter().map(|m| m.degree()).max().unwrap_or(0);
+                let below = highest.saturating_sub(1);
+                let degree = random.pick(&[highest, highest, highest, below, highest + 1]);
+                system.limited(Degree::nearest(degree))
+            }
+        }
     }
 }
 
@@ -417,9 +459,8 @@ pub fn run(random: &mut Random, n: usize, marks: Marks, count: usize) -> System 
         draft.add(random.between(1, n), monomial, coefficient(random));
     }
     System {
-        n,
         marks,
-        terms: draft.terms,
+        ..System::unmarked(n, draft.terms)
     }
 }
 
@@ -447,6 +488,19 @@ pub fn set(random: &mut Random, n: usize, marks: Marks, size: usize) -> Set {
     let has_member = (1..=n).any(|i| !marks.mark(i));
     while has_member && set.len() < size {
         set.insert(member(random, n, marks));
+    }
+    set
+}
+
+/// A set of the given size with no member above a limit. There must be as many.
+pub fn set_up_to(random: &mut Random, n: usize, marks: Marks, limit: Degree, size: usize) -> Set {
+    let mut set = Set::new();
+    while set.len() < size {
+        let degree = random.between(LEAST_DEGREE as usize, limit.0 as usize);
+        let member = product(random, n, degree);
+        if !marks.touch(member) {
+            set.insert(member);
+        }
     }
     set
 }
@@ -567,7 +621,7 @@ mod tests {
         for _ in 0..2000 {
             let system = any(&mut random);
             assert!((1..=VARIABLES).contains(&system.n));
-            let read = read_terms(system.n, system.marks, &write_terms(&system.terms));
+            let read = read_terms(system.setting(), &write_terms(&system.terms));
             assert_eq!(read, Ok(system));
         }
     }
@@ -583,7 +637,7 @@ mod tests {
             assert!(0 < marked && marked < system.n && system.marks.are_among(system.n));
             let takes = |t: &Term| system.marks.touch(t.monomial);
             used += usize::from(system.terms.iter().any(takes));
-            let read = read_terms(system.n, system.marks, &write_terms(&system.terms));
+            let read = read_terms(system.setting(), &write_terms(&system.terms));
             assert_eq!(read, Ok(system));
         }
         assert!(used > 1000);
@@ -596,7 +650,7 @@ mod tests {
             for n in 1..=VARIABLES {
                 let system = run(&mut random, n, Marks::NONE, count);
                 assert_eq!(system.terms.len(), count);
-                let read = read_terms(system.n, system.marks, &write_terms(&system.terms));
+                let read = read_terms(system.setting(), &write_terms(&system.terms));
                 assert_eq!(read, Ok(system));
             }
         }
@@ -610,7 +664,7 @@ mod tests {
                 for _ in 0..20 {
                     let marks = Marks(random.below(1 << n) as u64);
                     let (system, set) = around_a_set(&mut random, n, marks, size);
-                    assert!(set_faults(n, marks, &write_set(&set)).is_empty());
+                    assert!(set_faults(system.setting(), &write_set(&set)).is_empty());
                     assert!(system.is_quadratic(&set));
                 }
             }
@@ -623,8 +677,8 @@ mod tests {
         for turn in 0..300 {
             let outside = [Outside::Nothing, Outside::Signals][turn % 2];
             let (system, set) = closed(&mut random, outside);
-            let read = read_terms(system.n, system.marks, &write_terms(&system.terms));
-            assert!(set_faults(system.n, system.marks, &write_set(&set)).is_empty());
+            let read = read_terms(system.setting(), &write_terms(&system.terms));
+            assert!(set_faults(system.setting(), &write_set(&set)).is_empty());
             assert!(system.is_quadratic(&set));
             assert_eq!(read, Ok(system));
         }

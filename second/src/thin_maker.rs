@@ -8,7 +8,7 @@ use crate::panel::{CARDS, MOST_CAP, MOST_SET_EXPONENT, SET_BYTES};
 use crate::random::Random;
 use crate::records::{read_set, write_set, write_terms};
 use crate::system::{Set, System};
-use crate::systems::{self, Outside};
+use crate::systems::{self, Kit, Outside};
 use crate::walk::Hopeless;
 
 /// Thinning. With these shares some 500 cases go through every turn of places,
@@ -17,6 +17,7 @@ pub const THINNING: Mix = Mix {
     asks: &[Ask::Thin],
     given: &[Ask::Thin],
     outside: Outside::Nothing,
+    kit: Kit::Full,
     hopeless: Hopeless::Tried,
     shares: &[
         (18, Maker::thin_found_sets),
@@ -63,17 +64,21 @@ impl Maker {
     pub fn planned(&mut self) -> (System, Vec<Set>) {
         loop {
             let system = self.any_system();
-            let terms = write_terms(&system.terms);
-            let n = system.n as u64;
-            let plan = Case::plan(n, MOST_CAP, SHORT_WALK, MOST_CASE_BUFFER, terms);
-            let (reply, sets) = self.answer(&plan.marked(system.marks));
-            if reply.code == 0 {
-                let found = sets.chunks(SET_BYTES).take(reply.count as usize);
-                let read = |record| read_set(system.n, system.marks, record).expect("a found set");
-                let found = found.map(read).collect();
+            if let Some(found) = self.found(&system) {
                 return (system, found);
             }
         }
+    }
+
+    /// All that a short walk finds, where it finishes a system.
+    pub fn found(&self, system: &System) -> Option<Vec<Set>> {
+        let terms = write_terms(&system.terms);
+        let n = system.n as u64;
+        let plan = Case::plan(n, MOST_CAP, SHORT_WALK, MOST_CASE_BUFFER, terms);
+        let (reply, sets) = self.answer(&plan.kit_of(system));
+        let found = sets.chunks(SET_BYTES).take(reply.count as usize);
+        let read = |record| read_set(system.setting(), record).expect("a found set");
+        (reply.code == 0).then(|| found.map(read).collect())
     }
 
     /// The set with some more signals that leave it quadratic: what an old forum
@@ -122,11 +127,10 @@ impl Maker {
     }
 
     /// Thins a good set record once or twice, around the list's own length.
-    fn thin_with(&mut self, system: &System, given: &Set) {
+    pub fn thin_with(&mut self, system: &System, given: &Set) {
         let thin = |buffer| {
             let set = write_set(given).to_vec();
-            Case::thin(system.n as u64, write_terms(&system.terms), set, buffer)
-                .marked(system.marks)
+            Case::thin(system.n as u64, write_terms(&system.terms), set, buffer).kit_of(system)
         };
         let (reply, _) = thin(MOST_CASE_BUFFER).answer();
         let exact = reply.count as usize * SET_BYTES;
@@ -158,7 +162,7 @@ fn extra(random: &mut Random, system: &System, set: &Set) -> Option<Monomial> {
     let product = random.pick(&signals).times(random.pick(&signals));
     let new = product != Monomial::ONE
         && !product.is_variable()
-        && !system.marks.touch(product)
+        && system.takes(product)
         && product.0.iter().all(|&e| e <= MOST_SET_EXPONENT);
     new.then_some(product)
 }

@@ -65,9 +65,9 @@ const ROOTS: [&str; CARDS] = ["x2 x3", "x4 x5", "x2 x6^2", "x3 x5", "x4 x6", "x3
 
 /// A number of variables, a system, a given set, and how many of its subsets
 /// are smallest.
-type Given = (u64, &'static str, &'static [&'static str], usize);
+pub type Given = (u64, &'static str, &'static [&'static str], usize);
 
-const GIVEN: [Given; 27] = [
+pub const GIVEN: [Given; 27] = [
     (1, "x1' = x1^4 + x1^3", &["x1^2", "x1^3", "x1^4"], 2),
     (6, "x1' = x1^4 + x1^3", &["x1^2", "x1^3", "x1^4"], 2),
     (1, "x1' = x1", &["x1^2", "x1^3"], 1),

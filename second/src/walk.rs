@@ -1,4 +1,4 @@
-//! The walk, level by level (document 01, The walk; document 02, [3] and [4]).
+//! The walk, level by level (document 01, The walk; document 02, [3], [4] and [6]).
 
 use crate::closing::lacks;
 use crate::monomial::Monomial;
@@ -24,14 +24,14 @@ pub enum End {
     Spent,
 }
 
-/// The end of a walk, the level it ended in, its steps and its finds; and how much
-/// room the level had left for the sets that were closed.
+/// The end of a walk, the level it ended in, its steps and its finds; and the sets
+/// that were closed, each with the level.
 pub struct Walked {
     pub end: End,
     pub level: usize,
     pub steps: u64,
     pub finds: BTreeSet<Vec<Monomial>>,
-    pub closed: BTreeSet<usize>,
+    pub closed: BTreeSet<(usize, Set)>,
 }
 
 /// Walks up to the cap, within the limit, with room for so many sets.
@@ -70,7 +70,7 @@ struct Walk<'a> {
     room: usize,
     steps: u64,
     finds: BTreeSet<Vec<Monomial>>,
-    closed: BTreeSet<usize>,
+    closed: BTreeSet<(usize, Set)>,
 }
 
 impl Walk<'_> {
@@ -104,7 +104,7 @@ impl Walk<'_> {
             None => self.find(set),
             Some(_) if set.len() == self.level => Ok(()),
             Some(_) if self.closes(set, &nonsquares) => {
-                self.closed.insert(self.level - set.len());
+                self.closed.insert((self.level, set.clone()));
                 Ok(())
             }
             Some(nonsquare) => self.try_pairs(set, *nonsquare),
@@ -121,14 +121,14 @@ impl Walk<'_> {
 
     /// Tries the pairs of a nonsquare, each child walked to its end at once. A
     /// pair is judged by what it would add, so that a marked variable itself,
-    /// which is in V, forbids nothing.
+    /// which is in V, forbids nothing. Nothing in V is above the limit.
     fn try_pairs(&mut self, set: &Set, nonsquare: Monomial) -> Result<(), Stop> {
         let signals = self.system.signals(set);
         for (m1, m2) in nonsquare.pairs() {
             self.step()?;
             let mut new = vec![m1, m2];
             new.retain(|m| !signals.contains(m));
-            if new.iter().any(|m| self.system.marks.touch(*m)) {
+            if new.iter().any(|m| !self.system.takes(*m)) {
                 continue;
             }
             let mut child = set.clone();

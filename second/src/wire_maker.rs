@@ -7,7 +7,7 @@ use crate::maker::{Ask, Maker, Mix};
 use crate::panel::{MOST_TERMS, MOST_WIRES_BYTES, WIRE_BYTES};
 use crate::records::{write_set, write_terms};
 use crate::system::{Set, System};
-use crate::systems::{self, Outside};
+use crate::systems::{self, Kit, Outside};
 use crate::walk::Hopeless;
 use crate::wire_cover::Derivatives;
 
@@ -16,6 +16,7 @@ pub const WIRING: Mix = Mix {
     asks: &[Ask::Verdict, Ask::Wire],
     given: &[Ask::Verdict, Ask::Wire],
     outside: Outside::Nothing,
+    kit: Kit::Full,
     hopeless: Hopeless::Tried,
     shares: &[
         (14, Maker::wire_found_set),
@@ -83,8 +84,7 @@ impl Maker {
         let rooms: Vec<usize> = Derivatives::of(system, set).rooms().into_iter().collect();
         let wire = |buffer| {
             let set = write_set(set).to_vec();
-            Case::wire(system.n as u64, write_terms(&system.terms), set, buffer)
-                .marked(system.marks)
+            Case::wire(system.n as u64, write_terms(&system.terms), set, buffer).kit_of(system)
         };
         for _ in 0..self.random.between(1, 2) {
             let bytes = self.random.pick(&rooms) * WIRE_BYTES;

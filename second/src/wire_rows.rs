@@ -12,6 +12,7 @@ use crate::rows::{
     box_of_two, bytes_of, own_variable_times_signals, set_of, BOX_OF_TWO, CANCELLING,
     CANCELLING_SET, EXAMPLE_3, NEARLY_CANCELLING, RABINOVICH_FABRIKANT, SIX_SIGNALS,
 };
+use crate::setting::Setting;
 use crate::system::Set;
 use crate::wire_cover::Derivatives;
 
@@ -139,8 +140,9 @@ fn before_each_nonsquare() -> Vec<Case> {
     let mut cases = Vec::new();
     for (n, text, names, _) in not_quadratic() {
         let (terms, set) = (bytes_of(&text), set_of(names));
-        let system = read_terms(n as usize, Marks::NONE, &terms).expect("terms that are taken");
-        let members = read_set(n as usize, Marks::NONE, &set).expect("a set that is taken");
+        let setting = Setting::full(n as usize, Marks::NONE);
+        let system = read_terms(setting, &terms).expect("terms that are taken");
+        let members = read_set(setting, &set).expect("a set that is taken");
         let rooms = Derivatives::of(&system, &members).rooms();
         let around = |room: usize| {
             let bytes = room * WIRE_BYTES;

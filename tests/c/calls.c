@@ -9,7 +9,13 @@
 extern int printf(const char *format, ...);
 
 /* What a case plans with where it names nothing else. */
-enum { NO_MARKS = SIRAGUMON_NO_MARKS, CAP = SIRAGUMON_CARDS, LIMIT = 1000000, ROOM = 1000 * SIRAGUMON_SET_BYTES };
+enum {
+    NO_MARKS = SIRAGUMON_NO_MARKS,
+    FULL_KIT = SIRAGUMON_FULL_DEGREE,
+    CAP = SIRAGUMON_CARDS,
+    LIMIT = 1000000,
+    ROOM = 1000 * SIRAGUMON_SET_BYTES
+};
 
 #define MARK SIRAGUMON_MARK
 
@@ -113,6 +119,10 @@ static const uint8_t knob_and_u[] = {TERM(1, 2, 1, 0, 1), TERM(1, 0, 0, 1, 1)};
 static const uint8_t product[] = {TERM(4, 1, 1, 1, 1)};
 static const uint8_t u_then_twice[] = {TERM(1, 0, 1, 0, 1), TERM(2, 1, 0, 0, 1), TERM(1, 0, 1, 0, 1)};
 static const uint8_t twice_then_u[] = {TERM(1, 0, 1, 0, 1), TERM(1, 0, 1, 0, 5), TERM(2, 1, 0, 0, 1)};
+/* for cases that a kit limits */
+static const uint8_t x2_x9[] = {TERM(2, 9, 0, 0, 1)};
+static const uint8_t square_of_product[] = {TERM(1, 3, 2, 0, 1)};
+static const uint8_t three_factors[] = {TERM(1, 2, 1, 1, 1)};
 static const uint8_t coefficient_in[] = {TERM(1, 1, 0, 0, SIRAGUMON_COEFFICIENT_MOST)};
 static const uint8_t coefficient_out[] = {TERM(1, 1, 0, 0, SIRAGUMON_COEFFICIENT_MOST + 1)};
 static const uint8_t exponent_in[] = {TERM(1, SIRAGUMON_EXPONENT_MOST, 0, 0, 1)};
@@ -162,12 +172,15 @@ static const uint8_t five_ways[SIRAGUMON_SET_BYTES] = {
 static const uint8_t power_in[SIRAGUMON_SET_BYTES] = {SIRAGUMON_SET_EXPONENT_MOST};
 static const uint8_t power_out[SIRAGUMON_SET_BYTES] = {SIRAGUMON_SET_EXPONENT_MOST + 1};
 static const uint8_t set_x1x2_square[SIRAGUMON_SET_BYTES] = {[X(1, 0)] = 1, [X(2, 0)] = 1, [X(1, 1)] = 2, [X(2, 1)] = 2};
+static const uint8_t set_square_of_product[SIRAGUMON_SET_BYTES] = {2, 2};
 static const uint8_t u_in_last[SIRAGUMON_SET_BYTES] = {[X(1, 0)] = 2, [X(1, 1)] = 2, [X(3, 1)] = 1};
 static const uint8_t set_waves_z2[SIRAGUMON_SET_BYTES] = {
     [X(3, 0)] = 2, [X(2, 1)] = 2, [X(1, 2)] = 1, [X(2, 2)] = 1, [X(1, 3)] = 2,
 };
 /* the square of each variable */
 static uint8_t squares[SIRAGUMON_SET_BYTES];
+/* the highest power of each variable, all in one monomial */
+static uint8_t highest[SIRAGUMON_SET_BYTES];
 
 /* The smallest of `five_ways` for x'=x^4. */
 #define WAY(way, first, second, third) \
@@ -185,13 +198,13 @@ static void power(uint8_t *record, unsigned variable, uint8_t exponent) {
 
 /* ---- the calls */
 
-static void plan(const char *name, uint64_t n, uint64_t marks, uint64_t cap, uint64_t limit, const uint8_t *system, size_t len, size_t room,
-                 const uint64_t *five, const uint8_t *is, size_t is_len) {
+static void plan(const char *name, uint64_t n, uint64_t marks, uint64_t degree, uint64_t cap, uint64_t limit, const uint8_t *system, size_t len,
+                 size_t room, const uint64_t *five, const uint8_t *is, size_t is_len) {
     cases++;
     lend(&terms, system, len);
     lend(&out, 0, room);
     lend_row();
-    siragumon_plan(n, marks, cap, limit, bytes(&terms), len, bytes(&out), room, row + 1);
+    siragumon_plan(n, marks, degree, cap, limit, bytes(&terms), len, bytes(&out), room, row + 1);
     expect_row(name, five);
     expect(holds(&out, is, is_len), name, "another buffer");
     expect(guarded(&out) && guarded(&terms), name, "wrote beside the buffer");
@@ -199,38 +212,38 @@ static void plan(const char *name, uint64_t n, uint64_t marks, uint64_t cap, uin
 }
 
 /* A call that lists something of a given set: wiring and thinning. */
-typedef void lister(uint64_t n, uint64_t marks, const uint8_t *terms, size_t terms_len, const uint8_t *set, size_t set_len, uint8_t *out,
-                    size_t out_len, uint64_t *five);
+typedef void lister(uint64_t n, uint64_t marks, uint64_t degree, const uint8_t *terms, size_t terms_len, const uint8_t *set, size_t set_len,
+                    uint8_t *out, size_t out_len, uint64_t *five);
 
-static void list(lister call, const char *name, uint64_t n, uint64_t marks, const uint8_t *system, size_t len, const uint8_t *record,
+static void list(lister call, const char *name, uint64_t n, uint64_t marks, uint64_t degree, const uint8_t *system, size_t len, const uint8_t *record,
                  size_t record_len, size_t room, const uint64_t *five, const uint8_t *is, size_t is_len) {
     cases++;
     lend(&terms, system, len);
     lend(&set, record, record_len);
     lend(&out, 0, room);
     lend_row();
-    call(n, marks, bytes(&terms), len, bytes(&set), record_len, bytes(&out), room, row + 1);
+    call(n, marks, degree, bytes(&terms), len, bytes(&set), record_len, bytes(&out), room, row + 1);
     expect_row(name, five);
     expect(holds(&out, is, is_len), name, "another buffer");
     expect(guarded(&out) && guarded(&terms) && guarded(&set), name, "wrote beside the buffer");
     expect(unchanged(&terms, system) && unchanged(&set, record), name, "changed what it read");
 }
 
-static void wire(const char *name, uint64_t n, uint64_t marks, const uint8_t *system, size_t len, const uint8_t *record, size_t record_len, size_t room,
-                 const uint64_t *five, const uint8_t *is, size_t is_len) {
-    list(siragumon_wire, name, n, marks, system, len, record, record_len, room, five, is, is_len);
+static void wire(const char *name, uint64_t n, uint64_t marks, uint64_t degree, const uint8_t *system, size_t len, const uint8_t *record,
+                 size_t record_len, size_t room, const uint64_t *five, const uint8_t *is, size_t is_len) {
+    list(siragumon_wire, name, n, marks, degree, system, len, record, record_len, room, five, is, is_len);
 }
 
 /* The verdict alone, into no buffer and into the longest that holds no record. */
-static void verdict(const char *name, uint64_t n, uint64_t marks, const uint8_t *system, size_t len, const uint8_t *record, size_t record_len,
-                    const uint64_t *five) {
-    wire(name, n, marks, system, len, record, record_len, 0, five, NO_BYTES);
-    wire(name, n, marks, system, len, record, record_len, SIRAGUMON_WIRE_BYTES - 1, five, NO_BYTES);
+static void verdict(const char *name, uint64_t n, uint64_t marks, uint64_t degree, const uint8_t *system, size_t len, const uint8_t *record,
+                    size_t record_len, const uint64_t *five) {
+    wire(name, n, marks, degree, system, len, record, record_len, 0, five, NO_BYTES);
+    wire(name, n, marks, degree, system, len, record, record_len, SIRAGUMON_WIRE_BYTES - 1, five, NO_BYTES);
 }
 
-static int is_quadratic(uint64_t n, uint64_t marks, const uint8_t *system, size_t len, const uint8_t *record) {
+static int is_quadratic(uint64_t n, uint64_t marks, uint64_t degree, const uint8_t *system, size_t len, const uint8_t *record) {
     uint64_t five[SIRAGUMON_NUMBERS];
-    siragumon_wire(n, marks, system, len, record, SIRAGUMON_SET_BYTES, NULL, 0, five);
+    siragumon_wire(n, marks, degree, system, len, record, SIRAGUMON_SET_BYTES, NULL, 0, five);
     return five[SIRAGUMON_CODE] == SIRAGUMON_DONE || five[SIRAGUMON_CODE] == SIRAGUMON_FULL;
 }
 
@@ -241,7 +254,7 @@ static struct {
     uint8_t sets[SIRAGUMON_SUBSETS_BYTES];
 } by_verdicts;
 
-static void judge_subsets(uint64_t n, uint64_t marks, const uint8_t *system, size_t len, const uint8_t *record, size_t size) {
+static void judge_subsets(uint64_t n, uint64_t marks, uint64_t degree, const uint8_t *system, size_t len, const uint8_t *record, size_t size) {
     size_t least = size;
     by_verdicts.count = 0;
     for (unsigned mask = 1u << size; mask-- > 0;) {
@@ -253,7 +266,7 @@ static void judge_subsets(uint64_t n, uint64_t marks, const uint8_t *system, siz
                 subset[SIRAGUMON_VARIABLES * kept + j] = record[SIRAGUMON_VARIABLES * i + j];
             kept++;
         }
-        if (kept > least || !is_quadratic(n, marks, system, len, subset)) continue;
+        if (kept > least || !is_quadratic(n, marks, degree, system, len, subset)) continue;
         if (kept < least) by_verdicts.count = 0;
         least = kept;
         for (size_t j = 0; j < sizeof subset; j++) by_verdicts.sets[SIRAGUMON_SET_BYTES * by_verdicts.count + j] = subset[j];
@@ -264,12 +277,12 @@ static void judge_subsets(uint64_t n, uint64_t marks, const uint8_t *system, siz
 static struct lent listed;
 
 /* Where it is done, the list is also what the verdict on each subset gives, and each of its sets is wired. */
-static void thin(const char *name, uint64_t n, uint64_t marks, const uint8_t *system, size_t len, const uint8_t *record, size_t record_len, size_t room,
-                 const uint64_t *five, const uint8_t *is, size_t is_len) {
-    list(siragumon_thin, name, n, marks, system, len, record, record_len, room, five, is, is_len);
+static void thin(const char *name, uint64_t n, uint64_t marks, uint64_t degree, const uint8_t *system, size_t len, const uint8_t *record,
+                 size_t record_len, size_t room, const uint64_t *five, const uint8_t *is, size_t is_len) {
+    list(siragumon_thin, name, n, marks, degree, system, len, record, record_len, room, five, is, is_len);
     if (five[SIRAGUMON_CODE] != SIRAGUMON_DONE && five[SIRAGUMON_CODE] != SIRAGUMON_FULL) return;
-    siragumon_wire(n, marks, system, len, record, record_len, NULL, 0, row + 1);
-    judge_subsets(n, marks, system, len, record, row[1 + SIRAGUMON_ORDER]);
+    siragumon_wire(n, marks, degree, system, len, record, record_len, NULL, 0, row + 1);
+    judge_subsets(n, marks, degree, system, len, record, row[1 + SIRAGUMON_ORDER]);
     size_t found = by_verdicts.count;
     if (five[SIRAGUMON_CODE] == SIRAGUMON_FULL) {
         expect(room / SIRAGUMON_SET_BYTES < found, name, "full, where there is room for all");
@@ -280,155 +293,158 @@ static void thin(const char *name, uint64_t n, uint64_t marks, const uint8_t *sy
     for (size_t i = 0; i < found; i++) {
         cases++;
         lend(&out, 0, SIRAGUMON_WIRES_BYTES);
-        siragumon_wire(n, marks, system, len, bytes(&listed) + SIRAGUMON_SET_BYTES * i, SIRAGUMON_SET_BYTES, bytes(&out), out.len, row + 1);
+        siragumon_wire(n, marks, degree, system, len, bytes(&listed) + SIRAGUMON_SET_BYTES * i, SIRAGUMON_SET_BYTES, bytes(&out), out.len, row + 1);
         expect(row[1 + SIRAGUMON_CODE] == SIRAGUMON_DONE && row[1 + SIRAGUMON_ORDER] == five[SIRAGUMON_ORDER], name, "a listed set is not wired");
     }
 }
 
 /* A refusal of the two that take a set, whatever is lent: the numbers, and a buffer of zeros. */
-static void refused(const char *name, uint64_t n, uint64_t marks, const uint8_t *system, size_t len, const uint8_t *record, size_t record_len,
-                    const uint64_t *five) {
-    verdict(name, n, marks, system, len, record, record_len, five);
-    wire(name, n, marks, system, len, record, record_len, 101, five, NO_BYTES);
-    thin(name, n, marks, system, len, record, record_len, 101, five, NO_BYTES);
+static void refused(const char *name, uint64_t n, uint64_t marks, uint64_t degree, const uint8_t *system, size_t len, const uint8_t *record,
+                    size_t record_len, const uint64_t *five) {
+    verdict(name, n, marks, degree, system, len, record, record_len, five);
+    wire(name, n, marks, degree, system, len, record, record_len, 101, five, NO_BYTES);
+    thin(name, n, marks, degree, system, len, record, record_len, 101, five, NO_BYTES);
 }
 
 /* A refusal of all three. */
-static void all_refuse(const char *name, uint64_t n, uint64_t marks, const uint8_t *system, size_t len, const uint8_t *record, size_t record_len,
-                       const uint64_t *five) {
-    plan(name, n, marks, CAP, LIMIT, system, len, 101, five, NO_BYTES);
-    refused(name, n, marks, system, len, record, record_len, five);
+static void all_refuse(const char *name, uint64_t n, uint64_t marks, uint64_t degree, const uint8_t *system, size_t len, const uint8_t *record,
+                       size_t record_len, const uint64_t *five) {
+    plan(name, n, marks, degree, CAP, LIMIT, system, len, 101, five, NO_BYTES);
+    refused(name, n, marks, degree, system, len, record, record_len, five);
 }
 
 /* Document 01's sums worked by hand. */
 static void worked(void) {
-    plan("no records", 1, NO_MARKS, CAP, LIMIT, NO_BYTES, ROOM, FIVE(0, 0, 1, 1, 0), BYTES(empty));
-    plan("x'=x^2", 1, NO_MARKS, CAP, LIMIT, BYTES(x2), ROOM, FIVE(0, 0, 1, 1, 0), BYTES(empty));
-    plan("x'=x^2, room 0", 1, NO_MARKS, CAP, LIMIT, BYTES(x2), SIRAGUMON_SET_BYTES - 1, FIVE(6, 0, 0, 1, 0), NO_BYTES);
-    plan("x'=x^3", 1, NO_MARKS, CAP, LIMIT, BYTES(x3), ROOM, FIVE(0, 1, 1, 6, 0), BYTES(set_x2));
-    plan("x'=x^3, cap 0", 1, NO_MARKS, 0, LIMIT, BYTES(x3), ROOM, FIVE(5, 1, 0, 1, 0), NO_BYTES);
-    plan("x'=x^5, limit 7", 1, NO_MARKS, CAP, 7, BYTES(x5), ROOM, FIVE(0, 1, 1, 7, 0), BYTES(set_x4));
-    plan("x'=x^5, limit 6", 1, NO_MARKS, CAP, 6, BYTES(x5), ROOM, FIVE(7, 1, 0, 6, 0), NO_BYTES);
-    plan("x'=x^4+x^3", 1, NO_MARKS, CAP, LIMIT, BYTES(x4_x3), ROOM, FIVE(0, 2, 2, 23, 0), BYTES(both_sets));
-    plan("x'=x^4+x^3, room 1", 1, NO_MARKS, CAP, LIMIT, BYTES(x4_x3), 2 * SIRAGUMON_SET_BYTES - 1, FIVE(6, 2, 0, 15, 0), NO_BYTES);
-    plan("document 000", 2, NO_MARKS, CAP, LIMIT, BYTES(two), ROOM, FIVE(0, 2, 1, 23, 0), BYTES(set_squares));
-    plan("two that cancel", 2, NO_MARKS, CAP, LIMIT, BYTES(cancelling), ROOM, FIVE(0, 1, 1, 8, 0), BYTES(set_x1x2));
-    plan("x2 unfed", 2, NO_MARKS, CAP, LIMIT, BYTES(unfed), ROOM, FIVE(0, 1, 1, 8, 0), BYTES(set_x1x2));
-    plan("six variables, five unused", 6, NO_MARKS, CAP, LIMIT, BYTES(x4_x3), ROOM, FIVE(0, 2, 2, 23, 0), BYTES(both_sets));
+    plan("no records", 1, NO_MARKS, FULL_KIT, CAP, LIMIT, NO_BYTES, ROOM, FIVE(0, 0, 1, 1, 0), BYTES(empty));
+    plan("x'=x^2", 1, NO_MARKS, FULL_KIT, CAP, LIMIT, BYTES(x2), ROOM, FIVE(0, 0, 1, 1, 0), BYTES(empty));
+    plan("x'=x^2, room 0", 1, NO_MARKS, FULL_KIT, CAP, LIMIT, BYTES(x2), SIRAGUMON_SET_BYTES - 1, FIVE(6, 0, 0, 1, 0), NO_BYTES);
+    plan("x'=x^3", 1, NO_MARKS, FULL_KIT, CAP, LIMIT, BYTES(x3), ROOM, FIVE(0, 1, 1, 6, 0), BYTES(set_x2));
+    plan("x'=x^3, cap 0", 1, NO_MARKS, FULL_KIT, 0, LIMIT, BYTES(x3), ROOM, FIVE(5, 1, 0, 1, 0), NO_BYTES);
+    plan("x'=x^5, limit 7", 1, NO_MARKS, FULL_KIT, CAP, 7, BYTES(x5), ROOM, FIVE(0, 1, 1, 7, 0), BYTES(set_x4));
+    plan("x'=x^5, limit 6", 1, NO_MARKS, FULL_KIT, CAP, 6, BYTES(x5), ROOM, FIVE(7, 1, 0, 6, 0), NO_BYTES);
+    plan("x'=x^4+x^3", 1, NO_MARKS, FULL_KIT, CAP, LIMIT, BYTES(x4_x3), ROOM, FIVE(0, 2, 2, 23, 0), BYTES(both_sets));
+    plan("x'=x^4+x^3, room 1", 1, NO_MARKS, FULL_KIT, CAP, LIMIT, BYTES(x4_x3), 2 * SIRAGUMON_SET_BYTES - 1, FIVE(6, 2, 0, 15, 0), NO_BYTES);
+    plan("document 000", 2, NO_MARKS, FULL_KIT, CAP, LIMIT, BYTES(two), ROOM, FIVE(0, 2, 1, 23, 0), BYTES(set_squares));
+    plan("two that cancel", 2, NO_MARKS, FULL_KIT, CAP, LIMIT, BYTES(cancelling), ROOM, FIVE(0, 1, 1, 8, 0), BYTES(set_x1x2));
+    plan("x2 unfed", 2, NO_MARKS, FULL_KIT, CAP, LIMIT, BYTES(unfed), ROOM, FIVE(0, 1, 1, 8, 0), BYTES(set_x1x2));
+    plan("six variables, five unused", 6, NO_MARKS, FULL_KIT, CAP, LIMIT, BYTES(x4_x3), ROOM, FIVE(0, 2, 2, 23, 0), BYTES(both_sets));
 
     static const uint8_t list[] = {1, 1, 3, 0, COEFFICIENT(1), 2, 2, 3, 0, COEFFICIENT(-1)};
-    wire("two that cancel", 2, NO_MARKS, BYTES(cancelling), BYTES(set_x1x2), SIRAGUMON_WIRES_BYTES, FIVE(0, 1, 2, 0, 0), BYTES(list));
-    wire("x'=x^4+x^3 of six", 6, NO_MARKS, BYTES(x4_x3), both_sets, SIRAGUMON_SET_BYTES, SIRAGUMON_WIRES_BYTES, FIVE(0, 2, 6, 0, 0), BYTES(first_wired));
-    verdict("Rabinovich-Fabrikant", 3, NO_MARKS, BYTES(waves), BYTES(set_waves), FIVE(6, 3, 0, 0, 0));
+    wire("two that cancel", 2, NO_MARKS, FULL_KIT, BYTES(cancelling), BYTES(set_x1x2), SIRAGUMON_WIRES_BYTES, FIVE(0, 1, 2, 0, 0), BYTES(list));
+    wire("x'=x^4+x^3 of six", 6, NO_MARKS, FULL_KIT, BYTES(x4_x3), both_sets, SIRAGUMON_SET_BYTES, SIRAGUMON_WIRES_BYTES, FIVE(0, 2, 6, 0, 0),
+         BYTES(first_wired));
+    verdict("Rabinovich-Fabrikant", 3, NO_MARKS, FULL_KIT, BYTES(waves), BYTES(set_waves), FIVE(6, 3, 0, 0, 0));
 
     static const uint8_t one[] = {1, 0, 1, 0, COEFFICIENT(SIRAGUMON_COEFFICIENT_MOST)};
-    wire("coefficient 1,000,000", 1, NO_MARKS, BYTES(coefficient_in), BYTES(empty), sizeof one, FIVE(0, 0, 1, 0, 0), BYTES(one));
-    verdict("coefficient 1,000,000", 1, NO_MARKS, BYTES(coefficient_in), BYTES(empty), FIVE(6, 0, 0, 0, 0));
-    refused("coefficient 1,000,001", 1, NO_MARKS, BYTES(coefficient_out), BYTES(empty), FIVE(3, 0, 0, 0, 1));
-    verdict("exponent 9", 1, NO_MARKS, BYTES(exponent_in), BYTES(empty), FIVE(9, 0, 0, 0, 1));
-    refused("exponent 10", 1, NO_MARKS, BYTES(exponent_out), BYTES(empty), FIVE(3, 0, 0, 0, 1));
-    verdict("32 records", 6, NO_MARKS, many, SIRAGUMON_TERMS_BYTES, BYTES(empty), FIVE(6, 0, 0, 0, 0));
-    plan("32 records", 6, NO_MARKS, CAP, LIMIT, many, SIRAGUMON_TERMS_BYTES, ROOM, FIVE(0, 0, 1, 1, 0), BYTES(empty));
-    refused("33 records", 6, NO_MARKS, BYTES(many), BYTES(empty), FIVE(2, 0, 0, 0, 0));
-    refused("x'=x twice", 1, NO_MARKS, BYTES(twice), BYTES(empty), FIVE(4, 0, 0, 0, 2));
+    wire("coefficient 1,000,000", 1, NO_MARKS, FULL_KIT, BYTES(coefficient_in), BYTES(empty), sizeof one, FIVE(0, 0, 1, 0, 0), BYTES(one));
+    verdict("coefficient 1,000,000", 1, NO_MARKS, FULL_KIT, BYTES(coefficient_in), BYTES(empty), FIVE(6, 0, 0, 0, 0));
+    refused("coefficient 1,000,001", 1, NO_MARKS, FULL_KIT, BYTES(coefficient_out), BYTES(empty), FIVE(3, 0, 0, 0, 1));
+    verdict("exponent 9", 1, NO_MARKS, FULL_KIT, BYTES(exponent_in), BYTES(empty), FIVE(9, 0, 0, 0, 1));
+    refused("exponent 10", 1, NO_MARKS, FULL_KIT, BYTES(exponent_out), BYTES(empty), FIVE(3, 0, 0, 0, 1));
+    verdict("32 records", 6, NO_MARKS, FULL_KIT, many, SIRAGUMON_TERMS_BYTES, BYTES(empty), FIVE(6, 0, 0, 0, 0));
+    plan("32 records", 6, NO_MARKS, FULL_KIT, CAP, LIMIT, many, SIRAGUMON_TERMS_BYTES, ROOM, FIVE(0, 0, 1, 1, 0), BYTES(empty));
+    refused("33 records", 6, NO_MARKS, FULL_KIT, BYTES(many), BYTES(empty), FIVE(2, 0, 0, 0, 0));
+    refused("x'=x twice", 1, NO_MARKS, FULL_KIT, BYTES(twice), BYTES(empty), FIVE(4, 0, 0, 0, 2));
 }
 
 /* The verdict does not hang on the room: full and done are quadratic, done into no room where the list is empty. */
 static void verdicts(void) {
-    verdict("x'=x^3", 1, NO_MARKS, BYTES(x3), BYTES(set_x2), FIVE(6, 1, 0, 0, 0));
-    verdict("x'=x^4+x^3", 1, NO_MARKS, BYTES(x4_x3), both_sets, SIRAGUMON_SET_BYTES, FIVE(6, 2, 0, 0, 0));
-    verdict("two that cancel", 2, NO_MARKS, BYTES(cancelling), BYTES(set_x1x2), FIVE(6, 1, 0, 0, 0));
-    verdict("six cubes", 6, NO_MARKS, BYTES(cubes), BYTES(squares), FIVE(6, 6, 0, 0, 0));
-    verdict("x^54", 1, NO_MARKS, BYTES(x1), BYTES(power_in), FIVE(6, 1, 0, 0, 0));
+    verdict("x'=x^3", 1, NO_MARKS, FULL_KIT, BYTES(x3), BYTES(set_x2), FIVE(6, 1, 0, 0, 0));
+    verdict("x'=x^4+x^3", 1, NO_MARKS, FULL_KIT, BYTES(x4_x3), both_sets, SIRAGUMON_SET_BYTES, FIVE(6, 2, 0, 0, 0));
+    verdict("two that cancel", 2, NO_MARKS, FULL_KIT, BYTES(cancelling), BYTES(set_x1x2), FIVE(6, 1, 0, 0, 0));
+    verdict("six cubes", 6, NO_MARKS, FULL_KIT, BYTES(cubes), BYTES(squares), FIVE(6, 6, 0, 0, 0));
+    verdict("x^54", 1, NO_MARKS, FULL_KIT, BYTES(x1), BYTES(power_in), FIVE(6, 1, 0, 0, 0));
 
-    verdict("no records", 1, NO_MARKS, NO_BYTES, BYTES(empty), FIVE(0, 0, 0, 0, 0));
-    verdict("no records, a signal", 1, NO_MARKS, NO_BYTES, BYTES(set_x2), FIVE(0, 1, 0, 0, 0));
-    verdict("no records, six signals", 6, NO_MARKS, NO_BYTES, BYTES(squares), FIVE(0, 6, 0, 0, 0));
-    wire("no records, room for every list", 6, NO_MARKS, NO_BYTES, BYTES(squares), SIRAGUMON_WIRES_BYTES, FIVE(0, 6, 0, 0, 0), NO_BYTES);
+    verdict("no records", 1, NO_MARKS, FULL_KIT, NO_BYTES, BYTES(empty), FIVE(0, 0, 0, 0, 0));
+    verdict("no records, a signal", 1, NO_MARKS, FULL_KIT, NO_BYTES, BYTES(set_x2), FIVE(0, 1, 0, 0, 0));
+    verdict("no records, six signals", 6, NO_MARKS, FULL_KIT, NO_BYTES, BYTES(squares), FIVE(0, 6, 0, 0, 0));
+    wire("no records, room for every list", 6, NO_MARKS, FULL_KIT, NO_BYTES, BYTES(squares), SIRAGUMON_WIRES_BYTES, FIVE(0, 6, 0, 0, 0), NO_BYTES);
 
-    verdict("one signal too few", 1, NO_MARKS, BYTES(x4_x3), BYTES(set_x2), FIVE(9, 1, 0, 0, 2));
-    wire("one signal too few, room for every list", 1, NO_MARKS, BYTES(x4_x3), BYTES(set_x2), SIRAGUMON_WIRES_BYTES, FIVE(9, 1, 0, 0, 2), NO_BYTES);
+    verdict("one signal too few", 1, NO_MARKS, FULL_KIT, BYTES(x4_x3), BYTES(set_x2), FIVE(9, 1, 0, 0, 2));
+    wire("one signal too few, room for every list", 1, NO_MARKS, FULL_KIT, BYTES(x4_x3), BYTES(set_x2), SIRAGUMON_WIRES_BYTES, FIVE(9, 1, 0, 0, 2),
+         NO_BYTES);
     /* the variable has a record and the new signal none: nothing of the list is left */
-    wire("x'=x^4 with x^2, room for every list", 1, NO_MARKS, BYTES(x4), BYTES(set_x2), SIRAGUMON_WIRES_BYTES, FIVE(9, 1, 0, 0, 2), NO_BYTES);
-    wire("x'=x^4 alone, room for every list", 1, NO_MARKS, BYTES(x4), BYTES(empty), SIRAGUMON_WIRES_BYTES, FIVE(9, 0, 0, 0, 1), NO_BYTES);
+    wire("x'=x^4 with x^2, room for every list", 1, NO_MARKS, FULL_KIT, BYTES(x4), BYTES(set_x2), SIRAGUMON_WIRES_BYTES, FIVE(9, 1, 0, 0, 2),
+         NO_BYTES);
+    wire("x'=x^4 alone, room for every list", 1, NO_MARKS, FULL_KIT, BYTES(x4), BYTES(empty), SIRAGUMON_WIRES_BYTES, FIVE(9, 0, 0, 0, 1), NO_BYTES);
 }
 
 /* What can go from sets made by hand. */
 static void thinned(void) {
-    thin("x'=x^4+x^3 by hand", 1, NO_MARKS, BYTES(x4_x3), BYTES(by_hand), ROOM, FIVE(0, 2, 2, 8, 0), BYTES(both_sets));
-    thin("x'=x^4+x^3 by hand, of six", 6, NO_MARKS, BYTES(x4_x3), BYTES(by_hand), ROOM, FIVE(0, 2, 2, 8, 0), BYTES(both_sets));
-    wire("its first subset", 6, NO_MARKS, BYTES(x4_x3), bytes(&listed), SIRAGUMON_SET_BYTES, SIRAGUMON_WIRES_BYTES, FIVE(0, 2, 6, 0, 0),
+    thin("x'=x^4+x^3 by hand", 1, NO_MARKS, FULL_KIT, BYTES(x4_x3), BYTES(by_hand), ROOM, FIVE(0, 2, 2, 8, 0), BYTES(both_sets));
+    thin("x'=x^4+x^3 by hand, of six", 6, NO_MARKS, FULL_KIT, BYTES(x4_x3), BYTES(by_hand), ROOM, FIVE(0, 2, 2, 8, 0), BYTES(both_sets));
+    wire("its first subset", 6, NO_MARKS, FULL_KIT, BYTES(x4_x3), bytes(&listed), SIRAGUMON_SET_BYTES, SIRAGUMON_WIRES_BYTES, FIVE(0, 2, 6, 0, 0),
          BYTES(first_wired));
 
     const uint8_t *two_powers = both_sets;
     size_t len = SIRAGUMON_SET_BYTES;
-    thin("x'=x, all can go", 1, NO_MARKS, BYTES(x1), two_powers, len, ROOM, FIVE(0, 0, 1, 4, 0), BYTES(empty));
-    thin("x'=x, 36 bytes", 1, NO_MARKS, BYTES(x1), two_powers, len, len, FIVE(0, 0, 1, 4, 0), BYTES(empty));
-    thin("x'=x, 35 bytes", 1, NO_MARKS, BYTES(x1), two_powers, len, len - 1, FIVE(6, 0, 0, 4, 0), NO_BYTES);
-    thin("x'=x, all six can go", 1, NO_MARKS, BYTES(x1), BYTES(six_powers), ROOM, FIVE(0, 0, 1, 64, 0), BYTES(empty));
-    thin("no records", 1, NO_MARKS, NO_BYTES, BYTES(set_x2), ROOM, FIVE(0, 0, 1, 2, 0), BYTES(empty));
-    thin("32 records", 6, NO_MARKS, many, SIRAGUMON_TERMS_BYTES, BYTES(set_x2), ROOM, FIVE(0, 0, 1, 2, 0), BYTES(empty));
-    thin("the empty set", 1, NO_MARKS, BYTES(x2), BYTES(empty), ROOM, FIVE(0, 0, 1, 1, 0), BYTES(empty));
-    thin("the empty set, 35 bytes", 1, NO_MARKS, BYTES(x2), BYTES(empty), len - 1, FIVE(6, 0, 0, 1, 0), NO_BYTES);
+    thin("x'=x, all can go", 1, NO_MARKS, FULL_KIT, BYTES(x1), two_powers, len, ROOM, FIVE(0, 0, 1, 4, 0), BYTES(empty));
+    thin("x'=x, 36 bytes", 1, NO_MARKS, FULL_KIT, BYTES(x1), two_powers, len, len, FIVE(0, 0, 1, 4, 0), BYTES(empty));
+    thin("x'=x, 35 bytes", 1, NO_MARKS, FULL_KIT, BYTES(x1), two_powers, len, len - 1, FIVE(6, 0, 0, 4, 0), NO_BYTES);
+    thin("x'=x, all six can go", 1, NO_MARKS, FULL_KIT, BYTES(x1), BYTES(six_powers), ROOM, FIVE(0, 0, 1, 64, 0), BYTES(empty));
+    thin("no records", 1, NO_MARKS, FULL_KIT, NO_BYTES, BYTES(set_x2), ROOM, FIVE(0, 0, 1, 2, 0), BYTES(empty));
+    thin("32 records", 6, NO_MARKS, FULL_KIT, many, SIRAGUMON_TERMS_BYTES, BYTES(set_x2), ROOM, FIVE(0, 0, 1, 2, 0), BYTES(empty));
+    thin("the empty set", 1, NO_MARKS, FULL_KIT, BYTES(x2), BYTES(empty), ROOM, FIVE(0, 0, 1, 1, 0), BYTES(empty));
+    thin("the empty set, 35 bytes", 1, NO_MARKS, FULL_KIT, BYTES(x2), BYTES(empty), len - 1, FIVE(6, 0, 0, 1, 0), NO_BYTES);
 
-    thin("x'=x^3, none can go", 1, NO_MARKS, BYTES(x3), BYTES(set_x2), ROOM, FIVE(0, 1, 1, 2, 0), BYTES(set_x2));
+    thin("x'=x^3, none can go", 1, NO_MARKS, FULL_KIT, BYTES(x3), BYTES(set_x2), ROOM, FIVE(0, 1, 1, 2, 0), BYTES(set_x2));
     /* planning finds {x^4}, which is no subset */
-    thin("x'=x^5, none can go", 1, NO_MARKS, BYTES(x5), BYTES(none_can_go), ROOM, FIVE(0, 3, 1, 8, 0), BYTES(none_can_go));
-    thin("six cubes, none can go", 6, NO_MARKS, BYTES(cubes), BYTES(squares), ROOM, FIVE(0, 6, 1, 64, 0), BYTES(squares));
+    thin("x'=x^5, none can go", 1, NO_MARKS, FULL_KIT, BYTES(x5), BYTES(none_can_go), ROOM, FIVE(0, 3, 1, 8, 0), BYTES(none_can_go));
+    thin("six cubes, none can go", 6, NO_MARKS, FULL_KIT, BYTES(cubes), BYTES(squares), ROOM, FIVE(0, 6, 1, 64, 0), BYTES(squares));
 
-    thin("x'=x^4, five ways", 1, NO_MARKS, BYTES(x4), BYTES(five_ways), ROOM, FIVE(0, 3, 5, 64, 0), BYTES(ways));
-    thin("x'=x^4, always enough", 1, NO_MARKS, BYTES(x4), BYTES(five_ways), SIRAGUMON_SUBSETS_BYTES, FIVE(0, 3, 5, 64, 0), BYTES(ways));
-    thin("x'=x^4, 180 bytes", 1, NO_MARKS, BYTES(x4), BYTES(five_ways), sizeof ways, FIVE(0, 3, 5, 64, 0), BYTES(ways));
-    thin("x'=x^4, 179 bytes", 1, NO_MARKS, BYTES(x4), BYTES(five_ways), sizeof ways - 1, FIVE(6, 3, 0, 64, 0), NO_BYTES);
+    thin("x'=x^4, five ways", 1, NO_MARKS, FULL_KIT, BYTES(x4), BYTES(five_ways), ROOM, FIVE(0, 3, 5, 64, 0), BYTES(ways));
+    thin("x'=x^4, always enough", 1, NO_MARKS, FULL_KIT, BYTES(x4), BYTES(five_ways), SIRAGUMON_SUBSETS_BYTES, FIVE(0, 3, 5, 64, 0), BYTES(ways));
+    thin("x'=x^4, 180 bytes", 1, NO_MARKS, FULL_KIT, BYTES(x4), BYTES(five_ways), sizeof ways, FIVE(0, 3, 5, 64, 0), BYTES(ways));
+    thin("x'=x^4, 179 bytes", 1, NO_MARKS, FULL_KIT, BYTES(x4), BYTES(five_ways), sizeof ways - 1, FIVE(6, 3, 0, 64, 0), NO_BYTES);
 
     /* y^2, x*y and x^2 are also the set of Rabinovich-Fabrikant */
-    thin("document 000", 2, NO_MARKS, BYTES(two), BYTES(set_waves), ROOM, FIVE(0, 2, 1, 8, 0), BYTES(set_squares));
-    thin("two that cancel", 2, NO_MARKS, BYTES(cancelling), BYTES(set_x1x2_square), ROOM, FIVE(0, 1, 1, 4, 0), BYTES(set_x1x2));
-    thin("Rabinovich-Fabrikant", 3, NO_MARKS, BYTES(waves), BYTES(set_waves_z2), ROOM, FIVE(0, 3, 1, 16, 0), BYTES(set_waves));
-    thin("x^54", 1, NO_MARKS, BYTES(x1), BYTES(power_in), ROOM, FIVE(0, 0, 1, 2, 0), BYTES(empty));
+    thin("document 000", 2, NO_MARKS, FULL_KIT, BYTES(two), BYTES(set_waves), ROOM, FIVE(0, 2, 1, 8, 0), BYTES(set_squares));
+    thin("two that cancel", 2, NO_MARKS, FULL_KIT, BYTES(cancelling), BYTES(set_x1x2_square), ROOM, FIVE(0, 1, 1, 4, 0), BYTES(set_x1x2));
+    thin("Rabinovich-Fabrikant", 3, NO_MARKS, FULL_KIT, BYTES(waves), BYTES(set_waves_z2), ROOM, FIVE(0, 3, 1, 16, 0), BYTES(set_waves));
+    thin("x^54", 1, NO_MARKS, FULL_KIT, BYTES(x1), BYTES(power_in), ROOM, FIVE(0, 0, 1, 2, 0), BYTES(empty));
 }
 
 /* Every refusal leaves zeros where junk was. */
 static void refusals(void) {
-    plan("n 0", 0, NO_MARKS, CAP, LIMIT, BYTES(x3), 101, FIVE(1, 0, 0, 0, 0), NO_BYTES);
-    plan("n above the variables", SIRAGUMON_VARIABLES + 1, NO_MARKS, CAP, LIMIT, BYTES(x3), 101, FIVE(1, 0, 0, 0, 0), NO_BYTES);
-    plan("n of 64 bits", UINT64_MAX, NO_MARKS, CAP, LIMIT, BYTES(x3), 101, FIVE(1, 0, 0, 0, 0), NO_BYTES);
-    plan("cap above the cards", 1, NO_MARKS, SIRAGUMON_CARDS + 1, LIMIT, BYTES(x3), 101, FIVE(1, 0, 0, 0, 0), NO_BYTES);
-    plan("cap of 64 bits", 1, NO_MARKS, (uint64_t)1 << 32, LIMIT, BYTES(x3), 101, FIVE(1, 0, 0, 0, 0), NO_BYTES);
-    plan("limit 0", 1, NO_MARKS, CAP, 0, BYTES(x3), 101, FIVE(1, 0, 0, 0, 0), NO_BYTES);
-    plan("limit 1,000,000,000", 1, NO_MARKS, CAP, SIRAGUMON_STEPS_MOST, BYTES(x3), 101, FIVE(0, 1, 1, 6, 0), BYTES(set_x2));
-    plan("limit 1,000,000,001", 1, NO_MARKS, CAP, SIRAGUMON_STEPS_MOST + 1, BYTES(x3), 101, FIVE(1, 0, 0, 0, 0), NO_BYTES);
-    plan("13 bytes", 1, NO_MARKS, CAP, LIMIT, x4_x3, SIRAGUMON_TERM_BYTES + 1, 101, FIVE(2, 0, 0, 0, 0), NO_BYTES);
-    plan("33 records", 6, NO_MARKS, CAP, LIMIT, BYTES(many), 101, FIVE(2, 0, 0, 0, 0), NO_BYTES);
-    plan("exponent 10", 1, NO_MARKS, CAP, LIMIT, BYTES(exponent_out), 101, FIVE(3, 0, 0, 0, 1), NO_BYTES);
-    plan("equation 2 of 1", 1, NO_MARKS, CAP, LIMIT, BYTES(two), 101, FIVE(3, 0, 0, 0, 2), NO_BYTES);
-    plan("x'=x twice", 1, NO_MARKS, CAP, LIMIT, BYTES(twice), 101, FIVE(4, 0, 0, 0, 2), NO_BYTES);
-    plan("spent at once", 1, NO_MARKS, CAP, 1, BYTES(x3), 101, FIVE(7, 1, 0, 1, 0), NO_BYTES);
+    plan("n 0", 0, NO_MARKS, FULL_KIT, CAP, LIMIT, BYTES(x3), 101, FIVE(1, 0, 0, 0, 0), NO_BYTES);
+    plan("n above the variables", SIRAGUMON_VARIABLES + 1, NO_MARKS, FULL_KIT, CAP, LIMIT, BYTES(x3), 101, FIVE(1, 0, 0, 0, 0), NO_BYTES);
+    plan("n of 64 bits", UINT64_MAX, NO_MARKS, FULL_KIT, CAP, LIMIT, BYTES(x3), 101, FIVE(1, 0, 0, 0, 0), NO_BYTES);
+    plan("cap above the cards", 1, NO_MARKS, FULL_KIT, SIRAGUMON_CARDS + 1, LIMIT, BYTES(x3), 101, FIVE(1, 0, 0, 0, 0), NO_BYTES);
+    plan("cap of 64 bits", 1, NO_MARKS, FULL_KIT, (uint64_t)1 << 32, LIMIT, BYTES(x3), 101, FIVE(1, 0, 0, 0, 0), NO_BYTES);
+    plan("limit 0", 1, NO_MARKS, FULL_KIT, CAP, 0, BYTES(x3), 101, FIVE(1, 0, 0, 0, 0), NO_BYTES);
+    plan("limit 1,000,000,000", 1, NO_MARKS, FULL_KIT, CAP, SIRAGUMON_STEPS_MOST, BYTES(x3), 101, FIVE(0, 1, 1, 6, 0), BYTES(set_x2));
+    plan("limit 1,000,000,001", 1, NO_MARKS, FULL_KIT, CAP, SIRAGUMON_STEPS_MOST + 1, BYTES(x3), 101, FIVE(1, 0, 0, 0, 0), NO_BYTES);
+    plan("13 bytes", 1, NO_MARKS, FULL_KIT, CAP, LIMIT, x4_x3, SIRAGUMON_TERM_BYTES + 1, 101, FIVE(2, 0, 0, 0, 0), NO_BYTES);
+    plan("33 records", 6, NO_MARKS, FULL_KIT, CAP, LIMIT, BYTES(many), 101, FIVE(2, 0, 0, 0, 0), NO_BYTES);
+    plan("exponent 10", 1, NO_MARKS, FULL_KIT, CAP, LIMIT, BYTES(exponent_out), 101, FIVE(3, 0, 0, 0, 1), NO_BYTES);
+    plan("equation 2 of 1", 1, NO_MARKS, FULL_KIT, CAP, LIMIT, BYTES(two), 101, FIVE(3, 0, 0, 0, 2), NO_BYTES);
+    plan("x'=x twice", 1, NO_MARKS, FULL_KIT, CAP, LIMIT, BYTES(twice), 101, FIVE(4, 0, 0, 0, 2), NO_BYTES);
+    plan("spent at once", 1, NO_MARKS, FULL_KIT, CAP, 1, BYTES(x3), 101, FIVE(7, 1, 0, 1, 0), NO_BYTES);
 
-    refused("n 0", 0, NO_MARKS, BYTES(x3), BYTES(set_x2), FIVE(1, 0, 0, 0, 0));
-    refused("n above the variables", SIRAGUMON_VARIABLES + 1, NO_MARKS, BYTES(x3), BYTES(set_x2), FIVE(1, 0, 0, 0, 0));
-    refused("n of 64 bits", UINT64_MAX, NO_MARKS, BYTES(x3), BYTES(set_x2), FIVE(1, 0, 0, 0, 0));
-    refused("n that is 1 in its low half", ((uint64_t)1 << 32) + 1, NO_MARKS, BYTES(x3), BYTES(set_x2), FIVE(1, 0, 0, 0, 0));
-    refused("13 bytes", 1, NO_MARKS, x4_x3, SIRAGUMON_TERM_BYTES + 1, BYTES(set_x2), FIVE(2, 0, 0, 0, 0));
-    refused("a set that lacks a byte", 1, NO_MARKS, BYTES(x3), set_x2, SIRAGUMON_SET_BYTES - 1, FIVE(2, 0, 0, 0, 0));
-    refused("two sets", 1, NO_MARKS, BYTES(x3), BYTES(both_sets), FIVE(2, 0, 0, 0, 0));
-    refused("a single variable", 1, NO_MARKS, BYTES(x3), BYTES(set_x1), FIVE(8, 0, 0, 0, 0));
-    refused("a falling set", 1, NO_MARKS, BYTES(x3), BYTES(falling), FIVE(8, 0, 0, 0, 0));
-    refused("x^55", 1, NO_MARKS, BYTES(x1), BYTES(power_out), FIVE(8, 0, 0, 0, 0));
-    refused("a variable beyond n", 1, NO_MARKS, BYTES(x3), BYTES(set_x1x2), FIVE(8, 0, 0, 0, 0));
-    refused("not quadratic", 1, NO_MARKS, BYTES(x4), BYTES(set_x2), FIVE(9, 1, 0, 0, 2));
-    refused("not quadratic, of six", 6, NO_MARKS, BYTES(x4), BYTES(set_x2), FIVE(9, 1, 0, 0, 7));
-    refused("not quadratic, the variable", 1, NO_MARKS, BYTES(x4), BYTES(empty), FIVE(9, 0, 0, 0, 1));
+    refused("n 0", 0, NO_MARKS, FULL_KIT, BYTES(x3), BYTES(set_x2), FIVE(1, 0, 0, 0, 0));
+    refused("n above the variables", SIRAGUMON_VARIABLES + 1, NO_MARKS, FULL_KIT, BYTES(x3), BYTES(set_x2), FIVE(1, 0, 0, 0, 0));
+    refused("n of 64 bits", UINT64_MAX, NO_MARKS, FULL_KIT, BYTES(x3), BYTES(set_x2), FIVE(1, 0, 0, 0, 0));
+    refused("n that is 1 in its low half", ((uint64_t)1 << 32) + 1, NO_MARKS, FULL_KIT, BYTES(x3), BYTES(set_x2), FIVE(1, 0, 0, 0, 0));
+    refused("13 bytes", 1, NO_MARKS, FULL_KIT, x4_x3, SIRAGUMON_TERM_BYTES + 1, BYTES(set_x2), FIVE(2, 0, 0, 0, 0));
+    refused("a set that lacks a byte", 1, NO_MARKS, FULL_KIT, BYTES(x3), set_x2, SIRAGUMON_SET_BYTES - 1, FIVE(2, 0, 0, 0, 0));
+    refused("two sets", 1, NO_MARKS, FULL_KIT, BYTES(x3), BYTES(both_sets), FIVE(2, 0, 0, 0, 0));
+    refused("a single variable", 1, NO_MARKS, FULL_KIT, BYTES(x3), BYTES(set_x1), FIVE(8, 0, 0, 0, 0));
+    refused("a falling set", 1, NO_MARKS, FULL_KIT, BYTES(x3), BYTES(falling), FIVE(8, 0, 0, 0, 0));
+    refused("x^55", 1, NO_MARKS, FULL_KIT, BYTES(x1), BYTES(power_out), FIVE(8, 0, 0, 0, 0));
+    refused("a variable beyond n", 1, NO_MARKS, FULL_KIT, BYTES(x3), BYTES(set_x1x2), FIVE(8, 0, 0, 0, 0));
+    refused("not quadratic", 1, NO_MARKS, FULL_KIT, BYTES(x4), BYTES(set_x2), FIVE(9, 1, 0, 0, 2));
+    refused("not quadratic, of six", 6, NO_MARKS, FULL_KIT, BYTES(x4), BYTES(set_x2), FIVE(9, 1, 0, 0, 7));
+    refused("not quadratic, the variable", 1, NO_MARKS, FULL_KIT, BYTES(x4), BYTES(empty), FIVE(9, 0, 0, 0, 1));
 
     /* The first that fails is the reply. */
-    refused("n before the lengths", 0, NO_MARKS, x4_x3, SIRAGUMON_TERM_BYTES + 1, BYTES(both_sets), FIVE(1, 0, 0, 0, 0));
-    refused("the set's length before the terms", 1, NO_MARKS, BYTES(exponent_out), set_x2, SIRAGUMON_SET_BYTES - 1, FIVE(2, 0, 0, 0, 0));
-    refused("a term before the set", 1, NO_MARKS, BYTES(exponent_out), BYTES(set_x1), FIVE(3, 0, 0, 0, 1));
-    refused("twice before the set", 1, NO_MARKS, BYTES(twice), BYTES(set_x1), FIVE(4, 0, 0, 0, 2));
-    refused("twice before a later term", 1, NO_MARKS, BYTES(twice_then_out), BYTES(empty), FIVE(4, 0, 0, 0, 2));
-    refused("a term before a later twice", 1, NO_MARKS, BYTES(out_then_twice), BYTES(empty), FIVE(3, 0, 0, 0, 2));
-    refused("the set before what it makes", 1, NO_MARKS, BYTES(x4), BYTES(falling), FIVE(8, 0, 0, 0, 0));
-    thin("not quadratic before no room", 1, NO_MARKS, BYTES(x4), BYTES(set_x2), 0, FIVE(9, 1, 0, 0, 2), NO_BYTES);
+    refused("n before the lengths", 0, NO_MARKS, FULL_KIT, x4_x3, SIRAGUMON_TERM_BYTES + 1, BYTES(both_sets), FIVE(1, 0, 0, 0, 0));
+    refused("the set's length before the terms", 1, NO_MARKS, FULL_KIT, BYTES(exponent_out), set_x2, SIRAGUMON_SET_BYTES - 1, FIVE(2, 0, 0, 0, 0));
+    refused("a term before the set", 1, NO_MARKS, FULL_KIT, BYTES(exponent_out), BYTES(set_x1), FIVE(3, 0, 0, 0, 1));
+    refused("twice before the set", 1, NO_MARKS, FULL_KIT, BYTES(twice), BYTES(set_x1), FIVE(4, 0, 0, 0, 2));
+    refused("twice before a later term", 1, NO_MARKS, FULL_KIT, BYTES(twice_then_out), BYTES(empty), FIVE(4, 0, 0, 0, 2));
+    refused("a term before a later twice", 1, NO_MARKS, FULL_KIT, BYTES(out_then_twice), BYTES(empty), FIVE(3, 0, 0, 0, 2));
+    refused("the set before what it makes", 1, NO_MARKS, FULL_KIT, BYTES(x4), BYTES(falling), FIVE(8, 0, 0, 0, 0));
+    thin("not quadratic before no room", 1, NO_MARKS, FULL_KIT, BYTES(x4), BYTES(set_x2), 0, FIVE(9, 1, 0, 0, 2), NO_BYTES);
 }
 
 /* Buffers of every length: how many records fit, and zeros to the last byte. */
@@ -436,19 +452,19 @@ static void lengths(void) {
     static const uint8_t list[] = {1, 1, 2, 0, COEFFICIENT(1), 2, 2, 2, 0, COEFFICIENT(2)};
     for (size_t room = 0; room <= 80; room++) {
         if (room < SIRAGUMON_SET_BYTES)
-            plan("x'=x^3, no room", 1, NO_MARKS, CAP, LIMIT, BYTES(x3), room, FIVE(6, 1, 0, 6, 0), NO_BYTES);
+            plan("x'=x^3, no room", 1, NO_MARKS, FULL_KIT, CAP, LIMIT, BYTES(x3), room, FIVE(6, 1, 0, 6, 0), NO_BYTES);
         else
-            plan("x'=x^3, room", 1, NO_MARKS, CAP, LIMIT, BYTES(x3), room, FIVE(0, 1, 1, 6, 0), BYTES(set_x2));
+            plan("x'=x^3, room", 1, NO_MARKS, FULL_KIT, CAP, LIMIT, BYTES(x3), room, FIVE(0, 1, 1, 6, 0), BYTES(set_x2));
         if (room < sizeof list)
-            wire("x'=x^3, no room", 1, NO_MARKS, BYTES(x3), BYTES(set_x2), room, FIVE(6, 1, 0, 0, 0), NO_BYTES);
+            wire("x'=x^3, no room", 1, NO_MARKS, FULL_KIT, BYTES(x3), BYTES(set_x2), room, FIVE(6, 1, 0, 0, 0), NO_BYTES);
         else
-            wire("x'=x^3, room", 1, NO_MARKS, BYTES(x3), BYTES(set_x2), room, FIVE(0, 1, 2, 0, 0), BYTES(list));
+            wire("x'=x^3, room", 1, NO_MARKS, FULL_KIT, BYTES(x3), BYTES(set_x2), room, FIVE(0, 1, 2, 0, 0), BYTES(list));
         if (room < sizeof both_sets)
-            thin("x'=x^4+x^3 by hand, no room", 1, NO_MARKS, BYTES(x4_x3), BYTES(by_hand), room, FIVE(6, 2, 0, 8, 0), NO_BYTES);
+            thin("x'=x^4+x^3 by hand, no room", 1, NO_MARKS, FULL_KIT, BYTES(x4_x3), BYTES(by_hand), room, FIVE(6, 2, 0, 8, 0), NO_BYTES);
         else
-            thin("x'=x^4+x^3 by hand, room", 1, NO_MARKS, BYTES(x4_x3), BYTES(by_hand), room, FIVE(0, 2, 2, 8, 0), BYTES(both_sets));
+            thin("x'=x^4+x^3 by hand, room", 1, NO_MARKS, FULL_KIT, BYTES(x4_x3), BYTES(by_hand), room, FIVE(0, 2, 2, 8, 0), BYTES(both_sets));
     }
-    plan("x'=x^4+x^3, room 2", 1, NO_MARKS, CAP, LIMIT, BYTES(x4_x3), 2 * SIRAGUMON_SET_BYTES, FIVE(0, 2, 2, 23, 0), BYTES(both_sets));
+    plan("x'=x^4+x^3, room 2", 1, NO_MARKS, FULL_KIT, CAP, LIMIT, BYTES(x4_x3), 2 * SIRAGUMON_SET_BYTES, FIVE(0, 2, 2, 23, 0), BYTES(both_sets));
 
     static const uint8_t six[] = {
         1, 0, 2, 0, COEFFICIENT(1), 1, 0, 3, 0, COEFFICIENT(1), 2, 1, 3, 0, COEFFICIENT(3),
@@ -456,8 +472,8 @@ static void lengths(void) {
     };
     const uint8_t *second = both_sets + SIRAGUMON_SET_BYTES;
     size_t len = SIRAGUMON_SET_BYTES;
-    wire("{x^3, x^4}, 47 bytes", 1, NO_MARKS, BYTES(x4_x3), second, len, sizeof six - 1, FIVE(6, 2, 0, 0, 0), NO_BYTES);
-    wire("{x^3, x^4}, 48 bytes", 1, NO_MARKS, BYTES(x4_x3), second, len, sizeof six, FIVE(0, 2, 6, 0, 0), BYTES(six));
+    wire("{x^3, x^4}, 47 bytes", 1, NO_MARKS, FULL_KIT, BYTES(x4_x3), second, len, sizeof six - 1, FIVE(6, 2, 0, 0, 0), NO_BYTES);
+    wire("{x^3, x^4}, 48 bytes", 1, NO_MARKS, FULL_KIT, BYTES(x4_x3), second, len, sizeof six, FIVE(0, 2, 6, 0, 0), BYTES(six));
 }
 
 /* Where the length is 0, NULL will do. A signal from outside that no term contains changes only the numbers of the new
@@ -465,31 +481,31 @@ static void lengths(void) {
 static void null(uint64_t n, uint64_t marks) {
     cases += 9;
     lend_row();
-    siragumon_plan(n, marks, CAP, LIMIT, NULL, 0, NULL, 0, row + 1);
+    siragumon_plan(n, marks, FULL_KIT, CAP, LIMIT, NULL, 0, NULL, 0, row + 1);
     expect_row("NULL terms and buffer", FIVE(6, 0, 0, 1, 0));
     lend_row();
-    siragumon_plan(n, marks, CAP, LIMIT, x3, sizeof x3, NULL, 0, row + 1);
+    siragumon_plan(n, marks, FULL_KIT, CAP, LIMIT, x3, sizeof x3, NULL, 0, row + 1);
     expect_row("NULL buffer", FIVE(6, 1, 0, 6, 0));
     lend_row();
-    siragumon_wire(n, marks, NULL, 0, NULL, 0, NULL, 0, row + 1);
+    siragumon_wire(n, marks, FULL_KIT, NULL, 0, NULL, 0, NULL, 0, row + 1);
     expect_row("NULL set", FIVE(2, 0, 0, 0, 0));
     lend_row();
-    siragumon_wire(n, marks, NULL, 0, empty, sizeof empty, NULL, 0, row + 1);
+    siragumon_wire(n, marks, FULL_KIT, NULL, 0, empty, sizeof empty, NULL, 0, row + 1);
     expect_row("an empty list into NULL", FIVE(0, 0, 0, 0, 0));
     lend_row();
-    siragumon_wire(n, marks, x3, sizeof x3, set_x2, sizeof set_x2, NULL, 0, row + 1);
+    siragumon_wire(n, marks, FULL_KIT, x3, sizeof x3, set_x2, sizeof set_x2, NULL, 0, row + 1);
     expect_row("a list into NULL", FIVE(6, 1, 0, 0, 0));
     lend_row();
-    siragumon_wire(n, marks, x4, sizeof x4, set_x2, sizeof set_x2, NULL, 0, row + 1);
+    siragumon_wire(n, marks, FULL_KIT, x4, sizeof x4, set_x2, sizeof set_x2, NULL, 0, row + 1);
     expect_row("no list into NULL", FIVE(9, 1, 0, 0, n + 1));
     lend_row();
-    siragumon_thin(n, marks, NULL, 0, empty, sizeof empty, NULL, 0, row + 1);
+    siragumon_thin(n, marks, FULL_KIT, NULL, 0, empty, sizeof empty, NULL, 0, row + 1);
     expect_row("the empty set, thinned into NULL", FIVE(6, 0, 0, 1, 0));
     lend_row();
-    siragumon_thin(n, marks, x4_x3, sizeof x4_x3, by_hand, sizeof by_hand, NULL, 0, row + 1);
+    siragumon_thin(n, marks, FULL_KIT, x4_x3, sizeof x4_x3, by_hand, sizeof by_hand, NULL, 0, row + 1);
     expect_row("subsets into NULL", FIVE(6, 2, 0, 8, 0));
     lend_row();
-    siragumon_thin(n, marks, NULL, 0, NULL, 0, NULL, 0, row + 1);
+    siragumon_thin(n, marks, FULL_KIT, NULL, 0, NULL, 0, NULL, 0, row + 1);
     expect_row("NULL set, thinned", FIVE(2, 0, 0, 0, 0));
 }
 
@@ -498,16 +514,16 @@ static void outside(void) {
     /* With u a knob, document 01 finds {x1 u}; with u a signal there is no set of any size. */
     static const uint64_t steps[] = {1, 6, 16, 32, 55, 86, 126};
     for (uint64_t cap = 0; cap <= SIRAGUMON_CARDS; cap++)
-        plan("x1'=x1^2 u", 2, MARK(2), cap, LIMIT, BYTES(unfed), ROOM, FIVE(5, cap + 1, 0, steps[cap], 0), NO_BYTES);
-    plan("x1'=x1^2 u, limit 126", 2, MARK(2), CAP, 126, BYTES(unfed), ROOM, FIVE(5, 7, 0, 126, 0), NO_BYTES);
-    plan("x1'=x1^2 u, limit 125", 2, MARK(2), CAP, 125, BYTES(unfed), ROOM, FIVE(7, 6, 0, 125, 0), NO_BYTES);
+        plan("x1'=x1^2 u", 2, MARK(2), FULL_KIT, cap, LIMIT, BYTES(unfed), ROOM, FIVE(5, cap + 1, 0, steps[cap], 0), NO_BYTES);
+    plan("x1'=x1^2 u, limit 126", 2, MARK(2), FULL_KIT, CAP, 126, BYTES(unfed), ROOM, FIVE(5, 7, 0, 126, 0), NO_BYTES);
+    plan("x1'=x1^2 u, limit 125", 2, MARK(2), FULL_KIT, CAP, 125, BYTES(unfed), ROOM, FIVE(7, 6, 0, 125, 0), NO_BYTES);
 
     size_t len = SIRAGUMON_SET_BYTES;
-    plan("Example 5.3", 3, MARK(3), CAP, LIMIT, BYTES(example_5_3), ROOM, FIVE(0, 1, 1, 6, 0), BYTES(set_x2));
-    plan("Example 5.3, limit 6", 3, MARK(3), CAP, 6, BYTES(example_5_3), ROOM, FIVE(0, 1, 1, 6, 0), BYTES(set_x2));
-    plan("Example 5.3, limit 5", 3, MARK(3), CAP, 5, BYTES(example_5_3), ROOM, FIVE(7, 1, 0, 5, 0), NO_BYTES);
-    plan("Example 5.3, 36 bytes", 3, MARK(3), CAP, LIMIT, BYTES(example_5_3), len, FIVE(0, 1, 1, 6, 0), BYTES(set_x2));
-    plan("Example 5.3, 35 bytes", 3, MARK(3), CAP, LIMIT, BYTES(example_5_3), len - 1, FIVE(6, 1, 0, 5, 0), NO_BYTES);
+    plan("Example 5.3", 3, MARK(3), FULL_KIT, CAP, LIMIT, BYTES(example_5_3), ROOM, FIVE(0, 1, 1, 6, 0), BYTES(set_x2));
+    plan("Example 5.3, limit 6", 3, MARK(3), FULL_KIT, CAP, 6, BYTES(example_5_3), ROOM, FIVE(0, 1, 1, 6, 0), BYTES(set_x2));
+    plan("Example 5.3, limit 5", 3, MARK(3), FULL_KIT, CAP, 5, BYTES(example_5_3), ROOM, FIVE(7, 1, 0, 5, 0), NO_BYTES);
+    plan("Example 5.3, 36 bytes", 3, MARK(3), FULL_KIT, CAP, LIMIT, BYTES(example_5_3), len, FIVE(0, 1, 1, 6, 0), BYTES(set_x2));
+    plan("Example 5.3, 35 bytes", 3, MARK(3), FULL_KIT, CAP, LIMIT, BYTES(example_5_3), len - 1, FIVE(6, 1, 0, 5, 0), NO_BYTES);
     static const uint8_t as_knob[3 * SIRAGUMON_SET_BYTES] = {
         [X(1, 0)] = 1,
         [X(3, 0)] = 1,
@@ -515,34 +531,35 @@ static void outside(void) {
         [2 * SIRAGUMON_SET_BYTES + X(1, 0)] = 2,
         [2 * SIRAGUMON_SET_BYTES + X(3, 0)] = 1,
     };
-    plan("Example 5.3, u a knob", 3, NO_MARKS, CAP, LIMIT, BYTES(example_5_3), ROOM, FIVE(0, 1, 3, 8, 0), BYTES(as_knob));
-    plan("x1'=x1^3+u x1", 2, MARK(2), CAP, LIMIT, BYTES(x3_ux), ROOM, FIVE(0, 1, 1, 6, 0), BYTES(set_x2));
-    plan("x1'=x1^3+u^2 x1", 2, MARK(2), CAP, LIMIT, BYTES(x3_uux), ROOM, FIVE(5, 7, 0, 55, 0), NO_BYTES);
-    plan("a knob and a signal", 3, MARK(3), CAP, LIMIT, BYTES(knob_and_u), ROOM, FIVE(0, 1, 1, 8, 0), BYTES(set_x1x2));
-    plan("a product with a signal", 4, MARK(3), CAP, LIMIT, BYTES(product), ROOM, FIVE(0, 1, 1, 7, 0), BYTES(set_x1x2));
-    plan("a product with two", 4, MARK(2) | MARK(3), CAP, LIMIT, BYTES(product), ROOM, FIVE(5, 7, 0, 31, 0), NO_BYTES);
-    plan("signals alone", 3, MARK(1) | MARK(2) | MARK(3), CAP, LIMIT, NO_BYTES, ROOM, FIVE(0, 0, 1, 1, 0), BYTES(empty));
+    plan("Example 5.3, u a knob", 3, NO_MARKS, FULL_KIT, CAP, LIMIT, BYTES(example_5_3), ROOM, FIVE(0, 1, 3, 8, 0), BYTES(as_knob));
+    plan("x1'=x1^3+u x1", 2, MARK(2), FULL_KIT, CAP, LIMIT, BYTES(x3_ux), ROOM, FIVE(0, 1, 1, 6, 0), BYTES(set_x2));
+    plan("x1'=x1^3+u^2 x1", 2, MARK(2), FULL_KIT, CAP, LIMIT, BYTES(x3_uux), ROOM, FIVE(5, 7, 0, 55, 0), NO_BYTES);
+    plan("a knob and a signal", 3, MARK(3), FULL_KIT, CAP, LIMIT, BYTES(knob_and_u), ROOM, FIVE(0, 1, 1, 8, 0), BYTES(set_x1x2));
+    plan("a product with a signal", 4, MARK(3), FULL_KIT, CAP, LIMIT, BYTES(product), ROOM, FIVE(0, 1, 1, 7, 0), BYTES(set_x1x2));
+    plan("a product with two", 4, MARK(2) | MARK(3), FULL_KIT, CAP, LIMIT, BYTES(product), ROOM, FIVE(5, 7, 0, 31, 0), NO_BYTES);
+    plan("signals alone", 3, MARK(1) | MARK(2) | MARK(3), FULL_KIT, CAP, LIMIT, NO_BYTES, ROOM, FIVE(0, 0, 1, 1, 0), BYTES(empty));
     uint64_t unused = MARK(2) | MARK(3) | MARK(4) | MARK(5) | MARK(6);
-    plan("signals that no term contains", 6, unused, CAP, LIMIT, BYTES(x4_x3), ROOM, FIVE(0, 2, 2, 23, 0), BYTES(both_sets));
+    plan("signals that no term contains", 6, unused, FULL_KIT, CAP, LIMIT, BYTES(x4_x3), ROOM, FIVE(0, 2, 2, 23, 0), BYTES(both_sets));
 
     /* nothing is listed for signal 3, which is u */
     static const uint8_t list[] = {
         1, 0, 1, 0, COEFFICIENT(1), 1, 1, 3, 0, COEFFICIENT(1), 2, 3, 4, 0, COEFFICIENT(1),
         4, 0, 4, 0, COEFFICIENT(2), 4, 3, 4, 0, COEFFICIENT(2),
     };
-    wire("Example 5.3", 3, MARK(3), BYTES(example_5_3), BYTES(set_x2), SIRAGUMON_WIRES_BYTES, FIVE(0, 1, 5, 0, 0), BYTES(list));
-    wire("Example 5.3, 40 bytes", 3, MARK(3), BYTES(example_5_3), BYTES(set_x2), sizeof list, FIVE(0, 1, 5, 0, 0), BYTES(list));
-    wire("Example 5.3, 39 bytes", 3, MARK(3), BYTES(example_5_3), BYTES(set_x2), sizeof list - 1, FIVE(6, 1, 0, 0, 0), NO_BYTES);
-    verdict("Example 5.3", 3, MARK(3), BYTES(example_5_3), BYTES(set_x2), FIVE(6, 1, 0, 0, 0));
-    verdict("signals alone", 3, MARK(1) | MARK(2) | MARK(3), NO_BYTES, BYTES(empty), FIVE(0, 0, 0, 0, 0));
-    wire("the same list, signals unused", 6, unused, BYTES(x4_x3), both_sets, len, SIRAGUMON_WIRES_BYTES, FIVE(0, 2, 6, 0, 0), BYTES(first_wired));
+    wire("Example 5.3", 3, MARK(3), FULL_KIT, BYTES(example_5_3), BYTES(set_x2), SIRAGUMON_WIRES_BYTES, FIVE(0, 1, 5, 0, 0), BYTES(list));
+    wire("Example 5.3, 40 bytes", 3, MARK(3), FULL_KIT, BYTES(example_5_3), BYTES(set_x2), sizeof list, FIVE(0, 1, 5, 0, 0), BYTES(list));
+    wire("Example 5.3, 39 bytes", 3, MARK(3), FULL_KIT, BYTES(example_5_3), BYTES(set_x2), sizeof list - 1, FIVE(6, 1, 0, 0, 0), NO_BYTES);
+    verdict("Example 5.3", 3, MARK(3), FULL_KIT, BYTES(example_5_3), BYTES(set_x2), FIVE(6, 1, 0, 0, 0));
+    verdict("signals alone", 3, MARK(1) | MARK(2) | MARK(3), FULL_KIT, NO_BYTES, BYTES(empty), FIVE(0, 0, 0, 0, 0));
+    wire("the same list, signals unused", 6, unused, FULL_KIT, BYTES(x4_x3), both_sets, len, SIRAGUMON_WIRES_BYTES, FIVE(0, 2, 6, 0, 0),
+         BYTES(first_wired));
 
-    thin("Example 5.3", 3, MARK(3), BYTES(example_5_3), BYTES(by_hand), ROOM, FIVE(0, 1, 1, 8, 0), BYTES(set_x2));
-    thin("Example 5.3, 36 bytes", 3, MARK(3), BYTES(example_5_3), BYTES(by_hand), len, FIVE(0, 1, 1, 8, 0), BYTES(set_x2));
-    thin("Example 5.3, 35 bytes", 3, MARK(3), BYTES(example_5_3), BYTES(by_hand), len - 1, FIVE(6, 1, 0, 8, 0), NO_BYTES);
-    thin("a product with a signal", 4, MARK(3), BYTES(product), BYTES(set_waves), ROOM, FIVE(0, 1, 1, 8, 0), BYTES(set_x1x2));
-    thin("signals alone", 3, MARK(1) | MARK(2) | MARK(3), NO_BYTES, BYTES(empty), ROOM, FIVE(0, 0, 1, 1, 0), BYTES(empty));
-    thin("signals that no term contains", 6, unused, BYTES(x4_x3), BYTES(by_hand), ROOM, FIVE(0, 2, 2, 8, 0), BYTES(both_sets));
+    thin("Example 5.3", 3, MARK(3), FULL_KIT, BYTES(example_5_3), BYTES(by_hand), ROOM, FIVE(0, 1, 1, 8, 0), BYTES(set_x2));
+    thin("Example 5.3, 36 bytes", 3, MARK(3), FULL_KIT, BYTES(example_5_3), BYTES(by_hand), len, FIVE(0, 1, 1, 8, 0), BYTES(set_x2));
+    thin("Example 5.3, 35 bytes", 3, MARK(3), FULL_KIT, BYTES(example_5_3), BYTES(by_hand), len - 1, FIVE(6, 1, 0, 8, 0), NO_BYTES);
+    thin("a product with a signal", 4, MARK(3), FULL_KIT, BYTES(product), BYTES(set_waves), ROOM, FIVE(0, 1, 1, 8, 0), BYTES(set_x1x2));
+    thin("signals alone", 3, MARK(1) | MARK(2) | MARK(3), FULL_KIT, NO_BYTES, BYTES(empty), ROOM, FIVE(0, 0, 1, 1, 0), BYTES(empty));
+    thin("signals that no term contains", 6, unused, FULL_KIT, BYTES(x4_x3), BYTES(by_hand), ROOM, FIVE(0, 2, 2, 8, 0), BYTES(both_sets));
 }
 
 /* Sets that need more new signals than there are cards are closed: the same sets in fewer steps. */
@@ -552,14 +569,14 @@ static void closing(void) {
         TERM(2, 1, 0, 0, 1), TERM(2, 3, 0, 0, -1), TERM(2, 0, 1, 0, 1), TERM(3, 0, 0, 1, -2), TERM(3, 1, 1, 1, -2),
     };
     static const uint8_t fabrikant_set[SIRAGUMON_SET_BYTES] = {0, 2, 0, 0, 0, 0, 1, 1, 0, 0, 0, 0, 2, 0, 0, 0, 0, 0};
-    plan("Rabinovich-Fabrikant", 3, NO_MARKS, CAP, 70, BYTES(fabrikant), ROOM, FIVE(0, 3, 1, 70, 0), BYTES(fabrikant_set));
-    plan("Rabinovich-Fabrikant, limit 69", 3, NO_MARKS, CAP, 69, BYTES(fabrikant), ROOM, FIVE(7, 3, 0, 69, 0), NO_BYTES);
+    plan("Rabinovich-Fabrikant", 3, NO_MARKS, FULL_KIT, CAP, 70, BYTES(fabrikant), ROOM, FIVE(0, 3, 1, 70, 0), BYTES(fabrikant_set));
+    plan("Rabinovich-Fabrikant, limit 69", 3, NO_MARKS, FULL_KIT, CAP, 69, BYTES(fabrikant), ROOM, FIVE(7, 3, 0, 69, 0), NO_BYTES);
 
     static const uint8_t two_powers[] = {TERM(1, 4, 0, 0, 1), TERM(1, 2, 3, 0, 1), TERM(2, 3, 1, 0, 1)};
     static const uint8_t two_powers_set[SIRAGUMON_SET_BYTES] = {1, 3, 0, 0, 0, 0, 3, 0, 0, 0, 0, 0};
-    plan("x1^4+x1^2 x2^3, x1^3 x2", 2, NO_MARKS, CAP, 24, BYTES(two_powers), ROOM, FIVE(0, 2, 1, 24, 0), BYTES(two_powers_set));
-    plan("the same, limit 23", 2, NO_MARKS, CAP, 23, BYTES(two_powers), ROOM, FIVE(7, 2, 0, 23, 0), NO_BYTES);
-    plan("the same, no room", 2, NO_MARKS, CAP, LIMIT, BYTES(two_powers), 35, FIVE(6, 2, 0, 21, 0), NO_BYTES);
+    plan("x1^4+x1^2 x2^3, x1^3 x2", 2, NO_MARKS, FULL_KIT, CAP, 24, BYTES(two_powers), ROOM, FIVE(0, 2, 1, 24, 0), BYTES(two_powers_set));
+    plan("the same, limit 23", 2, NO_MARKS, FULL_KIT, CAP, 23, BYTES(two_powers), ROOM, FIVE(7, 2, 0, 23, 0), NO_BYTES);
+    plan("the same, no room", 2, NO_MARKS, FULL_KIT, CAP, LIMIT, BYTES(two_powers), 35, FIVE(6, 2, 0, 21, 0), NO_BYTES);
 
     /* more than 1,000,000 steps where nothing is closed */
     static const uint8_t three[] = {
@@ -568,29 +585,30 @@ static void closing(void) {
     static const uint8_t three_set[SIRAGUMON_SET_BYTES] = {
         0, 5, 4, 0, 0, 0, 1, 5, 5, 0, 0, 0, 2, 6, 3, 0, 0, 0, 3, 7, 7, 0, 0, 0, 5, 1, 1, 0, 0, 0, 7, 2, 5, 0, 0, 0,
     };
-    plan("three variables", 3, NO_MARKS, CAP, 16230, BYTES(three), ROOM, FIVE(0, 6, 1, 16230, 0), BYTES(three_set));
-    plan("three variables, limit 16,229", 3, NO_MARKS, CAP, 16229, BYTES(three), ROOM, FIVE(7, 6, 0, 16229, 0), NO_BYTES);
+    plan("three variables", 3, NO_MARKS, FULL_KIT, CAP, 16230, BYTES(three), ROOM, FIVE(0, 6, 1, 16230, 0), BYTES(three_set));
+    plan("three variables, limit 16,229", 3, NO_MARKS, FULL_KIT, CAP, 16229, BYTES(three), ROOM, FIVE(7, 6, 0, 16229, 0), NO_BYTES);
 }
 
 static void outside_refused(void) {
-    all_refuse("a mark for each bit", 6, UINT64_MAX, BYTES(x3), BYTES(set_x2), FIVE(1, 0, 0, 0, 0));
-    all_refuse("one mark of two beyond xn", 2, MARK(2) | MARK(3), BYTES(x3_ux), BYTES(set_x2), FIVE(1, 0, 0, 0, 0));
-    all_refuse("13 bytes", 2, MARK(2), x4_x3, SIRAGUMON_TERM_BYTES + 1, BYTES(set_x2), FIVE(2, 0, 0, 0, 0));
-    refused("two sets", 2, MARK(2), BYTES(x3), BYTES(both_sets), FIVE(2, 0, 0, 0, 0));
-    all_refuse("the third record is a signal's", 2, MARK(2), BYTES(two), BYTES(set_squares), FIVE(3, 0, 0, 0, 3));
-    all_refuse("x'=x twice", 2, MARK(2), BYTES(twice), BYTES(set_x2), FIVE(4, 0, 0, 0, 2));
-    refused("a signal in the last monomial", 3, MARK(3), BYTES(example_5_3), BYTES(u_in_last), FIVE(8, 0, 0, 0, 0));
-    refused("Example 5.3 alone", 3, MARK(3), BYTES(example_5_3), BYTES(empty), FIVE(9, 0, 0, 0, 2));
-    refused("a signal before the variable", 6, MARK(1), cubes + SIRAGUMON_TERM_BYTES, SIRAGUMON_TERM_BYTES, BYTES(empty), FIVE(9, 0, 0, 0, 2));
+    all_refuse("a mark for each bit", 6, UINT64_MAX, FULL_KIT, BYTES(x3), BYTES(set_x2), FIVE(1, 0, 0, 0, 0));
+    all_refuse("one mark of two beyond xn", 2, MARK(2) | MARK(3), FULL_KIT, BYTES(x3_ux), BYTES(set_x2), FIVE(1, 0, 0, 0, 0));
+    all_refuse("13 bytes", 2, MARK(2), FULL_KIT, x4_x3, SIRAGUMON_TERM_BYTES + 1, BYTES(set_x2), FIVE(2, 0, 0, 0, 0));
+    refused("two sets", 2, MARK(2), FULL_KIT, BYTES(x3), BYTES(both_sets), FIVE(2, 0, 0, 0, 0));
+    all_refuse("the third record is a signal's", 2, MARK(2), FULL_KIT, BYTES(two), BYTES(set_squares), FIVE(3, 0, 0, 0, 3));
+    all_refuse("x'=x twice", 2, MARK(2), FULL_KIT, BYTES(twice), BYTES(set_x2), FIVE(4, 0, 0, 0, 2));
+    refused("a signal in the last monomial", 3, MARK(3), FULL_KIT, BYTES(example_5_3), BYTES(u_in_last), FIVE(8, 0, 0, 0, 0));
+    refused("Example 5.3 alone", 3, MARK(3), FULL_KIT, BYTES(example_5_3), BYTES(empty), FIVE(9, 0, 0, 0, 2));
+    refused("a signal before the variable", 6, MARK(1), FULL_KIT, cubes + SIRAGUMON_TERM_BYTES, SIRAGUMON_TERM_BYTES, BYTES(empty),
+            FIVE(9, 0, 0, 0, 2));
 
     /* The first that fails is the reply. */
-    all_refuse("a mark before the lengths", 2, MARK(3), x4_x3, SIRAGUMON_TERM_BYTES + 1, BYTES(both_sets), FIVE(1, 0, 0, 0, 0));
-    refused("the set's length before a signal's record", 2, MARK(1), BYTES(x3), set_x2, SIRAGUMON_SET_BYTES - 1, FIVE(2, 0, 0, 0, 0));
-    all_refuse("a signal's record before a later twice", 2, MARK(2), BYTES(u_then_twice), BYTES(empty), FIVE(3, 0, 0, 0, 2));
-    all_refuse("twice before a later record of a signal", 2, MARK(2), BYTES(twice_then_u), BYTES(empty), FIVE(4, 0, 0, 0, 2));
-    refused("a signal's record before a signal in the set", 2, MARK(1), BYTES(x3), BYTES(set_x2), FIVE(3, 0, 0, 0, 1));
-    refused("twice before a signal in the set", 2, MARK(2), BYTES(twice), BYTES(set_x1x2), FIVE(4, 0, 0, 0, 2));
-    refused("a signal in the set before what the set makes", 2, MARK(2), BYTES(x3_ux), BYTES(set_x1x2), FIVE(8, 0, 0, 0, 0));
+    all_refuse("a mark before the lengths", 2, MARK(3), FULL_KIT, x4_x3, SIRAGUMON_TERM_BYTES + 1, BYTES(both_sets), FIVE(1, 0, 0, 0, 0));
+    refused("the set's length before a signal's record", 2, MARK(1), FULL_KIT, BYTES(x3), set_x2, SIRAGUMON_SET_BYTES - 1, FIVE(2, 0, 0, 0, 0));
+    all_refuse("a signal's record before a later twice", 2, MARK(2), FULL_KIT, BYTES(u_then_twice), BYTES(empty), FIVE(3, 0, 0, 0, 2));
+    all_refuse("twice before a later record of a signal", 2, MARK(2), FULL_KIT, BYTES(twice_then_u), BYTES(empty), FIVE(4, 0, 0, 0, 2));
+    refused("a signal's record before a signal in the set", 2, MARK(1), FULL_KIT, BYTES(x3), BYTES(set_x2), FIVE(3, 0, 0, 0, 1));
+    refused("twice before a signal in the set", 2, MARK(2), FULL_KIT, BYTES(twice), BYTES(set_x1x2), FIVE(4, 0, 0, 0, 2));
+    refused("a signal in the set before what the set makes", 2, MARK(2), FULL_KIT, BYTES(x3_ux), BYTES(set_x1x2), FIVE(8, 0, 0, 0, 0));
 }
 
 /* All marks for each n: each is its own variable's and no other's, and none stands beyond xn. The record is xi' = xi, the
@@ -598,20 +616,131 @@ static void outside_refused(void) {
 static void all_marks(void) {
     for (unsigned n = 1; n <= SIRAGUMON_VARIABLES; n++) {
         for (unsigned beyond = n + 1; beyond <= 64; beyond++)
-            all_refuse("a mark beyond xn", n, MARK(beyond), BYTES(x1), BYTES(set_x2), FIVE(1, 0, 0, 0, 0));
+            all_refuse("a mark beyond xn", n, MARK(beyond), FULL_KIT, BYTES(x1), BYTES(set_x2), FIVE(1, 0, 0, 0, 0));
         for (unsigned i = 1; i <= n; i++) {
             uint8_t linear[SIRAGUMON_TERM_BYTES], square[SIRAGUMON_SET_BYTES] = {0};
             power(linear, i, 1);
             square[X(i, 0)] = 2;
             for (uint64_t marks = NO_MARKS; marks < MARK(n + 1); marks++) {
                 if (marks & MARK(i)) {
-                    all_refuse("a signal's record", n, marks, BYTES(linear), BYTES(empty), FIVE(3, 0, 0, 0, 1));
-                    refused("a signal in the set", n, marks, NO_BYTES, BYTES(square), FIVE(8, 0, 0, 0, 0));
+                    all_refuse("a signal's record", n, marks, FULL_KIT, BYTES(linear), BYTES(empty), FIVE(3, 0, 0, 0, 1));
+                    refused("a signal in the set", n, marks, FULL_KIT, NO_BYTES, BYTES(square), FIVE(8, 0, 0, 0, 0));
                 } else {
-                    plan("no signal's record", n, marks, CAP, LIMIT, BYTES(linear), ROOM, FIVE(0, 0, 1, 1, 0), BYTES(empty));
-                    verdict("no signal in the set", n, marks, BYTES(linear), BYTES(square), FIVE(6, 1, 0, 0, 0));
-                    thin("no signal in the set", n, marks, BYTES(linear), BYTES(square), ROOM, FIVE(0, 0, 1, 2, 0), BYTES(empty));
+                    plan("no signal's record", n, marks, FULL_KIT, CAP, LIMIT, BYTES(linear), ROOM, FIVE(0, 0, 1, 1, 0), BYTES(empty));
+                    verdict("no signal in the set", n, marks, FULL_KIT, BYTES(linear), BYTES(square), FIVE(6, 1, 0, 0, 0));
+                    thin("no signal in the set", n, marks, FULL_KIT, BYTES(linear), BYTES(square), ROOM, FIVE(0, 0, 1, 2, 0), BYTES(empty));
                 }
+            }
+        }
+    }
+}
+
+/* Kits with a limit on the total degree of a new signal: what is found, wired and thinned within it. */
+static void junior(void) {
+    size_t len = SIRAGUMON_SET_BYTES;
+    plan("x'=x^4+x^3, degree 2", 1, NO_MARKS, 2, CAP, LIMIT, BYTES(x4_x3), ROOM, FIVE(5, 7, 0, 40, 0), NO_BYTES);
+    plan("x'=x^4+x^3, degree 3", 1, NO_MARKS, 3, CAP, LIMIT, BYTES(x4_x3), ROOM, FIVE(0, 2, 1, 19, 0), both_sets, len);
+    plan("x'=x^4+x^3, degree 4", 1, NO_MARKS, 4, CAP, LIMIT, BYTES(x4_x3), ROOM, FIVE(0, 2, 2, 21, 0), BYTES(both_sets));
+    for (uint64_t degree = 5; degree <= SIRAGUMON_JUNIOR_MOST; degree++)
+        plan("x'=x^4+x^3, degree 5 and more", 1, NO_MARKS, degree, CAP, LIMIT, BYTES(x4_x3), ROOM, FIVE(0, 2, 2, 23, 0), BYTES(both_sets));
+    plan("x'=x^4+x^3, the full kit", 1, NO_MARKS, FULL_KIT, CAP, LIMIT, BYTES(x4_x3), ROOM, FIVE(0, 2, 2, 23, 0), BYTES(both_sets));
+    plan("x'=x^5, degree 3", 1, NO_MARKS, 3, CAP, LIMIT, BYTES(x5), ROOM, FIVE(5, 7, 0, 46, 0), NO_BYTES);
+    plan("x'=x^5, degree 4", 1, NO_MARKS, 4, CAP, LIMIT, BYTES(x5), ROOM, FIVE(0, 1, 1, 6, 0), BYTES(set_x4));
+
+    /* none, spent and full within a kit */
+    plan("x'=x^4+x^3, degree 2, limit 40", 1, NO_MARKS, 2, CAP, 40, BYTES(x4_x3), ROOM, FIVE(5, 7, 0, 40, 0), NO_BYTES);
+    plan("x'=x^4+x^3, degree 2, limit 39", 1, NO_MARKS, 2, CAP, 39, BYTES(x4_x3), ROOM, FIVE(7, 6, 0, 39, 0), NO_BYTES);
+    plan("x'=x^4+x^3, degree 3, cap 1", 1, NO_MARKS, 3, 1, LIMIT, BYTES(x4_x3), ROOM, FIVE(5, 2, 0, 6, 0), NO_BYTES);
+    plan("x'=x^4+x^3, degree 3, room 1", 1, NO_MARKS, 3, CAP, LIMIT, BYTES(x4_x3), len, FIVE(0, 2, 1, 19, 0), both_sets, len);
+    plan("x'=x^4+x^3, degree 4, room 1", 1, NO_MARKS, 4, CAP, LIMIT, BYTES(x4_x3), len, FIVE(6, 2, 0, 14, 0), NO_BYTES);
+    plan("x'=x^5, degree 4, limit 5", 1, NO_MARKS, 4, CAP, 5, BYTES(x5), ROOM, FIVE(7, 1, 0, 5, 0), NO_BYTES);
+
+    /* One new signal will do where it may be x1^8. Below that it takes two that multiply to x1^9, and no two do where both
+       are below x1^5. */
+    static const uint8_t pairs[3 * SIRAGUMON_SET_BYTES] = {WAY(0, 2, 7, 0), WAY(1, 3, 6, 0), WAY(2, 4, 5, 0)};
+    static const uint8_t powers[2 * SIRAGUMON_SET_BYTES] = {WAY(0, 8, 0, 0), WAY(1, 9, 0, 0)};
+    static const struct {
+        uint64_t degree, five[SIRAGUMON_NUMBERS];
+        const uint8_t *sets;
+    } kits[] = {
+        {2, {5, 7, 0, 37, 0}, 0},
+        {3, {5, 7, 0, 37, 0}, 0},
+        {4, {5, 7, 0, 37, 0}, 0},
+        {5, {0, 2, 1, 14, 0}, pairs + 2 * SIRAGUMON_SET_BYTES},
+        {6, {0, 2, 2, 15, 0}, pairs + SIRAGUMON_SET_BYTES},
+        {7, {0, 2, 3, 16, 0}, pairs},
+        {8, {0, 1, 1, 8, 0}, powers},
+        {9, {0, 1, 2, 9, 0}, powers},
+        {FULL_KIT, {0, 1, 2, 9, 0}, powers},
+    };
+    for (size_t i = 0; i < sizeof kits / sizeof *kits; i++)
+        plan("x2'=x1^9", 2, NO_MARKS, kits[i].degree, CAP, LIMIT, BYTES(x2_x9), ROOM, kits[i].five, kits[i].sets,
+             len * kits[i].five[SIRAGUMON_COUNT]);
+
+    /* Counting leaves out the quotients above the kit's limit: with them the steps would be 70, 149 and 278. */
+    plan("x'=x^9, degree 5", 1, NO_MARKS, 5, CAP, LIMIT, BYTES(exponent_in), ROOM, FIVE(5, 7, 0, 63, 0), NO_BYTES);
+    plan("x'=x^9, degree 6", 1, NO_MARKS, 6, CAP, LIMIT, BYTES(exponent_in), ROOM, FIVE(5, 7, 0, 127, 0), NO_BYTES);
+    plan("x1'=x1^3 x2^2, degree 3", 2, NO_MARKS, 3, CAP, LIMIT, BYTES(square_of_product), ROOM, FIVE(5, 7, 0, 240, 0), NO_BYTES);
+
+    /* the total degree of several variables, and signals fed from outside */
+    plan("x1'=x1^3 x2^2, degree 4", 2, NO_MARKS, 4, CAP, LIMIT, BYTES(square_of_product), ROOM, FIVE(0, 1, 1, 10, 0), BYTES(set_square_of_product));
+    plan("x1'=x1^2 x2 u, degree 2", 3, MARK(3), 2, CAP, LIMIT, BYTES(three_factors), ROOM, FIVE(5, 7, 0, 43, 0), NO_BYTES);
+    plan("x1'=x1^2 x2 u, degree 3", 3, MARK(3), 3, CAP, LIMIT, BYTES(three_factors), ROOM, FIVE(5, 7, 0, 109, 0), NO_BYTES);
+    plan("Example 5.3, degree 2", 3, MARK(3), 2, CAP, LIMIT, BYTES(example_5_3), ROOM, FIVE(0, 1, 1, 6, 0), BYTES(set_x2));
+
+    static const uint8_t list[] = {1, 1, 2, 0, COEFFICIENT(1), 2, 2, 2, 0, COEFFICIENT(4)};
+    wire("x'=x^5, degree 4", 1, NO_MARKS, 4, BYTES(x5), BYTES(set_x4), SIRAGUMON_WIRES_BYTES, FIVE(0, 1, 2, 0, 0), BYTES(list));
+    verdict("x'=x^5, degree 4", 1, NO_MARKS, 4, BYTES(x5), BYTES(set_x4), FIVE(6, 1, 0, 0, 0));
+    verdict("x1'=x1^3 x2^2, degree 4", 2, NO_MARKS, 4, BYTES(square_of_product), BYTES(set_square_of_product), FIVE(6, 1, 0, 0, 0));
+    thin("x'=x^4+x^3 by hand, degree 4", 1, NO_MARKS, 4, BYTES(x4_x3), BYTES(by_hand), ROOM, FIVE(0, 2, 2, 8, 0), BYTES(both_sets));
+    thin("x1'=x1^3 x2^2, degree 4", 2, NO_MARKS, 4, BYTES(square_of_product), BYTES(set_square_of_product), ROOM, FIVE(0, 1, 1, 2, 0),
+         BYTES(set_square_of_product));
+    /* the terms may be above it */
+    verdict("x'=x^9, degree 2", 1, NO_MARKS, 2, BYTES(exponent_in), BYTES(empty), FIVE(9, 0, 0, 0, 1));
+}
+
+static void junior_refused(void) {
+    uint64_t high = (uint64_t)1 << 32;
+    all_refuse("degree of 64 bits", 1, NO_MARKS, UINT64_MAX, BYTES(x3), BYTES(set_x2), FIVE(1, 0, 0, 0, 0));
+    all_refuse("degree that is 4 in its low half", 1, NO_MARKS, high + 4, BYTES(x3), BYTES(set_x2), FIVE(1, 0, 0, 0, 0));
+    all_refuse("degree that is the full kit's in its low half", 1, NO_MARKS, high + FULL_KIT, BYTES(x3), BYTES(set_x2), FIVE(1, 0, 0, 0, 0));
+    refused("x^4, degree 3", 1, NO_MARKS, 3, BYTES(x5), BYTES(set_x4), FIVE(8, 0, 0, 0, 0));
+    refused("x1^2 x2^2, degree 3", 2, NO_MARKS, 3, BYTES(square_of_product), BYTES(set_square_of_product), FIVE(8, 0, 0, 0, 0));
+    refused("the last of three, degree 3", 1, NO_MARKS, 3, BYTES(x4_x3), BYTES(by_hand), FIVE(8, 0, 0, 0, 0));
+    refused("all variables, degree 9", 6, NO_MARKS, 9, NO_BYTES, BYTES(highest), FIVE(8, 0, 0, 0, 0));
+
+    /* The first that fails is the reply. */
+    all_refuse("degree before the lengths", 1, NO_MARKS, 10, x4_x3, SIRAGUMON_TERM_BYTES + 1, BYTES(both_sets), FIVE(1, 0, 0, 0, 0));
+    refused("the set's length before what is in it", 1, NO_MARKS, 3, BYTES(x5), set_x4, SIRAGUMON_SET_BYTES - 1, FIVE(2, 0, 0, 0, 0));
+    refused("a term before a set above degree 3", 1, NO_MARKS, 3, BYTES(exponent_out), BYTES(set_x4), FIVE(3, 0, 0, 0, 1));
+    refused("twice before a set above degree 3", 1, NO_MARKS, 3, BYTES(twice), BYTES(set_x4), FIVE(4, 0, 0, 0, 2));
+    refused("a set above degree 3 before what it makes", 1, NO_MARKS, 3, BYTES(x4), BYTES(set_x4), FIVE(8, 0, 0, 0, 0));
+    refused("the same within degree 4", 1, NO_MARKS, 4, BYTES(x4), BYTES(set_x4), FIVE(9, 1, 0, 0, 2));
+}
+
+/* Each number up to one above the full kit's limit: a kit's or not. The sets of a junior kit hold each product of two
+   variables' powers up to its limit, and none above it. */
+static void all_degrees(void) {
+    for (uint64_t degree = 0; degree <= SIRAGUMON_FULL_DEGREE + 1; degree++) {
+        if (degree == FULL_KIT) {
+            verdict("the highest powers", 6, NO_MARKS, degree, NO_BYTES, BYTES(highest), FIVE(0, 1, 0, 0, 0));
+            thin("the highest powers", 6, NO_MARKS, degree, NO_BYTES, BYTES(highest), ROOM, FIVE(0, 0, 1, 2, 0), BYTES(empty));
+            continue;
+        }
+        if (degree < SIRAGUMON_JUNIOR_LEAST || SIRAGUMON_JUNIOR_MOST < degree) {
+            all_refuse("no kit's limit", 1, NO_MARKS, degree, BYTES(x3), BYTES(set_x2), FIVE(1, 0, 0, 0, 0));
+            continue;
+        }
+        for (unsigned i = 1; i <= SIRAGUMON_VARIABLES; i++) {
+            for (unsigned j = 1; j <= SIRAGUMON_VARIABLES; j++) {
+                uint8_t within[SIRAGUMON_SET_BYTES] = {0}, above[SIRAGUMON_SET_BYTES] = {0};
+                within[X(i, 0)] = (uint8_t)(degree - 1);
+                within[X(j, 0)]++;
+                above[X(i, 0)] = (uint8_t)degree;
+                above[X(j, 0)]++;
+                verdict("at the limit", 6, NO_MARKS, degree, NO_BYTES, BYTES(within), FIVE(0, 1, 0, 0, 0));
+                thin("at the limit", 6, NO_MARKS, degree, NO_BYTES, BYTES(within), ROOM, FIVE(0, 0, 1, 2, 0), BYTES(empty));
+                refused("above the limit", 6, NO_MARKS, degree, NO_BYTES, BYTES(above), FIVE(8, 0, 0, 0, 0));
             }
         }
     }
@@ -632,17 +761,18 @@ static void fill_many(void) {
     }
 }
 
-/* A square for each cube; the squares ascend from the last variable to the first. */
-static void fill_cubes(void) {
+/* A square for each cube; the squares ascend from the last variable to the first. And the highest powers. */
+static void fill_powers(void) {
     for (unsigned i = 0; i < SIRAGUMON_VARIABLES; i++) {
         power(cubes + SIRAGUMON_TERM_BYTES * i, 1 + i, 3);
         squares[X(SIRAGUMON_VARIABLES - i, i)] = 2;
+        highest[X(1 + i, 0)] = SIRAGUMON_SET_EXPONENT_MOST;
     }
 }
 
 int main(void) {
     fill_many();
-    fill_cubes();
+    fill_powers();
     worked();
     verdicts();
     thinned();
@@ -654,6 +784,9 @@ int main(void) {
     closing();
     outside_refused();
     all_marks();
+    junior();
+    junior_refused();
+    all_degrees();
     printf("%d calls, %d failures\n", cases, failures);
     return failures == 0 ? 0 : 1;
 }

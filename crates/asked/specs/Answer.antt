@@ -18,14 +18,14 @@ use Rattle.asked.specs.Input.{setIn, termsIn}
 
 unfoldable pub answered : Asked → List ℕ → List (List ℕ)
 answered (Plan s) input = report s input
-answered (Thin n marks which) input = thinReport (panelOf n marks) which (termsIn input) (setIn input) (setBytes * mostSets)
-answered (Wire n marks) input = wireReport (panelOf n marks) (termsIn input) (setIn input)
+answered (Thin n marks degree which) input = thinReport (panelOf n marks degree) which (termsIn input) (setIn input) (setBytes * mostSets)
+answered (Wire n marks degree) input = wireReport (panelOf n marks degree) (termsIn input) (setIn input)
 answered Wrong input = replyLine (inOrder (numbers Setting)) ∷ []
 
 -- ---- as the code prepares it, in two buffers
 abbrev pub Answers : Asked → List ℕ → Prepared → List ℕ → List ℕ → List ℕ → List ℕ → Type 0
 Answers (Plan s) input p sets setsAfter wires wiresAfter = Prepares (fitted s (length sets)) input p sets setsAfter wiresAfter
-Answers (Thin n marks which) input p sets setsAfter wires wiresAfter = PreparesThin (panelOf n marks) which (termsIn input) (setIn input) p sets setsAfter wiresAfter
-Answers (Wire n marks) input p sets setsAfter wires wiresAfter = PreparesWire (panelOf n marks) (termsIn input) (setIn input) p sets setsAfter wiresAfter
+Answers (Thin n marks degree which) input p sets setsAfter wires wiresAfter = PreparesThin (panelOf n marks degree) which (termsIn input) (setIn input) p sets setsAfter wiresAfter
+Answers (Wire n marks degree) input p sets setsAfter wires wiresAfter = PreparesWire (panelOf n marks degree) (termsIn input) (setIn input) p sets setsAfter wiresAfter
 Answers Wrong input p sets setsAfter wires wiresAfter =
     (p ≡ record { reply = Setting; lent = 0; wires = 0 }) × (setsAfter ≡ sets) × (wiresAfter ≡ wires)

@@ -10,8 +10,8 @@ use Rattle.asked.specs.declared.settings.Asked.the-variants.{Plan, Thin,
 -- the input is term records; where a set is to be thinned or wired, its record stands before them
 abbrev pub givenBytes : Asked → ℕ
 givenBytes (Plan s) = 0
-givenBytes (Thin n marks which) = setBytes
-givenBytes (Wire n marks) = setBytes
+givenBytes (Thin n marks degree which) = setBytes
+givenBytes (Wire n marks degree) = setBytes
 givenBytes Wrong = 0
 
 -- that record, or as much of it as there is, and the terms behind it

@@ -39,10 +39,20 @@ pub(crate) fn prepare_asked(
     let terms = &input[at..];
     match a {
         Asked::Plan(s) => prepare::prepare(s, terms, sets, out),
-        Asked::Thin { n, marks, which } => {
-            prepare::prepare_thin(n, marks, which, terms, set, sets, out)
-        },
-        Asked::Wire { n, marks } => prepare::prepare_wire(n, marks, terms, set, out),
+        Asked::Thin {
+            n,
+            marks,
+            degree,
+            which,
+        } => { prepare::prepare_thin(n, marks, degree, which, terms, set, sets, out) },
+        Asked::Wire { n, marks, degree } => prepare::prepare_wire(
+            n,
+            marks,
+            degree,
+            terms,
+            set,
+            out,
+        ),
         Asked::Wrong => Prepared {
             reply: Reply::Setting,
             lent: 0,

@@ -1,9 +1,9 @@
 // Document 01's program with settings as arguments: plans, or thins a given set, and wires once; or judges and wires a
 // given set; and writes the lines of the report.
 //
-//     asked N MARKS K LIMIT SETS WHICH < term-records    plans
-//     asked N MARKS WHICH < set-record term-records      thins
-//     asked N MARKS < set-record term-records            wires
+//     asked N MARKS DEGREE K LIMIT SETS WHICH < term-records    plans
+//     asked N MARKS DEGREE WHICH < set-record term-records      thins
+//     asked N MARKS DEGREE < set-record term-records            wires
 mod answer;
 mod input;
 mod settings;

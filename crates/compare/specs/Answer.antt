@@ -28,7 +28,7 @@ outcomeCase o = record { text = caseLine (inOrder (o .said)) (o .bytes); bytes =
 -- operation 1 plans, 2 wires, and another thins; the buffer has so many bytes
 unfoldable pub caseOf : Head → List ℕ → List ℕ → ℕ → Case
 caseOf h terms set size =
-    let panel = panelOf (h .n) (h .marks) in
+    let panel = panelOf (h .n) (h .marks) (h .degree) in
     let plan = outcomeCase (planned panel (h .cap) (h .limit) terms size) in
     let wire = outcomeCase (wired panel terms set size) in
     let thin = outcomeCase (thinned panel terms set size) in

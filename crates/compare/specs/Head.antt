@@ -7,7 +7,7 @@ use lib.ListN.{getD}
 use Rattle.compare.specs.declared.head.Head.{Head}
 
 abbrev pub headBytes : ℕ
-headBytes = 40
+headBytes = 48
 
 -- the operations are numbered from 1
 abbrev pub operations : ℕ
@@ -40,8 +40,9 @@ headOf bytes = record {
   size = four bytes 4;
   n = eight bytes 8;
   marks = eight bytes 16;
-  cap = eight bytes 24;
-  limit = eight bytes 32;
+  degree = eight bytes 24;
+  cap = eight bytes 32;
+  limit = eight bytes 40;
 }
 
 -- a known operation, and lengths within the limits

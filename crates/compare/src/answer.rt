@@ -37,13 +37,13 @@ pub(crate) fn answer_case(
     fill(buffer);
     let operation = h.operation;
     if operation == 1 {
-        let planned = plan::plan(h.n, h.marks, h.cap, h.limit, terms, buffer);
+        let planned = plan::plan(h.n, h.marks, h.degree, h.cap, h.limit, terms, buffer);
         return case::case_line(reply::numbers(planned), buffer, line);
     }
     if operation == 2 {
-        let wired = answers::wire(h.n, h.marks, terms, set, buffer);
+        let wired = answers::wire(h.n, h.marks, h.degree, terms, set, buffer);
         return case::case_line(reply::numbers(wired), buffer, line);
     }
-    let thinned = thinning::thin(h.n, h.marks, terms, set, buffer);
+    let thinned = thinning::thin(h.n, h.marks, h.degree, terms, set, buffer);
     case::case_line(reply::numbers(thinned), buffer, line)
 }

@@ -1,8 +1,8 @@
 // Answers a batch of cases from standard input, one line for each, so that another program's answers can be held against them.
 //
-// A case is a head of 40 bytes, then term records, then a set record. The head: operation (1 plan, 2 wire, 3 thin), length of the set (one byte),
-// of the terms (two), of the answer buffer (four), then n, marks, cap and limit (eight each); low byte
-// first.
+// A case is a head of 48 bytes, then term records, then a set record. The head: operation (1 plan, 2 wire, 3 thin), length of the set (one byte),
+// of the terms (two), of the answer buffer (four), then n, marks, degree, cap and limit (eight each); low
+// byte first.
 mod answer;
 mod head;
 

@@ -3,7 +3,7 @@
 use mathlib.Core.Path.{_≡_, refl, sym, ap, _∙_, subst}
 use mathlib.Core.Logic.{_⊎_, inl, inr, ⊎-elim}
 use mathlib.Core.Bool.{Bool, true}
-use mathlib.Core.List.{List, [], _∷_, map, List·Memᴰ·head, List·Memᴰ·cases-cons, List·Memᴰ·not-nil}
+use mathlib.Core.List.{List, [], _∷_, map, List·Memᴰ·head, List·Memᴰ·cases-cons, List·Memᴰ·not-nil, Memᴰ·of-map}
 use Prim.Native.Nat.{ℕ, zero, suc, _+_, _*_, _-_, _/_, _<_, _≤_}
 use native.Mathlib.Omega.{arith}
 use borrow.Author.Tests.{leb-true, leb-false, ltb-true, ltb-false}
@@ -15,9 +15,10 @@ use Rattle.monomial.specs.Order.{same, before}
 use Rattle.monomial.specs.Quotient.{divides, quo}
 use Rattle.monomial.specs.Claims.{_∈_, _⊆_, Ascending, empty, first, Rearranged}
 use Rattle.monomial.proofs.Tests.{Tested, passed, failed, test, is→T, is→nT, cond-cases, same-test}
-use Rattle.monomial.proofs.Members.{here, there, keep-none, gather-sub, gather-same, map-same}
+use Rattle.monomial.proofs.Members.{here, there, keep-out, keep-same, keep-none, gather-sub, gather-same, map-same}
 use Rattle.monomial.proofs.Rearranged.{rearranged-in, rearranged-out, rearranged-length, kept-rearranged}
 use Rattle.monomial.proofs.order.Laws.{mono-order}
+use Rattle.monomial.proofs.quotient.Laws.{quo-divides}
 use Rattle.monomial.proofs.order.Ascending.{arrange-asc, arrange-in, arrange-out, sub-length, sub-equal}
 use Rattle.counting.specs.Counting.{quotientsOf, count, insertDown, sortDown, counts, sum, mayDo, leastFrom, needed, closes, upTo}
 use Rattle.counting.proofs.UpTo.{upTo-low, upTo-high, upTo-suc}
@@ -320,12 +321,32 @@ closes-rearranged may t v l l' q =
     let c : counts (gather (quotientsOf may v) l) ≡ counts (gather (quotientsOf may v) l') = counts-rearranged (quotientsOf may v) l l' q in
     rw (e, c) refl
 
--- nor does it depend on members of V that divide none of them
+-- nor on anything but the quotients of each
+closes-quotients : (may may' : Mono → Bool) (t : ℕ) (v u ns : List Mono)
+    → ((m : Mono) → m ∈ ns → quotientsOf may v m ≡ quotientsOf may' u m) → closes may t v ns ≡ closes may' t u ns
+unfolding closes needed
+closes-quotients may may' t v u ns e = rw (gather-same (quotientsOf may v) (quotientsOf may' u) ns e)
+
+-- so members of V that divide none of them have no say
 pub closes-divisors : (may : Mono → Bool) (t : ℕ) (v u ns : List Mono)
     → ((m : Mono) → m ∈ ns → keep (λ x. divides x m) v ≡ keep (λ x. divides x m) u) → closes may t v ns ≡ closes may t u ns
-unfolding closes needed quotientsOf
-closes-divisors may t v u ns e =
-    rw (gather-same (quotientsOf may v) (quotientsOf may u) ns (λ m h. ap (λ (l : List Mono). keep may (map (quo m) l)) (e m h)))
+unfolding quotientsOf
+closes-divisors may t v u ns e = closes-quotients may may t v u ns (λ m h. ap (λ (l : List Mono). keep may (map (quo m) l)) (e m h))
+
+-- and of the test for new monomials only what it says of their divisors
+quotients-tested : (may may' : Mono → Bool) (v : List Mono) (m : Mono) → ((q : Mono) → T (divides q m) → may q ≡ may' q) → quotientsOf may v m ≡ quotientsOf may' v m
+unfolding quotientsOf
+quotients-tested may may' v m e = keep-same may may' (map (quo m) those) (λ q i. e q (divisor q (Memᴰ·of-map (quo m) those i)))
+  where
+    those : List Mono
+    those = keep (λ x. divides x m) v
+
+    divisor : (q : Mono) → (x : Mono) × (x ∈ those) × (quo m x ≡ q) → T (divides q m)
+    divisor q p = subst (λ (z : Mono). T (divides z m)) (p .2) (quo-divides (p .0) m (keep-out (λ x. divides x m) v (p .1) .1))
+
+pub closes-tested : (may may' : Mono → Bool) (t : ℕ) (v ns : List Mono)
+    → ((m : Mono) → m ∈ ns → (q : Mono) → T (divides q m) → may q ≡ may' q) → closes may t v ns ≡ closes may' t v ns
+closes-tested may may' t v ns e = closes-quotients may may' t v v ns (λ m h. quotients-tested may may' v m (e m h))
 
 -- what is closed needs more than there is room for
 pub closes-out : (may : Mono → Bool) (t : ℕ) (v ns : List Mono) → closes may t v ns ≡ true → t < needed may v ns

@@ -16,7 +16,7 @@ ghost use Rattle.monomial.specs.Monomial.{one, width};
 ghost use Rattle.monomial.specs.Claims.{Different};
 ghost use Rattle.wiring.specs.Panel.{cards};
 ghost use Rattle.wiring.specs.Signals.{tabled, signalsAt};
-ghost use Rattle.wiring.specs.Sockets.{mayBe};
+ghost use Rattle.wiring.specs.Sockets.{canBuild};
 ghost use Rattle.counting.specs.Counting.{shares, hits, begins, upTo, frequent, quotientsOf, counts, sum, closes};
 
 // Whether m is q times a member of V.
@@ -53,7 +53,7 @@ fn recurs(list: &[u8], from: usize, n: usize, set: &[u8], q: Monomial, often: us
 // its multiples. What is left of the list is asked first: it is there that most quotients fail.
 fn begins_at(panel: Panel, list: &[u8], i: usize, set: &[u8], x: Monomial, often: usize) -> bool
     requires { ⌜ (i < length (now list) / width) × (0 < often) ⌝ }
-    ensures { λ r. ⌜ r ≡ begins (mayBe panel) (signalsAt (panel .n) (now (set .entry))) often (take i (tabled (now (list .entry)))) (drop (i + 1) (tabled (now (list .entry))))
+    ensures { λ r. ⌜ r ≡ begins (canBuild panel) (signalsAt (panel .n) (now (set .entry))) often (take i (tabled (now (list .entry)))) (drop (i + 1) (tabled (now (list .entry))))
         (getD (tabled (now (list .entry))) i (one width)) (x .e) ⌝ }
 {
     let m = Monomial::read(list, WIDTH * i);
@@ -61,7 +61,7 @@ fn begins_at(panel: Panel, list: &[u8], i: usize, set: &[u8], x: Monomial, often
         return false;
     }
     let q = m.over(x);
-    if !sockets::may_be(panel, q) {
+    if !sockets::can_build(panel, q) {
         return false;
     }
     if !recurs(list, i + 1, panel.n, set, q, often - 1) {
@@ -81,7 +81,7 @@ fn tally_at(
     cap: usize,
 ) -> usize
     requires { ⌜ (panel .n ≤ width) × ((i < length (now list) / width) × ((0 < often) × (many ≤ cap))) ⌝ }
-    ensures { λ r. ⌜ r ≡ upTo cap (many + length (keep (begins (mayBe panel) (signalsAt (panel .n) (now (set .entry))) often (take i (tabled (now (list .entry))))
+    ensures { λ r. ⌜ r ≡ upTo cap (many + length (keep (begins (canBuild panel) (signalsAt (panel .n) (now (set .entry))) often (take i (tabled (now (list .entry))))
         (drop (i + 1) (tabled (now (list .entry)))) (getD (tabled (now (list .entry))) i (one width))) (signalsAt (panel .n) (now (set .entry))))) ⌝ }
 {
     let len = panel.n + 1 + set.len() / WIDTH;
@@ -102,7 +102,7 @@ fn tally_at(
 // How many quotients occur so often, up to the cap. One that is first met where too few are left does not.
 fn frequent(panel: Panel, list: &[u8], set: &[u8], often: usize, cap: usize) -> usize
     requires { ⌜ (panel .n ≤ width) × ((0 < often) × Different (signalsAt (panel .n) (now set))) ⌝ }
-    ensures { λ r. ⌜ r ≡ upTo cap (frequent (mayBe panel) (signalsAt (panel .n) (now (set .entry))) (tabled (now (list .entry))) often) ⌝ }
+    ensures { λ r. ⌜ r ≡ upTo cap (frequent (canBuild panel) (signalsAt (panel .n) (now (set .entry))) (tabled (now (list .entry))) often) ⌝ }
 {
     let len = list.len() / WIDTH;
     let mut met: usize = 0;
@@ -118,7 +118,7 @@ fn frequent(panel: Panel, list: &[u8], set: &[u8], often: usize, cap: usize) -> 
 // reach it are added up, at most `room` of them.
 fn stays_below(panel: Panel, list: &[u8], set: &[u8], room: usize, wanted: usize) -> bool
     requires { ⌜ (panel .n ≤ width) × ((0 < room) × Different (signalsAt (panel .n) (now set))) ⌝ }
-    ensures { λ r. ⌜ r ≡ ltb (sum (take room (counts (gather (quotientsOf (mayBe panel) (signalsAt (panel .n) (now (set .entry)))) (tabled (now (list .entry))))))) wanted ⌝ }
+    ensures { λ r. ⌜ r ≡ ltb (sum (take room (counts (gather (quotientsOf (canBuild panel) (signalsAt (panel .n) (now (set .entry)))) (tabled (now (list .entry))))))) wanted ⌝ }
 {
     let mut left = wanted;
     let mut often: usize = 1;
@@ -140,7 +140,7 @@ fn stays_below(panel: Panel, list: &[u8], set: &[u8], room: usize, wanted: usize
 // often enough for its share, the others need not be counted.
 pub fn closes(panel: Panel, list: &[u8], set: &[u8], room: usize) -> bool
     requires { ⌜ (panel .n ≤ width) × ((0 < room) × ((room ≤ cards) × Different (signalsAt (panel .n) (now set)))) ⌝ }
-    ensures { λ r. ⌜ r ≡ closes (mayBe panel) room (signalsAt (panel .n) (now (set .entry))) (tabled (now (list .entry))) ⌝ }
+    ensures { λ r. ⌜ r ≡ closes (canBuild panel) room (signalsAt (panel .n) (now (set .entry))) (tabled (now (list .entry))) ⌝ }
 {
     let len = list.len() / WIDTH;
     let own = room * (room + 1) / 2;

@@ -12,7 +12,7 @@ ghost use Rattle.wiring.specs.Poly.{plain};
 ghost use Rattle.wiring.specs.Derivative.{derivative};
 ghost use Rattle.wiring.specs.Quadratic.{nonsquares};
 ghost use Rattle.wiring.specs.Signals.{signalsAt};
-ghost use Rattle.wiring.specs.Sockets.{mayBe};
+ghost use Rattle.wiring.specs.Sockets.{canBuild};
 ghost use Rattle.wiring.specs.Terms.{records, system};
 ghost use Rattle.counting.specs.Verdict.{listBytes, Weighing, Judged};
 
@@ -38,7 +38,7 @@ pub fn verdict_of(
     room: usize,
 ) -> Verdict
     requires { ⌜ Weighing (now terms) (panel .n) (now set) cancels room × (listBytes ≤ length (now list)) ⌝ }
-    ensures { λ r. ⌜ Judged (mayBe panel) room (signalsAt (panel .n) (now (set .entry))) (nonsquares plain (signalsAt (panel .n) (now (set .entry))) (derivative plain (system (records (now (terms .entry)))))) r ⌝ }
+    ensures { λ r. ⌜ Judged (canBuild panel) room (signalsAt (panel .n) (now (set .entry))) (nonsquares plain (signalsAt (panel .n) (now (set .entry))) (derivative plain (system (records (now (terms .entry)))))) r ⌝ }
 {
     let closed = Verdict {
         found: false,

@@ -17,15 +17,16 @@ ghost use Rattle.planner_c.specs.Calls.{answer, given};
 pub extern "C" fn siragumon_plan(
     n: u64,
     marks: u64,
+    degree: u64,
     cap: u64,
     limit: u64,
     terms: &[u8],
     out: &mut [u8],
     five: &mut [u64; 5],
 )
-    ensures { λ _. ⌜ answer (now (five .exit)) (now (out .exit)) ≡ given (planned (panelOf n marks) cap limit (now (terms .entry)) (length (now (out .entry)))) ⌝ }
+    ensures { λ _. ⌜ answer (now (five .exit)) (now (out .exit)) ≡ given (planned (panelOf n marks degree) cap limit (now (terms .entry)) (length (now (out .entry)))) ⌝ }
 {
-    let r = plan::plan(n, marks, cap, limit, terms, out);
+    let r = plan::plan(n, marks, degree, cap, limit, terms, out);
     *five = reply::numbers(r);
 }
 
@@ -34,14 +35,15 @@ pub extern "C" fn siragumon_plan(
 pub extern "C" fn siragumon_wire(
     n: u64,
     marks: u64,
+    degree: u64,
     terms: &[u8],
     set: &[u8],
     out: &mut [u8],
     five: &mut [u64; 5],
 )
-    ensures { λ _. ⌜ answer (now (five .exit)) (now (out .exit)) ≡ given (wired (panelOf n marks) (now (terms .entry)) (now (set .entry)) (length (now (out .entry)))) ⌝ }
+    ensures { λ _. ⌜ answer (now (five .exit)) (now (out .exit)) ≡ given (wired (panelOf n marks degree) (now (terms .entry)) (now (set .entry)) (length (now (out .entry)))) ⌝ }
 {
-    let r = answers::wire(n, marks, terms, set, out);
+    let r = answers::wire(n, marks, degree, terms, set, out);
     *five = reply::numbers(r);
 }
 
@@ -50,13 +52,14 @@ pub extern "C" fn siragumon_wire(
 pub extern "C" fn siragumon_thin(
     n: u64,
     marks: u64,
+    degree: u64,
     terms: &[u8],
     set: &[u8],
     out: &mut [u8],
     five: &mut [u64; 5],
 )
-    ensures { λ _. ⌜ answer (now (five .exit)) (now (out .exit)) ≡ given (thinned (panelOf n marks) (now (terms .entry)) (now (set .entry)) (length (now (out .entry)))) ⌝ }
+    ensures { λ _. ⌜ answer (now (five .exit)) (now (out .exit)) ≡ given (thinned (panelOf n marks degree) (now (terms .entry)) (now (set .entry)) (length (now (out .entry)))) ⌝ }
 {
-    let r = thinning::thin(n, marks, terms, set, out);
+    let r = thinning::thin(n, marks, degree, terms, set, out);
     *five = reply::numbers(r);
 }

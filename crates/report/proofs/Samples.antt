@@ -16,7 +16,9 @@ use Rattle.wiring.specs.Quadratic.{factor, inV2, unmet, nonsquares}
 use Rattle.wiring.specs.Choice.{cheaper, chosen}
 use Rattle.wiring.specs.Sets.{places, sizeOf, setOf, ascending, monomialRight, setRight, setRecord}
 use Rattle.wiring.specs.Wires.{firstOf, secondOf, row as rowOf, rowsFrom, wiring, wireRecord}
-use Rattle.wiring.specs.Sockets.{panelOf, halved, marked, countRight, panelRight, free, mayBe}
+use Rattle.monomial.specs.Degree.{degree}
+use Rattle.wiring.specs.Kit.{degreeRight}
+use Rattle.wiring.specs.Sockets.{fullPanel, halved, marked, countRight, panelRight, free, mayBe}
 use Rattle.wiring.specs.Answers.{firstUnmet, judged, recordJudged, verdict, listed, told, wired}
 use Rattle.counting.specs.Counting.{quotientsOf, count, insertDown, sortDown, counts, sum, mayDo, leastFrom, needed, closes}
 use Rattle.walk.specs.Walk.{added, child, opens, ends, tried, after, opened, level, kept, onward, run}
@@ -45,17 +47,17 @@ powersOf l = gather (λ p. padded (p ∷ [])) l ++ replicate (36 - 6 * length l)
 
 -- thinning such a set, with room for so many sets, of which one is wired; and wiring it
 thinRow : ℕ → ℕ → List ℕ → List ℕ → List String → Row
-thinRow room which terms powers want = record { got = thinReport (panelOf 1 0) which terms (powersOf powers) (36 * room); want = map line want }
+thinRow room which terms powers want = record { got = thinReport (fullPanel 1) which terms (powersOf powers) (36 * room); want = map line want }
 
 wireRow : List ℕ → List ℕ → List String → Row
-wireRow terms powers want = record { got = wireReport (panelOf 1 0) terms (powersOf powers); want = map line want }
+wireRow terms powers want = record { got = wireReport (fullPanel 1) terms (powersOf powers); want = map line want }
 
 -- x' = x^4 + x^3, with room for so many sets, of which one is wired
 example : List ℕ
 example = plus 1 (4 ∷ []) ++ plus 1 (3 ∷ [])
 
 wiring-set : ℕ → ℕ → Settings
-wiring-set room which = record { n = 1; marks = 0; cap = 6; limit = 1000000; room = room; which = which }
+wiring-set room which = record { n = 1; marks = 0; degree = 324; cap = 6; limit = 1000000; room = room; which = which }
 
 table : List Row
 table =
@@ -95,8 +97,11 @@ table =
     ∷ row (wiring-set 2 3) example ("0 2 2 23 0" ∷ "2.0.0.0.0.0 3.0.0.0.0.0" ∷ "3.0.0.0.0.0 4.0.0.0.0.0" ∷ [])
     ∷ row (wiring-set 1 1) example ("6 2 0 15 0" ∷ [])
     -- x1' = x1^3 + u x1, u a signal: no wire for it
-    ∷ row (record { n = 2; marks = 2; cap = 6; limit = 1000000; room = 1; which = 1 }) (plus 1 (3 ∷ []) ++ plus 1 (1 ∷ 1 ∷ []))
+    ∷ row (record { n = 2; marks = 2; degree = 324; cap = 6; limit = 1000000; room = 1; which = 1 }) (plus 1 (3 ∷ []) ++ plus 1 (1 ∷ 1 ∷ []))
     ("0 1 1 6 0" ∷ "2.0.0.0.0.0" ∷ "1 1 2 1" ∷ "1 1 3 1" ∷ "3 2 3 2" ∷ "3 3 3 2" ∷ [])
+    -- x' = x^4 + x^3 with the junior kit of limit 3, and of limit 2
+    ∷ row (record { n = 1; marks = 0; degree = 3; cap = 6; limit = 1000000; room = 2; which = 0 }) example ("0 2 1 19 0" ∷ "2.0.0.0.0.0 3.0.0.0.0.0" ∷ [])
+    ∷ row (record { n = 1; marks = 0; degree = 2; cap = 6; limit = 1000000; room = 2; which = 1 }) example ("5 7 0 40 0" ∷ [])
     -- thinning: of three signals two are needed; the second subset wired; no subset 3; room for one is not enough
     ∷ thinRow 2 1 example (2 ∷ 3 ∷ 4 ∷ [])
     ("0 2 2 8 0"
@@ -147,7 +152,7 @@ unfolding table row powersOf thinRow wireRow padded plus minus example wiring-se
     wireResults wiringOf decimalWithin decimal
     signedText joined replyLine exponents setText wireLine planned thinned thinnedBy thinning thinnest least quadraticOnes leastSize subsets settingsRight said setsBytes plan levels settled run onward
     kept level opened after ends tried opens child added cheaper chosen pairs divisors score setRecord wired told listed verdict recordJudged judged firstUnmet
-    halved marked countRight panelRight free mayBe records lengthRight exponentsRight coefficientRight termRight faultFrom equation system places sizeOf setOf ascending monomialRight
+    halved marked countRight degreeRight panelRight free degree mayBe records lengthRight exponentsRight coefficientRight termRight faultFrom equation system places sizeOf setOf ascending monomialRight
     setRight firstOf secondOf rowOf rowsFrom wiring wireRecord signals factor inV2 unmet nonsquares partsFrom derivative coeff times support signed
     unsigned isZero vars any some all keep place gather below pairwise pointwise dictionary insertBy arrangeBy closes needed leastFrom mayDo sum counts
     sortDown insertDown count quotientsOf

@@ -47,7 +47,7 @@ resultsOf panel terms which o = record { listed = o; wiring = wiringOf panel ter
 
 -- the panel of settings
 abbrev pub panelIn : Settings → Panel
-panelIn s = panelOf (s .n) (s .marks)
+panelIn s = panelOf (s .n) (s .marks) (s .degree)
 
 -- of planning; and of thinning into a buffer of so many bytes
 unfoldable pub results : Settings → List ℕ → Results
@@ -68,7 +68,7 @@ resultsIn p sets wires = record { listed = outcome (p .reply) (take (p .lent) se
 
 -- the settings, with no more room than a buffer of so many bytes has
 abbrev pub fitted : Settings → ℕ → Settings
-fitted s size = record { n = s .n; marks = s .marks; cap = s .cap; limit = s .limit; room = min (s .room) (size / setBytes); which = s .which }
+fitted s size = record { n = s .n; marks = s .marks; degree = s .degree; cap = s .cap; limit = s .limit; room = min (s .room) (size / setBytes); which = s .which }
 
 -- results are left, of which the sets were lent so many bytes; what was not lent is as it was
 pub record Leaves (size : ℕ) (r : Results) (p : Prepared) (sets after wires : List ℕ) : Type 0 where

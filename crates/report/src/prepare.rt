@@ -19,6 +19,7 @@ ghost use Rattle.report.specs.Prepare.{counted, wiringOf, fitted, Prepar
 pub struct Settings {
     pub n: u64,
     pub marks: u64,
+    pub degree: u64,
     pub cap: u64,
     pub limit: u64,
     pub room: usize,
@@ -42,6 +43,7 @@ pub fn least(a: usize, b: usize) -> usize
 fn wire_set(
     n: u64,
     marks: u64,
+    degree: u64,
     terms: &[u8],
     which: u64,
     count: u64,
@@ -49,7 +51,7 @@ fn wire_set(
     out: &mut [u8; WIRES_BYTES],
 ) -> u64
     requires { ⌜ setBytes * count ≤ length (now sets) ⌝ }
-    ensures { λ r. ⌜ counted r (now (out .exit)) ≡ wiringOf (panelOf n marks) (now (terms .entry)) which count (now (sets .entry)) ⌝ }
+    ensures { λ r. ⌜ counted r (now (out .exit)) ≡ wiringOf (panelOf n marks degree) (now (terms .entry)) which count (now (sets .entry)) ⌝ }
 {
     buffer::clear(out);
     if which < 1 {
@@ -60,7 +62,7 @@ fn wire_set(
     }
     let at = SET_BYTES * (which as usize - 1);
     let end = at + SET_BYTES;
-    let said = answers::wire(n, marks, terms, &sets[at..end], out);
+    let said = answers::wire(n, marks, degree, terms, &sets[at..end], out);
     let five = reply::numbers(said);
     five[2]
 }
@@ -73,9 +75,26 @@ pub fn prepare(s: Settings, terms: &[u8], sets: &mut [u8], out: &mut [u8; WIRES_
 {
     let room = least(s.room, sets.len() / SET_BYTES);
     let lent = SET_BYTES * room;
-    let reply = plan::plan(s.n, s.marks, s.cap, s.limit, terms, &mut sets[..lent]);
+    let reply = plan::plan(
+        s.n,
+        s.marks,
+        s.degree,
+        s.cap,
+        s.limit,
+        terms,
+        &mut sets[..lent],
+    );
     let five = reply::numbers(reply);
-    let wires = wire_set(s.n, s.marks, terms, s.which, five[2], &sets[..lent], out);
+    let wires = wire_set(
+        s.n,
+        s.marks,
+        s.degree,
+        terms,
+        s.which,
+        five[2],
+        &sets[..lent],
+        out,
+    );
     Prepared { reply, lent, wires }
 }
 
@@ -83,19 +102,20 @@ pub fn prepare(s: Settings, terms: &[u8], sets: &mut [u8], out: &mut [u8; WIRES_
 pub fn prepare_thin(
     n: u64,
     marks: u64,
+    degree: u64,
     which: u64,
     terms: &[u8],
     set: &[u8],
     sets: &mut [u8],
     out: &mut [u8; WIRES_BYTES],
 ) -> Prepared
-    ensures { λ r. ⌜ PreparesThin (panelOf n marks) which (now (terms .entry)) (now (set .entry)) r
+    ensures { λ r. ⌜ PreparesThin (panelOf n marks degree) which (now (terms .entry)) (now (set .entry)) r
         (now (sets .entry)) (now (sets .exit)) (now (out .exit)) ⌝ }
 {
     let lent = sets.len();
-    let reply = thinning::thin(n, marks, terms, set, sets);
+    let reply = thinning::thin(n, marks, degree, terms, set, sets);
     let five = reply::numbers(reply);
-    let wires = wire_set(n, marks, terms, which, five[2], sets, out);
+    let wires = wire_set(n, marks, degree, terms, which, five[2], sets, out);
     Prepared { reply, lent, wires }
 }
 
@@ -103,13 +123,14 @@ pub fn prepare_thin(
 pub fn prepare_wire(
     n: u64,
     marks: u64,
+    degree: u64,
     terms: &[u8],
     set: &[u8],
     out: &mut [u8; WIRES_BYTES],
 ) -> Prepared
-    ensures { λ r. ⌜ ((sets : List ℕ) → PreparesWire (panelOf n marks) (now (terms .entry)) (now (set .entry)) r sets sets (now (out .exit))) ⌝ }
+    ensures { λ r. ⌜ ((sets : List ℕ) → PreparesWire (panelOf n marks degree) (now (terms .entry)) (now (set .entry)) r sets sets (now (out .exit))) ⌝ }
 {
-    let reply = answers::wire(n, marks, terms, set, out);
+    let reply = answers::wire(n, marks, degree, terms, set, out);
     let five = reply::numbers(reply);
     let wires = five[2];
     Prepared {

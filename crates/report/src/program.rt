@@ -5,6 +5,7 @@ use super::prepare::Settings;
 use super::write;
 use monomial::width::WIDTH;
 use wiring::panel::CARDS;
+use wiring::panel::FULL_DEGREE;
 use wiring::panel::SET_BYTES;
 use wiring::panel::WIRES_BYTES;
 ghost use Rattle.report.specs.Prepare.{Prepares};
@@ -27,6 +28,7 @@ pub fn prepare_program(
     let s = Settings {
         n: WIDTH as u64,
         marks: 0,
+        degree: FULL_DEGREE,
         cap: CARDS as u64,
         limit: LIMIT,
         room: ROOM,

@@ -1,5 +1,5 @@
 -- Thinning computed by the definitions from the bytes of the records, beside replies and buffers that were worked outside the project: subsets of
--- every kind, both sides of the room, each refusal, and signals. One table, one claim. Assumes nothing.
+-- every kind, both sides of the room, each refusal, signals and kits. One table, one claim. Assumes nothing.
 use mathlib.Core.Path.{_≡_, refl, sym, ap, _∙_}
 use mathlib.Core.List.{List, [], _∷_, _++_, map}
 use Prim.Native.Nat.{ℕ, _*_, _-_}
@@ -7,7 +7,10 @@ use native.Mathlib.Omega.{arith}
 use lib.ListN.{length, replicate}
 use Rattle.monomial.specs.Lists.{any, some, all, keep, place, gather, below, pairwise, pointwise, dictionary, insertBy, arrangeBy}
 use Rattle.monomial.specs.Monomial.{vars}
-use Rattle.wiring.specs.Sockets.{panelOf, halved, marked, countRight, panelRight, free, mayBe}
+use Rattle.monomial.specs.Degree.{degree}
+use Rattle.wiring.specs.Panel.{fullDegree}
+use Rattle.wiring.specs.Kit.{degreeRight}
+use Rattle.wiring.specs.Sockets.{panelOf, fullPanel, halved, marked, countRight, panelRight, free, mayBe}
 use Rattle.wiring.specs.declared.panel.Panel.{Panel}
 use Rattle.wiring.specs.Reply.{Numbers, five, Outcome}
 use Rattle.wiring.specs.Coefficient.{signed, isZero}
@@ -28,13 +31,16 @@ record Row : Type 0 where
   want : Outcome
 
 -- the bytes of a set, the five numbers, the subsets, and zeros to the end of the buffer
-fed : ℕ → ℕ → List ℕ → List ℕ → ℕ → Numbers → List (List (List ℕ)) → Row
-fed n marks terms given size numbers sets = record {
-  got = thinned (panelOf n marks) terms given size;
+built : ℕ → ℕ → ℕ → List ℕ → List ℕ → ℕ → Numbers → List (List (List ℕ)) → Row
+built n marks limit terms given size numbers sets = record {
+  got = thinned (panelOf n marks limit) terms given size;
   want = record { said = numbers; bytes = gather set sets ++ replicate (size - 36 * length sets) 0 };
 }
 
--- with no marks
+-- with the full kit, and with no marks
+fed : ℕ → ℕ → List ℕ → List ℕ → ℕ → Numbers → List (List (List ℕ)) → Row
+fed n marks = built n marks fullDegree
+
 row : ℕ → List ℕ → List ℕ → ℕ → Numbers → List (List (List ℕ)) → Row
 row n = fed n 0
 
@@ -95,31 +101,35 @@ table =
     ∷ fed 2 2 (plus 1 (3 ∷ []) ++ plus 1 (1 ∷ 1 ∷ [])) (set ((1 ∷ 1 ∷ []) ∷ (2 ∷ []) ∷ [])) 36 (five 8 0 0 0 0) []
     ∷ fed 2 4 (plus 1 (3 ∷ [])) (set ((2 ∷ []) ∷ [])) 36 (five 1 0 0 0 0) []
     ∷ fed 2 2 (plus 1 (3 ∷ []) ++ plus 2 (1 ∷ [])) (set ((2 ∷ []) ∷ [])) 36 (five 3 0 0 0 2) []
+    -- x^4 + x^3 with junior kits: one that can build all three powers, and one that cannot; a limit that no kit has
+    ∷ built 1 0 4 quartic powers 72 (five 0 2 2 8 0) (((2 ∷ []) ∷ (3 ∷ []) ∷ []) ∷ ((3 ∷ []) ∷ (4 ∷ []) ∷ []) ∷ [])
+    ∷ built 1 0 3 quartic powers 72 (five 8 0 0 0 0) []
+    ∷ built 1 0 10 quartic powers 72 (five 1 0 0 0 0) []
     ∷ []
 
 -- replies and buffers are as written
 worked : map (λ r. r .got) table ≡ map (λ r. r .want) table
-unfolding table fed row quartic powers feeding plus set padded thinned thinnedBy thinning thinnest least leastSize quadraticOnes subsets said setsBytes setRecord
-    verdict recordJudged judged firstUnmet halved marked countRight panelRight free mayBe records lengthRight exponentsRight coefficientRight termRight faultFrom equation system places
+unfolding table built fed row quartic powers feeding plus set padded thinned thinnedBy thinning thinnest least leastSize quadraticOnes subsets said setsBytes setRecord
+    verdict recordJudged judged firstUnmet halved marked countRight degreeRight panelRight free degree mayBe records lengthRight exponentsRight coefficientRight termRight faultFrom equation system places
     sizeOf setOf ascending monomialRight setRight signals factor inV2 unmet nonsquares partsFrom derivative coeff times support signed isZero vars any
     some all keep place gather below pairwise pointwise dictionary insertBy arrangeBy
 worked = refl
 
 -- one reply does not do for all: x^4 + x^3 with {x^2, x^3, x^4} has room for its subsets or not
 pub record TwoRooms : Type 0 where
-  pub enough : thinned (panelOf 1 0) quartic powers 72 .said ≡ five 0 2 2 8 0
-  pub short : thinned (panelOf 1 0) quartic powers 71 .said ≡ five 6 2 0 8 0
+  pub enough : thinned (fullPanel 1) quartic powers 72 .said ≡ five 0 2 2 8 0
+  pub short : thinned (fullPanel 1) quartic powers 71 .said ≡ five 6 2 0 8 0
 
 pub two-rooms : TwoRooms
 unfolding quartic powers plus set padded thinned thinnedBy thinning thinnest least leastSize quadraticOnes subsets said setsBytes setRecord verdict recordJudged
-    judged firstUnmet halved marked countRight panelRight free mayBe records lengthRight exponentsRight coefficientRight termRight faultFrom equation system places sizeOf setOf ascending
+    judged firstUnmet halved marked countRight degreeRight panelRight free degree mayBe records lengthRight exponentsRight coefficientRight termRight faultFrom equation system places sizeOf setOf ascending
     monomialRight setRight signals factor inV2 unmet nonsquares partsFrom derivative coeff times support signed isZero vars any some all keep place
     gather below pairwise pointwise dictionary insertBy arrangeBy
 two-rooms = record { enough = refl; short = refl }
 
 pub thin-not-constant : (x : Numbers) → ((panel : Panel) (terms given : List ℕ) (size : ℕ) → x ≡ thinned panel terms given size .said) → ⊥
 thin-not-constant x h =
-    let done : x ≡ five 0 2 2 8 0 = h (panelOf 1 0) quartic powers 72 ∙ two-rooms .enough in
-    let full : x ≡ five 6 2 0 8 0 = h (panelOf 1 0) quartic powers 71 ∙ two-rooms .short in
+    let done : x ≡ five 0 2 2 8 0 = h (fullPanel 1) quartic powers 72 ∙ two-rooms .enough in
+    let full : x ≡ five 6 2 0 8 0 = h (fullPanel 1) quartic powers 71 ∙ two-rooms .short in
     let codes : _≡_ {A = ℕ} 0 6 = ap (λ (y : Numbers). y .code) (sym done ∙ full) in
     omega arith

@@ -55,11 +55,11 @@ fn thin_judged(n: usize, terms: &[u8], set: Set, out: &mut [u8]) -> Reply
 }
 
 // Thins: every smallest quadratic subset of the set that is given, ascending, then zeros; after a refusal only zeros.
-pub fn thin(n: u64, marks: u64, terms: &[u8], set: &[u8], out: &mut [u8]) -> Reply
-    ensures { λ r. ⌜ outcome r (now (out .exit)) ≡ thinned (panelOf n marks) (now (terms .entry)) (now (set .entry)) (length (now (out .entry))) ⌝ }
+pub fn thin(n: u64, marks: u64, degree: u64, terms: &[u8], set: &[u8], out: &mut [u8]) -> Reply
+    ensures { λ r. ⌜ outcome r (now (out .exit)) ≡ thinned (panelOf n marks degree) (now (terms .entry)) (now (set .entry)) (length (now (out .entry))) ⌝ }
 {
     buffer::clear(out);
-    let g = answers::accept(n, marks, terms, set);
+    let g = answers::accept(n, marks, degree, terms, set);
     if !g.good {
         return g.said;
     }

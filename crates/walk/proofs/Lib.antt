@@ -2,6 +2,7 @@
 pub mod Rules
 pub mod Steps
 pub mod Openings
+pub mod Agree
 pub mod Limits
 pub mod Sound
 pub mod Complete
@@ -12,6 +13,7 @@ pub mod Alike
 pub mod Closing
 pub mod Counting
 pub mod Smallest
+pub mod Kit
 pub mod Heedless
 pub mod Unused
 pub mod Worked

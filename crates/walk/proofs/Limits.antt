@@ -1,18 +1,20 @@
--- Every set that a level opens, found or not, keeps the bounds of document 01, by any rules: exponents of sets, exponents of nonsquares, and totals
--- of coefficients with the sums on the way to them. Assumes nothing.
+-- Every set that a level opens, found or not, keeps the bounds of document 01, by any rules: exponents and total degrees of sets, exponents of
+-- nonsquares, and totals of coefficients with the sums on the way to them. Assumes nothing.
 use mathlib.Core.Path.{_≡_}
 use mathlib.Core.Logic.{⊎-elim}
 use mathlib.Core.List.{List}
-use Prim.Native.Nat.{ℕ, suc, _<_, _≤_}
+use Prim.Native.Nat.{ℕ, suc, _*_, _<_, _≤_}
 use native.Mathlib.Omega.{arith}
 use lib.IntN.{natAbs}
 use lib.ListN.{length, take}
 use Rattle.monomial.specs.Monomial.{Mono, constants, width}
 use Rattle.monomial.specs.Product.{AtMost}
+use Rattle.monomial.specs.Degree.{degree}
 use Rattle.monomial.specs.Claims.{_∈_}
 use Rattle.monomial.proofs.Members.{take-in}
 use Rattle.monomial.proofs.Variables.{constants-fit}
-use Rattle.wiring.specs.Panel.{cards, setExponent, derivedExponent}
+use Rattle.monomial.proofs.degree.Laws.{degree-most}
+use Rattle.wiring.specs.Panel.{cards, setExponent, derivedExponent, fullDegree}
 use Rattle.wiring.specs.Poly.{plain, coeff}
 use Rattle.wiring.specs.Derivative.{derivative}
 use Rattle.wiring.specs.Signals.{signals}
@@ -30,7 +32,7 @@ use Rattle.walk.proofs.Openings.{opened-keep}
 use Rattle.walk.proofs.children.Laws.{nonsquare-fits, child-walked, walked-fits}
 
 module _ (r : Rules) (o : Orderly r) (begins : Walked (r .start)) (n : ℕ) (terms : List ℕ) (clean : CleanTerms terms) (k : ℕ) (low : k ≤ cards) where
-  keeps-walked : Inherited r n (system (records terms)) k Walked
+  pub keeps-walked : Inherited r n (system (records terms)) k Walked
   keeps-walked s m p w h j f = child-walked terms clean n s w m h p j (omega (arith, opens-fits r n k s p f))
 
   -- a set that a step of level k opens
@@ -40,6 +42,12 @@ module _ (r : Rules) (o : Orderly r) (begins : Walked (r .start)) (n : ℕ) (ter
 
     pub opened-set-fits : (m : Mono) → m ∈ s → AtMost setExponent m
     opened-set-fits m i = walked-fits s opened-walked m i
+
+    -- so no total degree passes the full kit's limit
+    pub opened-degree : (m : Mono) → m ∈ s → degree m ≤ fullDegree
+    opened-degree m i =
+        let most : degree m ≤ length m * setExponent = degree-most setExponent m (opened-set-fits m i) in
+        omega (arith, opened-walked .recorded .wide m i)
 
     pub opened-nonsquare-fits : (m : Mono) → m ∈ missing n (system (records terms)) s → AtMost derivedExponent m
     opened-nonsquare-fits m i = nonsquare-fits terms clean n s opened-walked m i .1

@@ -1,6 +1,6 @@
 -- What the laws of the walk ask of its rules, and what the rules say of a child and of a set; document 01's rules keep all of it, whatever a
--- new monomial may be. A panel's rules close by counting, which is no part of what counts. Assumes nothing.
-use mathlib.Core.Path.{_≡_, sym, ap, subst, fun-ext}
+-- new monomial may be. Assumes nothing.
+use mathlib.Core.Path.{_≡_, sym, subst}
 use mathlib.Core.Logic.{_⊎_, inl, inr, ⊎-elim}
 use mathlib.Core.Bool.{Bool, true, false, _&&_, _||_}
 use mathlib.Core.List.{List, [], List·Memᴰ·not-nil, Memᴰ·cast}
@@ -17,13 +17,9 @@ use Rattle.monomial.proofs.Tests.{Tested, passed, failed, test, T→is, is→T,
 use Rattle.monomial.proofs.Rearranged.{rearranged-self, rearranged-in, rearranged-out}
 use Rattle.monomial.proofs.order.Laws.{mono-order}
 use Rattle.monomial.proofs.order.Ascending.{among-in, among-out}
-use Rattle.wiring.specs.Sockets.{panelOf, mayBe}
-use Rattle.wiring.specs.declared.panel.Panel.{Panel}
 use Rattle.wiring.specs.Signals.{signals}
-use Rattle.wiring.specs.Claims.{Free}
-use Rattle.wiring.proofs.sockets.Laws.{may-in, may-out, unmarked-may}
 use Rattle.wiring.proofs.signals.Laws.{set-in}
-use Rattle.walk.specs.Walk.{Rules, allowing, bare, counted, rulesOf, child, opens, ends}
+use Rattle.walk.specs.Walk.{Rules, allowing, bare, counted, child, opens, ends}
 use Rattle.walk.specs.Claims.{Orderly, Extends, Counts}
 use Rattle.walk.proofs.children.Laws.{child-sub, Grown, old, left, right, child-out, Placed, was, now, child-left, child-right}
 
@@ -130,20 +126,10 @@ module _ (may : Mono → Bool) where
 pub bare-extends : (s : List Mono) → Counts bare s
 bare-extends s = allowing-counts (λ m. true) s (λ m h. tt)
 
--- by a panel's those without signals
-module _ (panel : Panel) (s : List Mono) where
-  abbrev open-rules : Rules
-  open-rules = allowing (mayBe panel)
+-- closing by counting is no part of what counts
+module _ (may : Mono → Bool) (s : List Mono) where
+  pub counted-counts : ((m : Mono) → m ∈ s → T (may m)) → Counts (counted (allowing may)) s
+  counted-counts f = extends-by (allowing may) (counted (allowing may)) (λ m t. t) [] s (allowing-counts may s f)
 
-  pub free-counts : Free (panel .marks) s → Counts (rulesOf panel) s
-  free-counts f = extends-by open-rules (rulesOf panel) (λ m t. t) [] s (allowing-counts (mayBe panel) s (λ m h. may-in panel m (f m h)))
-
-  pub counts-free : Counts (rulesOf panel) s → Free (panel .marks) s
-  counts-free c m h = may-out panel m (counts-allowed (mayBe panel) s (extends-by (rulesOf panel) open-rules (λ m t. t) [] s c) m h)
-
--- with no marks everything may be: they are document 01's, closed by counting
-pub unmarked-open : (n : ℕ) → allowing (mayBe (panelOf n 0)) ≡ bare
-unmarked-open n = ap allowing (fun-ext (unmarked-may n))
-
-pub unmarked-rules : (n : ℕ) → rulesOf (panelOf n 0) ≡ counted bare
-unmarked-rules n = ap counted (unmarked-open n)
+  pub counts-counted : Counts (counted (allowing may)) s → (m : Mono) → m ∈ s → T (may m)
+  counts-counted c = counts-allowed may s (extends-by (counted (allowing may)) (allowing may) (λ m t. t) [] s c)

@@ -21,7 +21,7 @@ use Rattle.wiring.specs.Panel.{cards}
 use Rattle.wiring.specs.Poly.{Poly, plain}
 use Rattle.wiring.specs.Derivative.{derivative}
 use Rattle.wiring.specs.Signals.{signals}
-use Rattle.wiring.specs.Sockets.{panelOf}
+use Rattle.wiring.specs.Sockets.{fullPanel}
 use Rattle.wiring.specs.Terms.{records, system, CleanFor}
 use Rattle.wiring.specs.Answers.{missing}
 use Rattle.wiring.specs.Claims.{Wide}
@@ -149,7 +149,7 @@ module _ (r : Rules) (o : Orderly r) (begins : Walked (r .start)) (n : ℕ) (pro
   each-listed : (j : ℕ) → j ≤ cards → Barren r n fs j → (s : List Mono) → found s ∈ level r n fs j → Listed r n (derivative plain fs) j s
   each-listed j h b s m =
       let at = level-out r n fs j (found s) m in
-      let x : Sound r n terms j (r .start) s = opened-sound r o n terms (clean-for (panelOf n 0) width terms few clean) j h (suc j) (r .start) s begins (at .0) (at .1) in
+      let x : Sound r n terms j (r .start) s = opened-sound r o n terms (clean-for (fullPanel n) width terms few clean) j h (suc j) (r .start) s begins (at .0) (at .1) in
       let k : j ≤ length s = least r o (begins .recorded .ascending) n fs spares j b s (x .walked .recorded .ascending) (x .walked .recorded .wide) (x .extends) (x .quadratic) in
       let short : length s ≤ j = x .short in
       record {

@@ -18,7 +18,7 @@ use Rattle.monomial.proofs.Within.{within-at, at-within, within-mul, within-set
 use Rattle.wiring.specs.Panel.{cards, setExponent, termExponent}
 use Rattle.wiring.specs.Poly.{Poly}
 use Rattle.wiring.specs.Derivative.{power}
-use Rattle.wiring.specs.Sockets.{panelOf}
+use Rattle.wiring.specs.Sockets.{fullPanel}
 use Rattle.wiring.specs.Terms.{Record, records, system, CleanFor, CleanTerms}
 use Rattle.wiring.specs.Answers.{missing}
 use Rattle.wiring.specs.Claims.{Recordable, base}
@@ -54,7 +54,7 @@ module _ (n : ℕ) (terms : List ℕ) (clean : CleanFor n terms) where
         let r : Record = i .from .by in
         let at : ℕ = r .equation - 1 in
         let e : ℕ = power r (i .of) - 1 in
-        let f : Fields (panelOf n 0) r = fields-out (panelOf n 0) r (clean-right (panelOf n 0) [] (records terms) clean r (i .from .listed)) in
+        let f : Fields (fullPanel n) r = fields-out (fullPanel n) r (clean-right (fullPanel n) [] (records terms) clean r (i .from .listed)) in
         let own : Within n (i .of) = ⊎-elim (base-within n (i .of)) (q .within (i .of)) (signals-cases n s (i .of-in)) in
         let term : Within n (r .monomial) = at-within n (r .monomial) (λ j l. exponents-everywhere termExponent n (r .monomial) (f .exponents) j .zero l) in
         let low : 1 ≤ r .equation = f .low in
@@ -103,7 +103,7 @@ module _ (r : Rules) (o : Orderly r) (n : ℕ) (terms : List ℕ) (six : CleanTe
 -- and what may stand in a record of n variables stands in one
 module _ (r : Rules) (o : Orderly r) (n : ℕ) (terms : List ℕ) (few : n ≤ width) (clean : CleanFor n terms) where
   six : CleanTerms terms
-  six = clean-for (panelOf n 0) width terms few clean
+  six = clean-for (fullPanel n) width terms few clean
 
   recordable : (s : List Mono) → Walked s → Proper n s → Recordable n s
   recordable s w q = record {

@@ -115,25 +115,28 @@ module _ (r : Rules) (n : ℕ) (fs : List (Poly Mono)) (k : ℕ) where
       go (passed e) = let i : length (r .start) ≤ k = leb-true (length (r .start)) k e in (i, subst (λ l. x ∈ l) (level-opens i) h)
       go (failed e) = absurd (List·Memᴰ·not-nil (subst (λ l. x ∈ l) (level-shut (leb-false (length (r .start)) k e)) h))
 
--- ---- two walks alike, of n and of b variables, with f and g below: what a pair and what an opened set come to in both
-module _ (r : Rules) (n b : ℕ) (fs : List (Poly Mono)) (k : ℕ) (f g : List Mono → List Step) (s : List Mono) where
-  pub tried-alike : (p : Mono × Mono) → opens r n k s p ≡ opens r b k s p → (opens r n k s p ≡ true → f (child n s p) ≡ g (child b s p))
-      → tried r n fs k f s p ≡ tried r b fs k g s p
+-- ---- two walks alike, by the rules r of n variables and by r' of b, with f and g below: what a pair and what an opened set come to in both
+module _ (r r' : Rules) (n b : ℕ) (fs : List (Poly Mono)) (k : ℕ) (f g : List Mono → List Step) (s : List Mono) where
+  pub tried-alike : (p : Mono × Mono) → opens r n k s p ≡ opens r' b k s p → (opens r n k s p ≡ true → f (child n s p) ≡ g (child b s p))
+      → tried r n fs k f s p ≡ tried r' b fs k g s p
   tried-alike p o e = go (test (opens r n k s p))
     where
-      go : Tested (opens r n k s p) → tried r n fs k f s p ≡ tried r b fs k g s p
-      go (passed t) = tried-open r n fs k f s p t ∙ ap (λ (x : List Step). other pair ∷ x) (e t) ∙ sym (tried-open r b fs k g s p (sym o ∙ t))
-      go (failed t) = tried-shut r n fs k f s p t ∙ sym (tried-shut r b fs k g s p (sym o ∙ t))
+      go : Tested (opens r n k s p) → tried r n fs k f s p ≡ tried r' b fs k g s p
+      go (passed t) = tried-open r n fs k f s p t ∙ ap (λ (x : List Step). other pair ∷ x) (e t) ∙ sym (tried-open r' b fs k g s p (sym o ∙ t))
+      go (failed t) = tried-shut r n fs k f s p t ∙ sym (tried-shut r' b fs k g s p (sym o ∙ t))
 
-  pub after-alike : (m : Mono) (l : List Mono) → ends r n k s (m ∷ l) ≡ ends r b k s (m ∷ l)
-      → r .tries (signals width n s) (chosen m l) ≡ r .tries (signals width b s) (chosen m l)
-      → ((p : Mono × Mono) → p ∈ r .tries (signals width n s) (chosen m l) → tried r n fs k f s p ≡ tried r b fs k g s p)
-      → after r n fs k f s (m ∷ l) ≡ after r b fs k g s (m ∷ l)
+  pub after-alike : (m : Mono) (l : List Mono) → ends r n k s (m ∷ l) ≡ ends r' b k s (m ∷ l)
+      → (ends r n k s (m ∷ l) ≡ false → r .tries (signals width n s) (chosen m l) ≡ r' .tries (signals width b s) (chosen m l))
+      → (ends r n k s (m ∷ l) ≡ false → (p : Mono × Mono) → p ∈ r .tries (signals width n s) (chosen m l) → tried r n fs k f s p ≡ tried r' b fs k g s p)
+      → after r n fs k f s (m ∷ l) ≡ after r' b fs k g s (m ∷ l)
   unfolding after
-  after-alike m l stop order h =
-      rw (← stop, ← order)
-      (ap (λ (x : List Step). other (opening s) ∷ cond (ends r n k s (m ∷ l)) [] x)
-      (gather-same (tried r n fs k f s) (tried r b fs k g s) (r .tries (signals width n s) (chosen m l)) h))
+  after-alike m l stop order h = go (test (ends r n k s (m ∷ l)))
+    where
+      go : Tested (ends r n k s (m ∷ l)) → after r n fs k f s (m ∷ l) ≡ after r' b fs k g s (m ∷ l)
+      go (passed t) = rw (t, sym stop ∙ t)
+      go (failed t) =
+          rw (t, sym stop ∙ t, ← order t)
+          (ap (λ (x : List Step). other (opening s) ∷ x) (gather-same (tried r n fs k f s) (tried r' b fs k g s) (r .tries (signals width n s) (chosen m l)) (h t)))
 
 -- ---- how deep the walk may go does not matter, where it may go deep enough
 module _ (r : Rules) (o : Orderly r) (n : ℕ) (fs : List (Poly Mono)) (k : ℕ) where
@@ -144,8 +147,8 @@ module _ (r : Rules) (o : Orderly r) (n : ℕ) (fs : List (Poly Mono)) (k : ℕ)
   unfolding after
   after-same f g s [] e = refl
   after-same f g s (m ∷ l) e =
-      after-alike r n n fs k f g s m l refl refl
-      (λ p h. tried-alike r n n fs k f g s p refl
+      after-alike r r n n fs k f g s m l refl (λ go. refl)
+      (λ go p h. tried-alike r r n n fs k f g s p refl
       (λ t. e (chosen m l) p (chosen-in m l) (tries-out r o (signals width n s) (chosen m l) p h) (opens-fits r n k s p (is→T (opens r n k s p) t))))
 
   pub deep : (d e : ℕ) (s : List Mono) → Ascending before s → length s ≤ k → k < length s + d → k < length s + e → opened r n fs k d s ≡ opened r n fs k e s

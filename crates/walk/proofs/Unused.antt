@@ -2,11 +2,11 @@
 -- larger number. The further variables have no derivative, and no monomial that the walk meets holds them. Assumes nothing.
 use mathlib.Core.Path.{_≡_, refl, sym, ap, _∙_, subst}
 use mathlib.Core.Logic.{⊎-elim}
-use mathlib.Core.Bool.{Bool, cond}
-use mathlib.Core.List.{List, [], _∷_}
-use Prim.Native.Nat.{ℕ, zero, suc, _-_, _/_, _≤_}
+use mathlib.Core.Bool.{Bool}
+use mathlib.Core.List.{List, []}
+use Prim.Native.Nat.{ℕ, suc, _-_, _/_, _≤_}
 use native.Mathlib.Omega.{arith}
-use lib.Dec.{T, leb}
+use lib.Dec.{T}
 use lib.ListN.{length}
 use Rattle.monomial.specs.Lists.{any}
 use Rattle.monomial.specs.Monomial.{Mono, constants, width}
@@ -15,7 +15,7 @@ use Rattle.monomial.specs.Product.{mul}
 use Rattle.monomial.specs.Quotient.{divides}
 use Rattle.monomial.specs.Divisors.{pairs}
 use Rattle.monomial.specs.Claims.{_∈_, _⊆_, IsPair, Within}
-use Rattle.monomial.proofs.Tests.{is→T, same-test}
+use Rattle.monomial.proofs.Tests.{same-test}
 use Rattle.monomial.proofs.Members.{take-in, take-more}
 use Rattle.monomial.proofs.order.Laws.{mono-order}
 use Rattle.monomial.proofs.order.Ascending.{sub-length, sub-equal, among-in, among-out}
@@ -28,8 +28,7 @@ use Rattle.wiring.specs.Poly.{Poly, plain, support}
 use Rattle.wiring.specs.Quadratic.{inV2}
 use Rattle.wiring.specs.Derivative.{derivative}
 use Rattle.wiring.specs.Signals.{signals}
-use Rattle.wiring.specs.Choice.{chosen}
-use Rattle.wiring.specs.Sockets.{panelOf, mayBe}
+use Rattle.wiring.specs.Sockets.{panelOf, fullPanel, mayBe}
 use Rattle.wiring.specs.declared.panel.Panel.{Panel}
 use Rattle.wiring.specs.Terms.{records, fault, system, CleanFor, CleanTerms}
 use Rattle.wiring.specs.Answers.{missing}
@@ -42,12 +41,12 @@ use Rattle.wiring.proofs.sockets.Laws.{may-same}
 use Rattle.wiring.proofs.answers.Exact.{panel-in}
 use Rattle.wiring.proofs.terms.Laws.{Fields, fields-out, clean-right, clean-widens, clean-for}
 use Rattle.wiring.proofs.signals.Laws.{base-in, set-in, signals-cases, signals-wide}
-use Rattle.walk.specs.Walk.{Rules, allowing, counted, rulesOf, added, child, Step, opens, ends, tried, after, opened, level, Run, ended, spent, full, run}
-use Rattle.walk.specs.Plan.{Ending, settled, levels, plan, settingsRight, planned}
-use Rattle.walk.specs.Claims.{Orderly, Proper, Heedless}
-use Rattle.walk.proofs.children.Laws.{chosen-in, Grown, old, left, right, child-out, nonsquare-wide}
-use Rattle.walk.proofs.Steps.{tried-alike, after-alike}
-use Rattle.walk.proofs.Rules.{tries-out, allowing-orderly}
+use Rattle.walk.specs.Walk.{Rules, allowing, counted, rulesOf, added, child, opens, ends, level}
+use Rattle.walk.specs.Plan.{plan, settingsRight, planned}
+use Rattle.walk.specs.Claims.{Orderly, Proper, Heedless, Agree}
+use Rattle.walk.proofs.children.Laws.{Grown, old, left, right, child-out, nonsquare-wide}
+use Rattle.walk.proofs.Rules.{allowing-orderly}
+use Rattle.walk.proofs.Agree.{level-agree, plan-agree}
 use Rattle.walk.proofs.Sound.{within-base, gap-within, keeps-proper}
 use Rattle.walk.proofs.Heedless.{allowing-heedless, counted-heedless}
 
@@ -73,7 +72,7 @@ module _ (n b : ℕ) (terms : List ℕ) (more : n ≤ b) (few : b ≤ width) (cl
   fs = system (records terms)
 
   six : CleanTerms terms
-  six = clean-for (panelOf n 0) width terms (omega arith) clean
+  six = clean-for (fullPanel n) width terms (omega arith) clean
 
   module _ (s : List Mono) (q : Proper n s) (wide : Wide s) where
     factors-grow : (m : Mono) → Factors plain mono-order (signals width n s) m → Factors plain mono-order (signals width b s) m
@@ -93,8 +92,8 @@ module _ (n b : ℕ) (terms : List ℕ) (more : n ≤ b) (few : b ≤ width) (cl
         from : Derived (records terms) z m
         from = derived (records terms) z m (support-out plain mono-order (derivative plain fs z) m k .0)
 
-        own : Fields (panelOf n 0) (from .by)
-        own = fields-out (panelOf n 0) (from .by) (clean-right (panelOf n 0) [] (records terms) clean (from .by) (from .listed))
+        own : Fields (fullPanel n) (from .by)
+        own = fields-out (fullPanel n) (from .by) (clean-right (fullPanel n) [] (records terms) clean (from .by) (from .listed))
 
         constant : z ∈ base b → Within n z
         constant j =
@@ -153,23 +152,15 @@ module _ (n b : ℕ) (terms : List ℕ) (more : n ≤ b) (few : b ≤ width) (cl
           go (left e f) = ap length e ∙ two .left ∙ six-of
           go (right e f) = ap length e ∙ two .right ∙ six-of
 
--- what follows a level asks the levels above it only for what they come to
-settled-same : (limit k : ℕ) (f g : ℕ → Ending) (x : Run) → ((t : ℕ) → f t ≡ g t) → settled limit k f x ≡ settled limit k g x
-unfolding settled
-settled-same limit k f g (ended t []) e = e t
-settled-same limit k f g (ended t (s ∷ l)) e = refl
-settled-same limit k f g spent e = refl
-settled-same limit k f g (full t) e = refl
-
 -- ---- rules that heed no unused variable
 module _ (r : Rules) (o : Orderly r) (n b : ℕ) (heed : Heedless r n b) (terms : List ℕ) (more : n ≤ b) (few : b ≤ width) (clean : CleanFor n terms) where
   abbrev system-of : List (Poly Mono)
   system-of = system (records terms)
 
   clean-6 : CleanTerms terms
-  clean-6 = clean-for (panelOf n 0) width terms (omega arith) clean
+  clean-6 = clean-for (fullPanel n) width terms (omega arith) clean
 
-  -- ---- the steps
+  -- ---- what is said of a set that the walk opens
   module _ (k : ℕ) (s : List Mono) (q : Proper n s) (w : Wide s) where
     gap-in : (m : Mono) → m ∈ missing n system-of s → Within n m
     gap-in m h = gap-within n terms clean clean-6 s q m h
@@ -195,52 +186,28 @@ module _ (r : Rules) (o : Orderly r) (n b : ℕ) (heed : Heedless r n b) (terms 
           let long : length (p .0) ≡ length (p .1) = two .left ∙ sym (two .right) in
           rw (part (p .0) (p .1) long (two .product), part (p .1) (p .0) (sym long) (mul-comm (p .1) (p .0) ∙ two .product), child-is)
 
-      tried-same : (f g : List Mono → List Step) → (T (opens r n k s p) → f (child n s p) ≡ g (child n s p)) → tried r n system-of k f s p ≡ tried r b system-of k g s p
-      tried-same f g e = tried-alike r n b system-of k f g s p opens-same (λ t. e (is→T (opens r n k s p) t) ∙ ap g child-is)
-
-    after-same : (f g : List Mono → List Step) (l : List Mono) → missing n system-of s ≡ l
-        → ((m : Mono) → m ∈ missing n system-of s → (p : Mono × Mono) → p ∈ pairs m → tried r n system-of k f s p ≡ tried r b system-of k g s p)
-        → after r n system-of k f s l ≡ after r b system-of k g s l
-    unfolding after
-    after-same f g [] e h = refl
-    after-same f g (m ∷ l) e h =
-        let gap : chosen m l ∈ missing n system-of s = subst (λ x. chosen m l ∈ x) (sym e) (chosen-in m l) in
-        let stop : ends r n k s (m ∷ l) ≡ ends r b k s (m ∷ l) = subst (λ (x : List Mono). ends r n k s x ≡ ends r b k s x) e ends-same in
-        let order : r .tries (signals width n s) (chosen m l) ≡ r .tries (signals width b s) (chosen m l) = heed .trying s (chosen m l) q w (gap-in (chosen m l) gap) (gap-long (chosen m l) gap) in
-        after-alike r n b system-of k f g s m l stop order (λ p i. h (chosen m l) gap p (tries-out r o (signals width n s) (chosen m l) p i))
-
-  opened-same : (k d : ℕ) (s : List Mono) → Proper n s → Wide s → opened r n system-of k d s ≡ opened r b system-of k d s
-  unfolding opened
-  opened-same k zero s q w = refl
-  opened-same k (suc d) s q w =
-      after-same k s q w (opened r n system-of k d) (opened r b system-of k d) (missing n system-of s) refl
-      (λ m h p i. tried-same k s q w m h p i (opened r n system-of k d) (opened r b system-of k d)
-      (λ j. opened-same k d (child n s p) (keeps-proper n terms clean clean-6 r k s m p q h i j) (child-wide n b terms more few clean s q w m h p i)))
-      ∙ ap (after r b system-of k (opened r b system-of k d) s) (missing-same n b terms more few clean s q w)
+    agrees : Agree r r n b system-of k s
+    agrees = record {
+      gaps = missing-same n b terms more few clean s q w;
+      ending = ends-same;
+      trying = λ t m h. heed .trying s m q w (gap-in m h) (gap-long m h);
+      opening = λ t m h p i. (opens-same m h p i, child-is m h p i);
+    }
 
   pub level-same : (k : ℕ) → level r n system-of k ≡ level r b system-of k
-  unfolding level
-  level-same k = ap (λ (x : List Step). cond (leb (length (r .start)) k) x []) (opened-same k (suc k) (r .start) (heed .proper) (heed .wide))
+  level-same k =
+      level-agree r r o n b system-of k (λ s. Proper n s × Wide s)
+      (λ s m p q h i j. (keeps-proper n terms clean clean-6 r k s m p (q .0) h i j, child-wide n b terms more few clean s (q .0) (q .1) m h p i))
+      (λ s q. agrees k s (q .0) (q .1)) refl (heed .proper, heed .wide)
 
-  -- ---- the plan
-  module _ (limit room : ℕ) where
-    levels-same : (rest k taken : ℕ) → levels r n system-of limit room rest k taken ≡ levels r b system-of limit room rest k taken
-    unfolding levels
-    levels-same zero k taken = refl
-    levels-same (suc rest) k taken =
-        settled-same limit k (levels r n system-of limit room rest (suc k)) (levels r b system-of limit room rest (suc k))
-        (run limit room (level r n system-of k) taken []) (levels-same rest (suc k))
-        ∙ ap (λ (es : List Step). settled limit k (levels r b system-of limit room rest (suc k)) (run limit room es taken [])) (level-same k)
-
-    -- the sets, the steps and the level are the same
-    pub plan-same : (cap : ℕ) → plan r n system-of limit room cap ≡ plan r b system-of limit room cap
-    unfolding plan
-    plan-same cap = levels-same (suc cap) 0 0
+  -- the sets, the steps and the level are the same
+  pub plan-same : (limit room cap : ℕ) → plan r n system-of limit room cap ≡ plan r b system-of limit room cap
+  plan-same limit room cap = plan-agree r r o n b system-of cap (λ k h. level-same k) limit room
 
 -- ---- the operation over bytes
--- the same marks in a panel of b variables
+-- the same marks and kit in a panel of b variables
 abbrev pub widened : Panel → ℕ → Panel
-widened panel b = panelOf b (panel .marks)
+widened panel b = panelOf b (panel .marks) (panel .degree)
 
 -- the same numbers, and every byte of the buffer
 pub planned-same : (panel : Panel) (b cap limit : ℕ) (terms : List ℕ) (size : ℕ) → Ranged panel → panel .n ≤ b → b ≤ width → fault panel (records terms) ≡ Clean
@@ -249,9 +216,9 @@ unfolding planned settingsRight
 planned-same panel b cap limit terms size ranged more few clean =
     let n : ℕ = panel .n in
     let low : 1 ≤ n = ranged .low in
-    let wide : Ranged (widened panel b) = record { low = omega arith; high = few; known = λ i h. ranged .known i (omega arith) } in
+    let wide : Ranged (widened panel b) = record { low = omega arith; high = few; known = λ i h. ranged .known i (omega arith); kit = ranged .kit } in
     let own : CleanFor n terms = clean-for panel n terms (omega arith) clean in
     let heed : Heedless (rulesOf panel) n b = counted-heedless (allowing (mayBe panel)) n b more (allowing-heedless (mayBe panel) n b) in
     let plans = plan-same (rulesOf panel) (allowing-orderly (mayBe panel)) n b heed terms more few own limit (size / setBytes) cap in
-    let rules = ap (λ (may : Mono → Bool). plan (counted (allowing may)) b (system (records terms)) limit (size / setBytes) cap) (may-same (panel .n) b (panel .marks)) in
+    let rules = ap (λ (may : Mono → Bool). plan (counted (allowing may)) b (system (records terms)) limit (size / setBytes) cap) (may-same (panel .n) b (panel .marks) (panel .degree)) in
     rw (panel-in panel ranged, panel-in (widened panel b) wide, clean, clean-widens panel (widened panel b) more (λ i e. e) (records terms) clean, plans ∙ rules)

@@ -1,5 +1,5 @@
 -- Planning computed by the definitions from the bytes of the term records: document 01's sums worked by hand, marked P, with every byte of the
--- buffer and the wiring of the first set, then each refusal and both sides of the limits, then signals, then what counting closes. The rows marked P
+-- buffer and the wiring of the first set, then each refusal and both sides of the limits, then signals, what counting closes and kits. The rows marked P
 -- keep their steps. One table, one claim. Assumes nothing.
 use mathlib.Core.Path.{_≡_, refl, sym, ap, _∙_}
 use mathlib.Core.List.{List, [], _∷_, _++_, map}
@@ -9,7 +9,9 @@ use lib.ListN.{length, replicate}
 use Rattle.monomial.specs.Lists.{any, some, all, keep, place, gather, below, pairwise, pointwise, dictionary, insertBy, arrangeBy}
 use Rattle.monomial.specs.Monomial.{vars}
 use Rattle.monomial.specs.Divisors.{score, divisors, pairs}
-use Rattle.wiring.specs.Sockets.{panelOf, halved, marked, countRight, panelRight, free, mayBe}
+use Rattle.monomial.specs.Degree.{degree}
+use Rattle.wiring.specs.Kit.{degreeRight}
+use Rattle.wiring.specs.Sockets.{panelOf, fullPanel, halved, marked, countRight, panelRight, free, mayBe}
 use Rattle.wiring.specs.declared.panel.Panel.{Panel}
 use Rattle.wiring.specs.Reply.{Numbers, five, Outcome}
 use Rattle.wiring.specs.Coefficient.{signed, unsigned, isZero}
@@ -22,7 +24,7 @@ use Rattle.wiring.specs.Terms.{records, lengthRight, exponentsRight, coefficien
 use Rattle.wiring.specs.Sets.{places, sizeOf, setOf, ascending, monomialRight, setRight, setRecord}
 use Rattle.wiring.specs.Wires.{firstOf, secondOf, row as rowOf, rowsFrom, wiring, wireRecord}
 use Rattle.wiring.specs.Answers.{firstUnmet, judged, recordJudged, verdict, listed, told, wired}
-use Rattle.wiring.specs.Panel.{setBytes}
+use Rattle.wiring.specs.Panel.{setBytes, fullDegree}
 use Rattle.counting.specs.Counting.{quotientsOf, count, insertDown, sortDown, counts, sum, mayDo, leastFrom, needed, closes}
 use Rattle.walk.specs.Walk.{allowing, added, child, opens, ends, tried, after, opened, level, kept, onward, run}
 use Rattle.walk.specs.Plan.{settled, levels, plan, setsBytes, said, settingsRight, planned}
@@ -57,12 +59,15 @@ wire left a b c = left ∷ a ∷ b ∷ 0 ∷ c ∷ 0 ∷ 0 ∷ 0 ∷ []
 back : ℕ → ℕ → ℕ → ℕ → List ℕ
 back left a b c = left ∷ a ∷ b ∷ 0 ∷ (256 - c) ∷ 255 ∷ 255 ∷ 255 ∷ []
 
--- planning: the five numbers, the sets, and zeros to the end of the buffer; with marks, and with none
-marking : ℕ → ℕ → ℕ → ℕ → ℕ → List ℕ → Numbers → List (List (List ℕ)) → Row
-marking n marks most limit size terms numbers sets = record {
-  got = planned (panelOf n marks) most limit terms size;
+-- planning: the five numbers, the sets, and zeros to the end of the buffer; with any kit and marks, with marks and the full kit, and with none
+kitted : ℕ → ℕ → ℕ → ℕ → ℕ → ℕ → List ℕ → Numbers → List (List (List ℕ)) → Row
+kitted n marks degree most limit size terms numbers sets = record {
+  got = planned (panelOf n marks degree) most limit terms size;
   want = record { said = numbers; bytes = gather set sets ++ replicate (size - 36 * length sets) 0 };
 }
+
+marking : ℕ → ℕ → ℕ → ℕ → ℕ → List ℕ → Numbers → List (List (List ℕ)) → Row
+marking n marks = kitted n marks fullDegree
 
 planning : ℕ → ℕ → ℕ → ℕ → List ℕ → Numbers → List (List (List ℕ)) → Row
 planning n = marking n 0
@@ -71,19 +76,27 @@ planning n = marking n 0
 usual : ℕ → List ℕ → Numbers → List (List (List ℕ)) → Row
 usual n = planning n 6 1000000 36000
 
+-- with a junior kit
+junior : ℕ → ℕ → List ℕ → Numbers → List (List (List ℕ)) → Row
+junior n limit = kitted n 0 limit 6 1000000 36000
+
 -- the same by the walk that closes nothing
 unclosing : ℕ → ℕ → List ℕ → Numbers → List (List (List ℕ)) → Row
 unclosing n marks terms numbers sets = record {
-  got = said (plan (allowing (mayBe (panelOf n marks))) n (system (records terms)) 1000000 1000 6) 36000;
+  got = said (plan (allowing (mayBe (panelOf n marks fullDegree))) n (system (records terms)) 1000000 1000 6) 36000;
   want = record { said = numbers; bytes = gather set sets ++ replicate (36000 - 36 * length sets) 0 };
 }
 
 -- wiring a set into room for 224 records
 wiringOf : ℕ → List ℕ → List (List ℕ) → Numbers → List (List ℕ) → Row
 wiringOf n terms s numbers list = record {
-  got = wired (panelOf n 0) terms (set s) 1792;
+  got = wired (fullPanel n) terms (set s) 1792;
   want = record { said = numbers; bytes = gather (λ w. w) list ++ replicate (1792 - 8 * length list) 0 };
 }
+
+-- x' = x^4 + x^3
+quartic : List ℕ
+quartic = plus 1 (4 ∷ []) ++ plus 1 (3 ∷ [])
 
 -- x1' = x1^4 + x1^2 x2^3, x2' = x1^3 x2
 saving : List ℕ
@@ -198,13 +211,28 @@ table =
     -- document 001's example 3, and with room for no set
     ∷ usual 2 (plus 1 (0 ∷ 4 ∷ []) ++ plus 2 (2 ∷ [])) (five 0 3 1 145 0) (((0 ∷ 3 ∷ []) ∷ (1 ∷ 2 ∷ []) ∷ (3 ∷ []) ∷ []) ∷ [])
     ∷ planning 2 6 1000000 0 (plus 1 (0 ∷ 4 ∷ []) ++ plus 2 (2 ∷ [])) (five 6 3 0 109 0) []
+    -- x' = x^4 + x^3 with junior kits, and with the full one by its number
+    ∷ junior 1 2 quartic (five 5 7 0 40 0) []
+    ∷ junior 1 3 quartic (five 0 2 1 19 0) (((2 ∷ []) ∷ (3 ∷ []) ∷ []) ∷ [])
+    ∷ junior 1 4 quartic (five 0 2 2 21 0) (((2 ∷ []) ∷ (3 ∷ []) ∷ []) ∷ ((3 ∷ []) ∷ (4 ∷ []) ∷ []) ∷ [])
+    ∷ junior 1 5 quartic (five 0 2 2 23 0) (((2 ∷ []) ∷ (3 ∷ []) ∷ []) ∷ ((3 ∷ []) ∷ (4 ∷ []) ∷ []) ∷ [])
+    ∷ junior 1 324 quartic (five 0 2 2 23 0) (((2 ∷ []) ∷ (3 ∷ []) ∷ []) ∷ ((3 ∷ []) ∷ (4 ∷ []) ∷ []) ∷ [])
+    -- x' = x^5
+    ∷ junior 1 3 (plus 1 (5 ∷ [])) (five 5 7 0 46 0) []
+    ∷ junior 1 4 (plus 1 (5 ∷ [])) (five 0 1 1 6 0) (((4 ∷ []) ∷ []) ∷ [])
+    -- limits that no kit has
+    ∷ junior 1 0 quartic (five 1 0 0 0 0) []
+    ∷ junior 1 1 quartic (five 1 0 0 0 0) []
+    ∷ junior 1 10 quartic (five 1 0 0 0 0) []
+    ∷ junior 1 323 quartic (five 1 0 0 0 0) []
+    ∷ junior 1 325 quartic (five 1 0 0 0 0) []
     ∷ []
 
 -- replies, buffers and lists are as written
 worked : map (λ r. r .got) table ≡ map (λ r. r .want) table
-unfolding table usual planning marking wiringOf unclosing saving fabrikant plus minus term set wire back padded planned settingsRight said setsBytes plan levels settled run onward
+unfolding table usual planning marking kitted junior wiringOf unclosing quartic saving fabrikant plus minus term set wire back padded planned settingsRight said setsBytes plan levels settled run onward
     kept level opened after ends tried opens child added cheaper chosen pairs divisors score setRecord wired told listed verdict recordJudged judged firstUnmet
-    halved marked countRight panelRight free mayBe records lengthRight exponentsRight coefficientRight termRight faultFrom equation system places sizeOf setOf ascending monomialRight
+    halved marked countRight degreeRight panelRight free degree mayBe records lengthRight exponentsRight coefficientRight termRight faultFrom equation system places sizeOf setOf ascending monomialRight
     setRight firstOf secondOf rowOf rowsFrom wiring wireRecord signals factor inV2 unmet nonsquares partsFrom derivative coeff times support signed
     unsigned isZero vars any some all keep place gather below pairwise pointwise dictionary insertBy arrangeBy closes needed leastFrom mayDo sum counts
     sortDown insertDown count quotientsOf
@@ -212,19 +240,19 @@ worked = refl
 
 -- one reply does not do for all: x' = x^2 and x' = x^3 with cap 0 have different ones
 pub record TwoSystems : Type 0 where
-  pub square : planned (panelOf 1 0) 0 1 (plus 1 (2 ∷ [])) setBytes .said ≡ five 0 0 1 1 0
-  pub cube : planned (panelOf 1 0) 0 1 (plus 1 (3 ∷ [])) setBytes .said ≡ five 5 1 0 1 0
+  pub square : planned (fullPanel 1) 0 1 (plus 1 (2 ∷ [])) setBytes .said ≡ five 0 0 1 1 0
+  pub cube : planned (fullPanel 1) 0 1 (plus 1 (3 ∷ [])) setBytes .said ≡ five 5 1 0 1 0
 
 pub two-systems : TwoSystems
 unfolding plus padded planned settingsRight said setsBytes plan levels settled run onward kept level opened after ends tried opens child added cheaper
-    chosen pairs divisors score setRecord halved marked countRight panelRight free mayBe records lengthRight exponentsRight coefficientRight termRight faultFrom equation system signals
+    chosen pairs divisors score setRecord halved marked countRight degreeRight panelRight free degree mayBe records lengthRight exponentsRight coefficientRight termRight faultFrom equation system signals
     factor inV2 unmet nonsquares partsFrom derivative coeff times support signed isZero vars any some all keep gather below pairwise pointwise
     dictionary insertBy arrangeBy closes needed leastFrom mayDo sum
 two-systems = record { square = refl; cube = refl }
 
 pub plan-not-constant : (x : Numbers) → ((panel : Panel) (most limit : ℕ) (terms : List ℕ) (size : ℕ) → x ≡ planned panel most limit terms size .said) → ⊥
 plan-not-constant x h =
-    let done : x ≡ five 0 0 1 1 0 = h (panelOf 1 0) 0 1 (plus 1 (2 ∷ [])) setBytes ∙ two-systems .square in
-    let none : x ≡ five 5 1 0 1 0 = h (panelOf 1 0) 0 1 (plus 1 (3 ∷ [])) setBytes ∙ two-systems .cube in
+    let done : x ≡ five 0 0 1 1 0 = h (fullPanel 1) 0 1 (plus 1 (2 ∷ [])) setBytes ∙ two-systems .square in
+    let none : x ≡ five 5 1 0 1 0 = h (fullPanel 1) 0 1 (plus 1 (3 ∷ [])) setBytes ∙ two-systems .cube in
     let codes : _≡_ {A = ℕ} 0 5 = ap (λ (y : Numbers). y .code) (sym done ∙ none) in
     omega arith

@@ -19,11 +19,11 @@ use Rattle.wiring.specs.Signals.{signals}
 use Rattle.wiring.specs.Terms.{records, system}
 use Rattle.wiring.specs.Sets.{setRecord}
 use Rattle.wiring.specs.Answers.{missing}
-use Rattle.wiring.specs.Claims.{Wide, base, Measured, Breaks, Repeats, Flawless, beyond, Free, Ranged, Recordable, LeftLinked, derivativeIn}
+use Rattle.wiring.specs.Claims.{Wide, base, Measured, Breaks, Repeats, Flawless, beyond, Buildable, Ranged, Recordable, LeftLinked, derivativeIn}
 use Rattle.wiring.specs.declared.panel.Panel.{Panel}
 use Rattle.wiring.specs.declared.reply.Reply.{Reply}
 use Rattle.wiring.specs.declared.reply.Reply.the-variants.{Done, Setting, Length, Term, Twice, Nothing, Full, Spent, BadSet, NotQuadratic}
-use Rattle.walk.specs.Walk.{Finds, Rules, rulesOf, Taken, Step, found, other, level, walked, opened, Run, ended, spent, full}
+use Rattle.walk.specs.Walk.{Finds, Rules, rulesOf, child, opens, ends, Taken, Step, found, other, level, walked, opened, Run, ended, spent, full}
 use Rattle.walk.specs.Plan.{Ending, done, none, fullAt, spentAt, plan, setsBytes}
 use Rattle.walk.specs.Turns.{Walked}
 
@@ -58,6 +58,15 @@ pub record Heedless (r : Rules) (n b : ℕ) : Type 0 where
   pub closing : (room : ℕ) (s ns : List Mono) → Proper n s → Wide s → ((m : Mono) → m ∈ ns → Within n m) → Wide ns
       → r .closed room (signals width n s) ns ≡ r .closed room (signals width b s) ns
   pub trying : (s : List Mono) (m : Mono) → Proper n s → Wide s → Within n m → length m ≡ width → r .tries (signals width n s) m ≡ r .tries (signals width b s) m
+
+-- of a set two walks say the same, at level k: its nonsquares, whether it goes on, and then the pairs of each nonsquare, their order, which of them are
+-- opened, and their children
+pub record Agree (r r' : Rules) (n b : ℕ) (fs : List (Poly Mono)) (k : ℕ) (s : List Mono) : Type 0 where
+  pub gaps : missing n fs s ≡ missing b fs s
+  pub ending : ends r n k s (missing n fs s) ≡ ends r' b k s (missing n fs s)
+  pub trying : ends r n k s (missing n fs s) ≡ false → (m : Mono) → m ∈ missing n fs s → r .tries (signals width n s) m ≡ r' .tries (signals width b s) m
+  pub opening : ends r n k s (missing n fs s) ≡ false → (m : Mono) → m ∈ missing n fs s → (p : Mono × Mono) → p ∈ pairs m
+      → (opens r n k s p ≡ opens r' b k s p) × (child n s p ≡ child b s p)
 
 -- ---- the sets that steps find, ascending, each once
 -- with one step more
@@ -276,9 +285,10 @@ abbrev pub planLeaves : Panel → List ℕ → ℕ → Reply → List ℕ
 planLeaves panel terms size r =
     cond (eqb (numbers r .code) 0) (setsBytes (setsAt panel terms (numbers r .order)) ++ replicate (size - setBytes * numbers r .count) 0) (replicate size 0)
 
--- of all lists of monomials without signals, of any powers, in any order and with repeats: no quadratic one has fewer than j members
+-- of all lists of monomials that the kit can build, in any order and with repeats, and with the full kit of any powers: no quadratic one has fewer than
+-- j members
 abbrev pub NoneBelow : Panel → List ℕ → ℕ → Type 0
-NoneBelow panel terms j = (s : List Mono) → Wide s → Free (panel .marks) s → QuadraticList (panel .n) (derivativeIn panel terms) s → j ≤ length s
+NoneBelow panel terms j = (s : List Mono) → Wide s → Buildable panel s → QuadraticList (panel .n) (derivativeIn panel terms) s → j ≤ length s
 
 -- a list of sets as it lies in a buffer of this size: record number i holds set number i; behind them are zeros
 pub record Laid (l : Finds) (count size : ℕ) (bytes : List ℕ) : Type 0 where
@@ -293,11 +303,11 @@ pub record Planned (panel : Panel) (cap limit : ℕ) (terms : List ℕ) (size or
   pub accepted : Accepted panel cap limit terms
   -- the sets found at the level of this order are the smallest quadratic sets, all of them, found in the walk's steps, within the limit and the room
   pub finished : Finished (rulesOf panel) (panel .n) (system (records terms)) (derivativeIn panel terms) cap limit (size / setBytes) order steps (setsAt panel terms order)
-  -- none of them holds a signal
-  pub free : (s : List Mono) → s ∈ setsAt panel terms order → Free (panel .marks) s
-  -- of all lists of monomials without signals: no quadratic one is smaller, and each of that many members, put in order, is listed
+  -- the kit can build each of them
+  pub buildable : (s : List Mono) → s ∈ setsAt panel terms order → Buildable panel s
+  -- of all lists of monomials that it can build: no quadratic one is smaller, and each of that many members, put in order, is listed
   pub none-below : NoneBelow panel terms order
-  pub all : (s : List Mono) → Wide s → Free (panel .marks) s → QuadraticList (panel .n) (derivativeIn panel terms) s → length s ≡ order
+  pub all : (s : List Mono) → Wide s → Buildable panel s → QuadraticList (panel .n) (derivativeIn panel terms) s → length s ≡ order
       → arrangeBy same before s ∈ setsAt panel terms order
   pub laid : Laid (setsAt panel terms order) count size bytes
 
@@ -305,5 +315,5 @@ pub record Planned (panel : Panel) (cap limit : ℕ) (terms : List ℕ) (size or
 -- that have an equation
 pub record DrivenPlan (panel : Panel) (gs : List (Poly Mono)) (order : ℕ) (l : Finds) : Type 0 where
   pub each : (s : List Mono) → s ∈ l → LeftLinked (panel .marks) gs (signals width (panel .n) s)
-  pub none-below : (s : List Mono) → Wide s → Free (panel .marks) s → LeftLinked (panel .marks) gs (signals width (panel .n) s) → order ≤ length s
-  pub all : (s : List Mono) → Wide s → Free (panel .marks) s → LeftLinked (panel .marks) gs (signals width (panel .n) s) → length s ≡ order → arrangeBy same before s ∈ l
+  pub none-below : (s : List Mono) → Wide s → Buildable panel s → LeftLinked (panel .marks) gs (signals width (panel .n) s) → order ≤ length s
+  pub all : (s : List Mono) → Wide s → Buildable panel s → LeftLinked (panel .marks) gs (signals width (panel .n) s) → length s ≡ order → arrangeBy same before s ∈ l

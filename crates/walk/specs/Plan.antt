@@ -52,7 +52,7 @@ said (none order steps) size = refused (Nothing order steps) size
 said (fullAt order steps) size = refused (Full order steps) size
 said (spentAt order steps) size = refused (Spent order steps) size
 
--- the number of variables, the marks, the cap and the limit are in range
+-- the number of variables, the marks, the kit, the cap and the limit are in range
 unfoldable pub settingsRight : Panel → ℕ → ℕ → Bool
 settingsRight panel cap limit = panelRight panel && leb cap cards && leb 1 limit && leb limit mostSteps
 

@@ -9,7 +9,7 @@ use Rattle.monomial.specs.Lists.{any, gather, insertBy}
 use Rattle.monomial.specs.Monomial.{Mono, width}
 use Rattle.monomial.specs.Order.{same, before, sameSet, beforeSet}
 use Rattle.monomial.specs.Divisors.{pairs}
-use Rattle.wiring.specs.Sockets.{mayBe}
+use Rattle.wiring.specs.Sockets.{mayBe, canBuild}
 use Rattle.wiring.specs.declared.panel.Panel.{Panel}
 use Rattle.wiring.specs.Poly.{Poly, plain}
 use Rattle.wiring.specs.Derivative.{derivative}
@@ -54,9 +54,13 @@ bare = allowing (λ m. true)
 abbrev pub counted : Rules → Rules
 counted r = record { may = r .may; closed = closes (r .may); tries = r .tries; start = r .start }
 
--- a panel's: no new monomial holds a signal, and sets are closed by counting
+-- a panel's: no new monomial holds a signal or passes the kit's limit, and sets are closed by counting
 abbrev pub rulesOf : Panel → Rules
 rulesOf panel = counted (allowing (mayBe panel))
+
+-- as the code asks: by what the kit can build, of any powers with the full one. The walk is the same, step by step (`kit-level`)
+abbrev pub kitRules : Panel → Rules
+kitRules panel = counted (allowing (canBuild panel))
 
 -- a step without a find: a pair is tried, or a set is opened that is not quadratic
 pub data Taken : Type 0 where

@@ -14,9 +14,9 @@ ghost use Rattle.monomial.specs.Monomial.{width};
 ghost use Rattle.monomial.specs.Lists.{any, insertBy};
 ghost use Rattle.monomial.specs.Order.{same, before};
 ghost use Rattle.monomial.specs.Claims.{Ascending};
-ghost use Rattle.wiring.specs.Sockets.{mayBe};
+ghost use Rattle.wiring.specs.Sockets.{canBuild};
 ghost use Rattle.wiring.specs.Signals.{tabled, listed, signalsAt};
-ghost use Rattle.walk.specs.Walk.{rulesOf, child, opens};
+ghost use Rattle.walk.specs.Walk.{kitRules, child, opens};
 ghost use Rattle.walk.specs.Turns.{Child, Growing};
 
 // Where go is true, a child that is opened: so many monomials of the buffer.
@@ -47,13 +47,13 @@ fn put_in(s: &mut [u8], len: usize, m: Monomial)
 fn with_one(level: usize, panel: Panel, set: &[u8], next: &mut [u8], m: Monomial) -> Tried
     requires { ⌜ Growing level (now set) (now next) ⌝ }
     ensures { λ r. ⌜ (any (same (m .e)) (tabled (now (set .entry))) ≡ false →
-        Child (mayBe panel (m .e) && leb (length (insertBy same before (m .e) (tabled (now (set .entry))))) level) (insertBy same before (m .e) (tabled (now (set .entry)))) r (now (next .exit))) ⌝ }
+        Child (canBuild panel (m .e) && leb (length (insertBy same before (m .e) (tabled (now (set .entry))))) level) (insertBy same before (m .e) (tabled (now (set .entry)))) r (now (next .exit))) ⌝ }
 {
     let len = set.len() / WIDTH;
     if level <= len {
         return Tried { go: false, len };
     }
-    if !sockets::may_be(panel, m) {
+    if !sockets::can_build(panel, m) {
         return Tried { go: false, len };
     }
     buffer::put(next, 0, set);
@@ -76,17 +76,17 @@ fn with_two(
     requires { ⌜ Growing level (now set) (now next) ⌝ }
     ensures { λ r. ⌜ (any (same (b .e)) (tabled (now (set .entry))) ≡ false →
         any (same (a .e)) (insertBy same before (b .e) (tabled (now (set .entry)))) ≡ false →
-        Child (mayBe panel (a .e) && mayBe panel (b .e) && leb (length (insertBy same before (a .e) (insertBy same before (b .e) (tabled (now (set .entry)))))) level)
+        Child (canBuild panel (a .e) && canBuild panel (b .e) && leb (length (insertBy same before (a .e) (insertBy same before (b .e) (tabled (now (set .entry)))))) level)
         (insertBy same before (a .e) (insertBy same before (b .e) (tabled (now (set .entry))))) r (now (next .exit))) ⌝ }
 {
     let len = set.len() / WIDTH;
     if level <= len + 1 {
         return Tried { go: false, len };
     }
-    if !sockets::may_be(panel, a) {
+    if !sockets::can_build(panel, a) {
         return Tried { go: false, len };
     }
-    if !sockets::may_be(panel, b) {
+    if !sockets::can_build(panel, b) {
         return Tried { go: false, len };
     }
     buffer::put(next, 0, set);
@@ -119,7 +119,7 @@ pub(crate) fn offer(
     b: Monomial,
 ) -> Tried
     requires { ⌜ Growing level (now set) (now next) ⌝ }
-    ensures { λ r. ⌜ Child (opens (rulesOf panel) (panel .n) level (tabled (now (set .entry))) (a .e, b .e)) (child (panel .n) (tabled (now (set .entry))) (a .e, b .e)) r (now (next .exit)) ⌝ }
+    ensures { λ r. ⌜ Child (opens (kitRules panel) (panel .n) level (tabled (now (set .entry))) (a .e, b .e)) (child (panel .n) (tabled (now (set .entry))) (a .e, b .e)) r (now (next .exit)) ⌝ }
 {
     let known = signals::is_signal(panel.n, set, b);
     let mut m = b;

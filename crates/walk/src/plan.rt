@@ -21,14 +21,14 @@ ghost use Rattle.wiring.specs.Panel.{cards, setBytes};
 ghost use Rattle.wiring.specs.Sockets.{panelOf};
 ghost use Rattle.wiring.specs.Reply.{outcome};
 ghost use Rattle.wiring.specs.Terms.{records, system, CleanTerms};
-ghost use Rattle.walk.specs.Walk.{rulesOf};
+ghost use Rattle.walk.specs.Walk.{kitRules};
 ghost use Rattle.walk.specs.Plan.{plan, said, settingsRight, planned};
 
-// Whether n, the marks, the cap and the limit are in range.
-fn settings_right(n: u64, marks: u64, cap: u64, limit: u64) -> bool
-    ensures { λ r. ⌜ r ≡ settingsRight (panelOf n marks) cap limit ⌝ }
+// Whether n, the marks, the kit's degree, the cap and the limit are in range.
+fn settings_right(n: u64, marks: u64, degree: u64, cap: u64, limit: u64) -> bool
+    ensures { λ r. ⌜ r ≡ settingsRight (panelOf n marks degree) cap limit ⌝ }
 {
-    if !sockets::panel_right(n, marks) {
+    if !sockets::panel_right(n, marks, degree) {
         return false;
     }
     if (CARDS as u64) < cap {
@@ -44,7 +44,7 @@ fn settings_right(n: u64, marks: u64, cap: u64, limit: u64) -> bool
 // is opened.
 fn climb(terms: &[u8], out: &mut [u8], panel: Panel, cap: usize, limit: u64) -> Reply
     requires { ⌜ (panel .n ≤ width) × ((cap ≤ cards) × (CleanTerms (now terms) × (now out ≡ replicate (length (now out)) 0))) ⌝ }
-    ensures { λ r. ⌜ outcome r (now (out .exit)) ≡ said (plan (rulesOf panel) (panel .n) (system (records (now (terms .entry)))) limit (length (now (out .entry)) / setBytes) cap) (length (now (out .entry))) ⌝ }
+    ensures { λ r. ⌜ outcome r (now (out .exit)) ≡ said (plan (kitRules panel) (panel .n) (system (records (now (terms .entry)))) limit (length (now (out .entry)) / setBytes) cap) (length (now (out .entry))) ⌝ }
 {
     let cancels = derivative::may_cancel(terms);
     let empty = [0u8; 0];
@@ -94,11 +94,19 @@ fn climb(terms: &[u8], out: &mut [u8], panel: Panel, cap: usize, limit: u64) -> 
 }
 
 // Plans: every smallest quadratic set, or how far the walk got.
-pub fn plan(n: u64, marks: u64, cap: u64, limit: u64, terms: &[u8], out: &mut [u8]) -> Reply
-    ensures { λ r. ⌜ outcome r (now (out .exit)) ≡ planned (panelOf n marks) cap limit (now (terms .entry)) (length (now (out .entry))) ⌝ }
+pub fn plan(
+    n: u64,
+    marks: u64,
+    degree: u64,
+    cap: u64,
+    limit: u64,
+    terms: &[u8],
+    out: &mut [u8],
+) -> Reply
+    ensures { λ r. ⌜ outcome r (now (out .exit)) ≡ planned (panelOf n marks degree) cap limit (now (terms .entry)) (length (now (out .entry))) ⌝ }
 {
     buffer::clear(out);
-    if !settings_right(n, marks, cap, limit) {
+    if !settings_right(n, marks, degree, cap, limit) {
         return Reply::Setting;
     }
     if !terms::length_right(terms) {
@@ -107,6 +115,7 @@ pub fn plan(n: u64, marks: u64, cap: u64, limit: u64, terms: &[u8], out: &mut [u
     let panel = Panel {
         n: n as usize,
         marks,
+        degree,
     };
     match terms::fault_of(panel, terms) {
         Fault::Clean => climb(terms, out, panel, cap as usize, limit),

@@ -15,7 +15,7 @@ ghost use lib.ListN.{length};
 ghost use Rattle.wiring.specs.Panel.{setBytes};
 ghost use Rattle.wiring.specs.Terms.{records, system};
 ghost use Rattle.wiring.specs.Signals.{tabled};
-ghost use Rattle.walk.specs.Walk.{Finds, rulesOf, opened, triedAll, run, kept};
+ghost use Rattle.walk.specs.Walk.{Finds, kitRules, opened, triedAll, run, kept};
 ghost use Rattle.walk.specs.Listing.{Shown};
 ghost use Rattle.walk.specs.Turns.{Tells, Openable, Ready, Means, Splits, Found, Weighed, Stepped};
 
@@ -63,7 +63,7 @@ fn found(out: &mut [u8], set: &[u8], st: State) -> Turn
 // Whether a set is found, and else whether it goes on and with which nonsquare. At its level it only may be found: nothing is counted there.
 fn judge(terms: &[u8], list: &mut [u8], f: Frame, set: &[u8]) -> Verdict
     requires { ⌜ Openable (f .panel .n) (now terms) (f .level) (now set) × Means (f .cancels) (now terms) (now list) ⌝ }
-    ensures { λ r. ⌜ Weighed (rulesOf (f .panel)) (f .panel .n) (now (terms .entry)) (f .level) (now (set .entry)) r ⌝ }
+    ensures { λ r. ⌜ Weighed (kitRules (f .panel)) (f .panel .n) (now (terms .entry)) (f .level) (now (set .entry)) r ⌝ }
 {
     let len = set.len() / WIDTH;
     if f.level <= len {
@@ -86,7 +86,7 @@ fn take_step(
     st: State,
 ) -> Opened
     requires { ⌜ Ready (f .panel .n) (now terms) (f .level) (now set) (st .count) (now out) × Means (f .cancels) (now terms) (now list) ⌝ }
-    ensures { λ r. ⌜ Stepped (rulesOf (f .panel)) (f .panel .n) (now (terms .entry)) (f .level) (f .limit) (now (set .entry)) st (now (out .entry)) r (now (out .exit)) ⌝ }
+    ensures { λ r. ⌜ Stepped (kitRules (f .panel)) (f .panel .n) (now (terms .entry)) (f .level) (f .limit) (now (set .entry)) st (now (out .entry)) r (now (out .exit)) ⌝ }
 {
     let taken = st.steps;
     if f.limit <= taken {
@@ -129,7 +129,7 @@ pub(crate) fn open(
     requires { ⌜ Ready (f .panel .n) (now terms) (f .level) (now set) (st .count) (now out) × Means (f .cancels) (now terms) (now list) ⌝ }
     ensures { λ r. ⌜ ((d : ℕ) (finds : Finds) → f .level - length (tabled (now (set .entry))) < d → Shown finds (st .count) (now (out .entry)) →
         Tells r (now (out .exit))
-        (run (f .limit) (length (now (out .entry)) / setBytes) (opened (rulesOf (f .panel)) (f .panel .n) (system (records (now (terms .entry)))) (f .level) d (tabled (now (set .entry)))) (st .steps) finds)) ⌝ }
+        (run (f .limit) (length (now (out .entry)) / setBytes) (opened (kitRules (f .panel)) (f .panel .n) (system (records (now (terms .entry)))) (f .level) d (tabled (now (set .entry)))) (st .steps) finds)) ⌝ }
 {
     let o = take_step(terms, out, list, f, set, st);
     if !o.split {
@@ -157,7 +157,7 @@ fn pairs(
     ensures { λ r. ⌜ ((d : ℕ) (finds : Finds) → f .level - length (tabled (now (set .entry))) ≤ d → Shown finds (st .count) (now (out .entry)) →
         Tells r (now (out .exit))
         (run (f .limit) (length (now (out .entry)) / setBytes)
-        (triedAll (rulesOf (f .panel)) (f .panel .n) (system (records (now (terms .entry)))) (f .level) (opened (rulesOf (f .panel)) (f .panel .n) (system (records (now (terms .entry)))) (f .level) d) (tabled (now (set .entry))) (m .e))
+        (triedAll (kitRules (f .panel)) (f .panel .n) (system (records (now (terms .entry)))) (f .level) (opened (kitRules (f .panel)) (f .panel .n) (system (records (now (terms .entry)))) (f .level) d) (tabled (now (set .entry))) (m .e))
         (st .steps) finds)) ⌝ }
 {
     let mut child = [0u8; SET_BYTES];
@@ -175,7 +175,18 @@ fn pairs(
         };
         let t = children::offer(f.level, f.panel, set, &mut child, a, m.over(a));
         if t.go {
-            match open(terms, out, list, f, &child[..WIDTH * t.len], cur) {
+            // Made anew for the call: handed on as it came, it would lie twice in the frame of each opening.
+            let below = Frame {
+                panel: Panel {
+                    n: f.panel.n,
+                    marks: f.panel.marks,
+                    degree: f.panel.degree,
+                },
+                level: f.level,
+                limit: f.limit,
+                cancels: f.cancels,
+            };
+            match open(terms, out, list, below, &child[..WIDTH * t.len], cur) {
                 Turn::Going(s) => {
                     cur = s;
                 }

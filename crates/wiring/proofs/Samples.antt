@@ -7,6 +7,9 @@ use Prim.Native.Nat.{ℕ, _*_, _-_}
 use lib.ListN.{length, replicate}
 use Rattle.monomial.specs.Lists.{any, some, all, keep, place, gather, below, pairwise, pointwise, dictionary, insertBy, arrangeBy}
 use Rattle.monomial.specs.Monomial.{vars}
+use Rattle.monomial.specs.Degree.{degree}
+use Rattle.wiring.specs.Panel.{fullDegree}
+use Rattle.wiring.specs.Kit.{degreeRight}
 use Rattle.wiring.specs.Sockets.{panelOf, halved, marked, countRight, panelRight, free, mayBe}
 use Rattle.wiring.specs.Reply.{Numbers, five, Outcome}
 use Rattle.wiring.specs.Coefficient.{signed, unsigned, isZero}
@@ -43,9 +46,12 @@ wire left first second coefficient = left ∷ first ∷ second ∷ 0 ∷ coeffic
 set : List (List ℕ) → List ℕ
 set s = gather padded s ++ replicate (36 - 6 * length s) 0
 
--- with marks, and with none
+-- with any kit and marks; with marks and the full kit; with no marks
+built : ℕ → ℕ → ℕ → List ℕ → List ℕ → ℕ → Numbers → List ℕ → Row
+built n marks limit terms s size said bytes = record { got = wired (panelOf n marks limit) terms s size; want = record { said = said; bytes = bytes } }
+
 fed : ℕ → ℕ → List ℕ → List ℕ → ℕ → Numbers → List ℕ → Row
-fed n marks terms s size said bytes = record { got = wired (panelOf n marks) terms s size; want = record { said = said; bytes = bytes } }
+fed n marks = built n marks fullDegree
 
 row : ℕ → List ℕ → List ℕ → ℕ → Numbers → List ℕ → Row
 row n = fed n 0
@@ -252,10 +258,38 @@ table =
     ∷ fed 2 1 (term 2 0 (2 ∷ []) (plus 1) ++ term 1 0 (2 ∷ []) (plus 1) ++ term 1 0 (2 ∷ []) (plus 1))
     (set []) 3
     (five 3 0 0 0 2) (replicate 3 0)
+    -- x' = x^4 + x^3 with {x^3, x^4}: the junior kit of limit 3 cannot build it, that of limit 4 can
+    ∷ built 1 0 3 (term 1 0 (4 ∷ []) (plus 1) ++ term 1 0 (3 ∷ []) (plus 1))
+    (set ((3 ∷ []) ∷ (4 ∷ []) ∷ [])) 3
+    (five 8 0 0 0 0) (replicate 3 0)
+    ∷ built 1 0 4 (term 1 0 (4 ∷ []) (plus 1) ++ term 1 0 (3 ∷ []) (plus 1))
+    (set ((3 ∷ []) ∷ (4 ∷ []) ∷ [])) 3
+    (five 6 2 0 0 0) (replicate 3 0)
+    -- the total degree of x1^2 x2^2 is 4, though no exponent is above 2
+    ∷ built 2 0 3 []
+    (set ((2 ∷ 2 ∷ []) ∷ [])) 3
+    (five 8 0 0 0 0) (replicate 3 0)
+    ∷ built 2 0 4 []
+    (set ((2 ∷ 2 ∷ []) ∷ [])) 3
+    (five 0 1 0 0 0) (replicate 3 0)
+    -- a limit that no kit has, before a length
+    ∷ built 1 0 1 (replicate 11 0)
+    (set []) 3
+    (five 1 0 0 0 0) (replicate 3 0)
+    ∷ built 1 0 10 []
+    (set []) 3
+    (five 1 0 0 0 0) (replicate 3 0)
+    ∷ built 1 0 323 []
+    (set []) 3
+    (five 1 0 0 0 0) (replicate 3 0)
+    -- six exponents of 54: the full kit's limit is as much
+    ∷ built 6 0 324 []
+    (set ((54 ∷ 54 ∷ 54 ∷ 54 ∷ 54 ∷ 54 ∷ []) ∷ [])) 3
+    (five 0 1 0 0 0) (replicate 3 0)
     ∷ []
 
 sampled : map (λ r. r .got) table ≡ map (λ r. r .want) table
-unfolding table fed row term plus minus wire set padded wired told listed verdict recordJudged judged firstUnmet halved marked countRight panelRight free mayBe records
+unfolding table built fed row term plus minus wire set padded wired told listed verdict recordJudged judged firstUnmet halved marked countRight degreeRight panelRight free degree mayBe records
     lengthRight exponentsRight coefficientRight termRight faultFrom equation system places sizeOf setOf ascending monomialRight
     setRight firstOf secondOf rowOf rowsFrom wiring wireRecord signals factor inV2 unmet nonsquares partsFrom derivative coeff
     times support signed unsigned isZero vars any some all keep place gather below pairwise pointwise dictionary insertBy

@@ -11,9 +11,10 @@ use lib.ListN.{length, getD, take, drop, replicate}
 use Rattle.monomial.specs.Lists.{any, keep, gather, below}
 use Rattle.monomial.specs.Monomial.{Mono, constants, width}
 use Rattle.monomial.specs.Order.{same, before}
+use Rattle.monomial.specs.Degree.{degree}
 use Rattle.monomial.specs.Claims.{_∈_, Ascending}
-use Rattle.wiring.specs.Panel.{cards, termBytes, termsBytes, termExponent, mostCoefficient, setBytes, setExponent, wireBytes, mostWires}
-use Rattle.wiring.specs.Sockets.{panelOf, marked, countRight, panelRight, free}
+use Rattle.wiring.specs.Panel.{cards, termBytes, termsBytes, termExponent, mostCoefficient, setBytes, setExponent, wireBytes, mostWires, juniorLeast, juniorMost, fullDegree}
+use Rattle.wiring.specs.Sockets.{panelOf, fullPanel, halved, marked, countRight, panelRight, free}
 use Rattle.wiring.specs.Reply.{numbers}
 use Rattle.wiring.specs.Coefficient.{word, signed}
 use Rattle.wiring.specs.Poly.{Kind, Poly, plain, Same, coeff, support}
@@ -136,18 +137,24 @@ pub record Recordable (n : ℕ) (s : List Mono) : Type 0 where
 abbrev pub Free : ℕ → List Mono → Type 0
 Free marks s = (m : Mono) → m ∈ s → (i : ℕ) → marked marks i ≡ true → getD m i 0 ≡ 0
 
--- what a set may hold, without such signals, and zero bytes behind it
+-- what the kit can build: none holds such a signal, and with a junior kit none has a total degree above its limit. With the full kit any powers will do
+pub record Buildable (panel : Panel) (s : List Mono) : Type 0 where
+  pub free : Free (panel .marks) s
+  pub low : panel .degree < fullDegree → (m : Mono) → m ∈ s → degree m ≤ panel .degree
+
+-- what a set may hold and the kit can build, and zero bytes behind it
 pub record RightRecord (panel : Panel) (bytes : List ℕ) : Type 0 where
   pub zeros : (k : ℕ) → width * sizeOf bytes ≤ k → getD bytes k 0 ≡ 0
   pub permitted : Permitted (panel .n) (setOf bytes)
-  pub free : Free (panel .marks) (setOf bytes)
+  pub buildable : Buildable panel (setOf bytes)
 
 -- ---- the verdict
--- n is a number of variables, and no bit at or above it marks one
+-- n is a number of variables, no bit at or above it marks one, and the kit is the full one or a junior one
 pub record Ranged (panel : Panel) : Type 0 where
   pub low : 1 ≤ panel .n
   pub high : panel .n ≤ width
   pub known : (i : ℕ) → panel .n ≤ i → marked (panel .marks) i ≡ false
+  pub kit : (panel .degree ≡ fullDegree) ⊎ ((juniorLeast ≤ panel .degree) × (panel .degree ≤ juniorMost))
 
 pub record Lengths (terms set : List ℕ) : Type 0 where
   pub measured : Measured terms
@@ -313,10 +320,17 @@ pub record DrivenList (marks : ℕ) (gs : List (Poly Mono)) (v : List Mono) (lis
   pub rows : (i : ℕ) → i < length v → T (free marks (signal plain v i)) → Row plain v i (derivative plain gs (signal plain v i)) (rowOf i list)
   pub others : (i : ℕ) → i < length v → (T (free marks (signal plain v i)) → ⊥) → rowOf i list ≡ []
 
--- ---- with no marks each test is document 01's, and the derivative is that of every monomial
+-- ---- with the full kit each test is that of a panel without a limit, on monomials of the panel's width; that of a term record asks for no kit at all
+pub record FullKit (n marks : ℕ) : Type 0 where
+  pub settings : panelRight (panelOf n marks fullDegree) ≡ countRight n && eqb (halved marks n) 0
+  pub terms : (limit : ℕ) (r : Record) → termRight (panelOf n marks limit) r ≡ termRight (panelOf n marks fullDegree) r
+  pub sets : (m : Mono) → length m ≡ width → monomialRight (panelOf n marks fullDegree) m
+      ≡ not (any (same m) (constants width)) && exponentsRight setExponent n m && free marks m
+
+-- ---- with no marks besides each test is document 01's, and the derivative is that of every monomial
 pub record Unmarked (n : ℕ) : Type 0 where
-  pub settings : panelRight (panelOf n 0) ≡ countRight n
-  pub terms : (r : Record) → termRight (panelOf n 0) r
+  pub settings : panelRight (fullPanel n) ≡ countRight n
+  pub terms : (r : Record) → termRight (fullPanel n) r
       ≡ leb 1 (r .equation) && leb (r .equation) n && eqb (r .blank) 0 && exponentsRight termExponent n (r .monomial) && coefficientRight (r .coefficient)
-  pub sets : (m : Mono) → monomialRight (panelOf n 0) m ≡ not (any (same m) (constants width)) && exponentsRight setExponent n m
+  pub sets : (m : Mono) → length m ≡ width → monomialRight (fullPanel n) m ≡ not (any (same m) (constants width)) && exponentsRight setExponent n m
   pub slopes : (fs : List (Poly Mono)) → slope 0 fs ≡ derivative plain fs

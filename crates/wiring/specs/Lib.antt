@@ -1,5 +1,6 @@
 -- What the contracts of the wiring layer cite, and the words of its claims.
 pub mod Panel
+pub mod Kit
 pub mod Sockets
 pub mod Reply
 pub mod Coefficient

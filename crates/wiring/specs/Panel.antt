@@ -52,6 +52,17 @@ mostWires = suc cards * mostTerms
 abbrev pub wiresBytes : ℕ
 wiresBytes = wireBytes * mostWires
 
+-- the limits on the total degree of a new monomial: the least and the highest that a junior kit is printed with, and the full kit's, which no monomial of
+-- a set record passes
+abbrev pub juniorLeast : ℕ
+juniorLeast = 2
+
+abbrev pub juniorMost : ℕ
+juniorMost = 9
+
+abbrev pub fullDegree : ℕ
+fullDegree = width * setExponent
+
 -- the highest limit of steps
 abbrev pub mostSteps : ℕ
 mostSteps = 1000000000

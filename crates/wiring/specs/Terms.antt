@@ -11,7 +11,7 @@ use Rattle.monomial.specs.Monomial.{Mono, width}
 use Rattle.monomial.specs.Order.{same}
 use Rattle.monomial.specs.Degree.{within}
 use Rattle.wiring.specs.Panel.{termBytes, mostTerms, termExponent, mostCoefficient, coefficientAt, monomialAt}
-use Rattle.wiring.specs.Sockets.{panelOf, marked}
+use Rattle.wiring.specs.Sockets.{fullPanel, marked}
 use Rattle.wiring.specs.Coefficient.{word, signed, isZero}
 use Rattle.wiring.specs.Poly.{Poly}
 use Rattle.wiring.specs.declared.panel.Panel.{Panel}
@@ -70,7 +70,7 @@ fault panel rs = faultFrom panel [] rs
 
 -- records that some panel of n variables takes: what is clean for any of them is clean for one without marks
 abbrev pub CleanFor : ℕ → List ℕ → Type 0
-CleanFor n bytes = fault (panelOf n 0) (records bytes) ≡ Clean
+CleanFor n bytes = fault (fullPanel n) (records bytes) ≡ Clean
 
 -- records that some panel takes
 abbrev pub CleanTerms : List ℕ → Type 0

@@ -1,4 +1,4 @@
-// Wiring: verdict and list of a set in one operation on n, marks, term records and a set record. It assumes nothing of its input.
+// Wiring: verdict and list of a set in one operation on n, marks, the kit's limit, term records and a set record. It assumes nothing of its input.
 use super::buffer;
 use super::panel::Panel;
 use super::panel::SET_BYTES;
@@ -53,10 +53,10 @@ fn read_given(panel: Panel, set: &[u8]) -> Given
 }
 
 // Reads what is given, with the refusals that come before a set is judged. What does something with a given set begins with it.
-pub fn accept(n: u64, marks: u64, terms: &[u8], set: &[u8]) -> Given
-    ensures { λ r. ⌜ Gives (panelOf n marks) (now (terms .entry)) (now (set .entry)) r ⌝ }
+pub fn accept(n: u64, marks: u64, degree: u64, terms: &[u8], set: &[u8]) -> Given
+    ensures { λ r. ⌜ Gives (panelOf n marks degree) (now (terms .entry)) (now (set .entry)) r ⌝ }
 {
-    if !sockets::panel_right(n, marks) {
+    if !sockets::panel_right(n, marks, degree) {
         return refused(Reply::Setting);
     }
     if !terms::length_right(terms) {
@@ -68,6 +68,7 @@ pub fn accept(n: u64, marks: u64, terms: &[u8], set: &[u8]) -> Given
     let panel = Panel {
         n: n as usize,
         marks,
+        degree,
     };
     match terms::fault_of(panel, terms) {
         Fault::Clean => read_given(panel, set),
@@ -106,11 +107,11 @@ pub fn wire_set(n: usize, terms: &[u8], set: Set, out: &mut [u8]) -> Reply
 }
 
 // Wires a given set: the verdict, and the list in the buffer, then zeros; after a refusal only zeros.
-pub fn wire(n: u64, marks: u64, terms: &[u8], set: &[u8], out: &mut [u8]) -> Reply
-    ensures { λ r. ⌜ outcome r (now (out .exit)) ≡ wired (panelOf n marks) (now (terms .entry)) (now (set .entry)) (length (now (out .entry))) ⌝ }
+pub fn wire(n: u64, marks: u64, degree: u64, terms: &[u8], set: &[u8], out: &mut [u8]) -> Reply
+    ensures { λ r. ⌜ outcome r (now (out .exit)) ≡ wired (panelOf n marks degree) (now (terms .entry)) (now (set .entry)) (length (now (out .entry))) ⌝ }
 {
     buffer::clear(out);
-    let g = accept(n, marks, terms, set);
+    let g = accept(n, marks, degree, terms, set);
     if !g.good {
         return g.said;
     }

@@ -6,6 +6,7 @@ pub mod buffer;
 pub mod choice;
 pub mod coefficient;
 pub mod derivative;
+pub mod kit;
 pub mod panel;
 pub mod parts;
 pub mod quadratic;

@@ -38,11 +38,21 @@ pub const MOST_WIRES: usize = (1 + CARDS) * MOST_TERMS;
 
 pub const WIRES_BYTES: usize = WIRE_BYTES * MOST_WIRES;
 
+// The limits on the total degree of a new monomial: the least and the highest that a junior kit is printed with, and the full kit's, which no monomial of
+// a set record passes.
+pub const JUNIOR_LEAST: u64 = 2;
+
+pub const JUNIOR_MOST: u64 = 9;
+
+pub const FULL_DEGREE: u64 = WIDTH as u64 * SET_EXPONENT as u64;
+
 // The highest limit of steps.
 pub const MOST_STEPS: u64 = 1000000000;
 
-// The settings travel together: how many variables there are, and which of them are signals fed from outside, bit i - 1 for xi.
+// The settings travel together: how many variables there are, which of them are signals fed from outside, bit i - 1 for xi, and the kit's limit on the
+// total degree of a new monomial.
 pub struct Panel {
     pub n: usize,
     pub marks: u64,
+    pub degree: u64,
 }

@@ -59,7 +59,7 @@ fn monomial_right(panel: Panel, m: Monomial) -> bool
     if !terms::exponents_right(SET_EXPONENT, panel.n, m) {
         return false;
     }
-    sockets::may_be(panel, m)
+    sockets::can_build(panel, m)
 }
 
 // How many places of a record are used: up to the first that is all zero.

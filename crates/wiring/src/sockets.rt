@@ -1,9 +1,11 @@
-// Sockets fed from outside: which variables are signals, and what a new monomial may be.
+// Sockets fed from outside: which variables are signals; the settings of a panel, and what a new monomial may be.
+use super::kit;
+use super::panel::FULL_DEGREE;
 use super::panel::Panel;
 use monomial::Monomial;
 use monomial::width::WIDTH;
 ghost use mathlib.Core.Path.{_≡_};
-ghost use Rattle.wiring.specs.Sockets.{panelOf, halved, marked, countRight, panelRight, free, mayBe};
+ghost use Rattle.wiring.specs.Sockets.{panelOf, halved, marked, countRight, panelRight, free, canBuild};
 
 // A number halved so many times.
 fn halved(m: u64, times: usize) -> u64
@@ -35,14 +37,17 @@ fn count_right(n: u64) -> bool
     n <= WIDTH as u64
 }
 
-// Whether the panel has so many variables, and no mark stands beyond them.
-pub fn panel_right(n: u64, marks: u64) -> bool
-    ensures { λ r. ⌜ r ≡ panelRight (panelOf n marks) ⌝ }
+// Whether the panel has so many variables, no mark stands beyond them, and there is a kit with that limit.
+pub fn panel_right(n: u64, marks: u64, degree: u64) -> bool
+    ensures { λ r. ⌜ r ≡ panelRight (panelOf n marks degree) ⌝ }
 {
     if !count_right(n) {
         return false;
     }
-    halved(marks, n as usize) == 0
+    if halved(marks, n as usize) != 0 {
+        return false;
+    }
+    kit::degree_right(degree)
 }
 
 // Whether no signal is in m. Where no marks are left, nothing is asked of the exponents: most systems have no signals.
@@ -67,9 +72,16 @@ fn is_free(marks: u64, m: Monomial) -> bool
     true
 }
 
-// Whether a new monomial may be m: the one test of the walk and of set records.
-pub fn may_be(panel: Panel, m: Monomial) -> bool
-    ensures { λ r. ⌜ r ≡ mayBe panel (m .e) ⌝ }
+// Whether the kit can build m: the one test of the walk, of counting and of set records. Of a system without signals, with the full kit, nothing is asked
+// of the exponents: most are such.
+pub fn can_build(panel: Panel, m: Monomial) -> bool
+    ensures { λ r. ⌜ r ≡ canBuild panel (m .e) ⌝ }
 {
-    is_free(panel.marks, m)
+    if !is_free(panel.marks, m) {
+        return false;
+    }
+    if FULL_DEGREE <= panel.degree {
+        return true;
+    }
+    m.degree() <= panel.degree
 }

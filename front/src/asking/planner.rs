@@ -6,51 +6,56 @@ use std::sync::mpsc::{channel, RecvTimeoutError};
 use std::thread;
 use std::time::Duration;
 
-use crate::algebra::Exponents;
+use crate::algebra::{degree, Exponents};
 use crate::asking::answer::{self, Answer};
 use crate::typed::given;
-use crate::typed::settings::Settings;
+use crate::typed::settings::{Count, Settings};
 
 /// The variable that names the script which runs a proved program by its name. The command `plan` sets it.
 pub const RUNNER: &str = "SIRAGUMON_RUNNER";
 
 pub struct Planner {
     pub runner: String,
-    /// Variables of the system, a bit for each that is fed from outside, and the term records.
+    /// Variables of the system, a bit for each that is fed from outside, the kit's limit, and the term records.
     pub n: usize,
     pub marks: u64,
+    pub degree: Count,
     pub terms: Vec<u8>,
 }
 
 impl Planner {
     /// Asks once, and calls `tick` every second while the program runs.
     pub fn ask(&self, settings: &Settings, tick: impl FnMut()) -> Result<Answer, String> {
-        let Settings { cards, steps, sets, which } = settings;
+        let Settings { cards, steps, sets, which, .. } = settings;
         let which = which.to_string();
         let text = self.run(&[cards.digits(), steps.digits(), sets.digits(), &which], &self.terms, tick)?;
-        answer::planned(self.n, &text).and_then(|answer| self.keeps_outside(answer)).map_err(unreadable)
+        answer::planned(self.n, &text).and_then(|answer| self.keeps_rules(answer)).map_err(unreadable)
     }
 
     /// Asks for the smallest subsets of a set that will do, and for the wiring of subset `which`.
     pub fn thin(&self, set: &[Exponents], which: u64) -> Result<Answer, String> {
         let text = self.run_on_set(&[&which.to_string()], set)?;
-        answer::thinned(self.n, set, &text).and_then(|answer| self.keeps_outside(answer)).map_err(unreadable)
+        answer::thinned(self.n, set, &text).and_then(|answer| self.keeps_rules(answer)).map_err(unreadable)
     }
 
     /// Asks whether a set will do as it is, and for its wiring.
     pub fn wire(&self, set: &[Exponents]) -> Result<Answer, String> {
         let text = self.run_on_set(&[], set)?;
-        answer::wired(self.n, set, &text).and_then(|answer| self.keeps_outside(answer)).map_err(unreadable)
+        answer::wired(self.n, set, &text).and_then(|answer| self.keeps_rules(answer)).map_err(unreadable)
     }
 
-    /// An answer that holds a signal from outside in a new one, or wires one, is none.
-    fn keeps_outside(&self, answer: Answer) -> Result<Answer, String> {
+    /// An answer that holds a signal from outside in a new one, or wires one, is none. Nor is one that has a new signal
+    /// above the kit's limit.
+    fn keeps_rules(&self, answer: Answer) -> Result<Answer, String> {
         let marked = |i: usize| self.marks >> i & 1 == 1;
+        let kept = |new: &Exponents| self.degree.value().is_some_and(|most| degree(new) <= most);
         let held = answer.sets.iter().flatten().any(|new| (0..self.n).any(|i| marked(i) && new[i] != 0));
         let wired = answer.wires.iter().any(|wire| wire.left <= self.n && marked(wire.left - 1));
-        match (held, wired) {
-            (true, _) => Err("a new signal holds one from outside".into()),
-            (_, true) => Err("a signal from outside is wired".into()),
+        let above = !answer.sets.iter().flatten().all(kept);
+        match (held, wired, above) {
+            (true, ..) => Err("a new signal holds one from outside".into()),
+            (_, true, _) => Err("a signal from outside is wired".into()),
+            (.., true) => Err("a new signal has a total degree above the kit's limit".into()),
             _ => Ok(answer),
         }
     }
@@ -61,9 +66,9 @@ impl Planner {
         self.run(arguments, &input, || ())
     }
 
-    /// Runs the program. Its first words are those of the system; the others are given.
+    /// Runs the program. Its first words are those of the system and the kit; the others are given.
     fn run(&self, arguments: &[&str], input: &[u8], mut tick: impl FnMut()) -> Result<String, String> {
-        let system = [self.n.to_string(), self.marks.to_string()];
+        let system = [self.n.to_string(), self.marks.to_string(), self.degree.digits().to_string()];
         let mut command = Command::new(&self.runner);
         command.arg("asked").args(system).args(arguments).stdin(Stdio::piped()).stdout(Stdio::piped());
         leash(&mut command);
@@ -123,22 +128,26 @@ fn leash(_: &mut Command) {}
 #[cfg(test)]
 mod tests {
     use super::*;
-    use crate::panel::TERM_BYTES;
+    use crate::panel::{FULL_DEGREE, TERM_BYTES};
 
     /// Why there is neither a plan nor a thinned or a wired set.
     fn faults(runner: &str) -> [String; 3] {
-        let planner = Planner { runner: runner.into(), n: 1, marks: 0, terms: vec![0; TERM_BYTES * 9000] };
+        let terms = vec![0; TERM_BYTES * 9000];
+        let planner = Planner { runner: runner.into(), n: 1, marks: 0, degree: FULL_DEGREE.into(), terms };
         let set = [[2, 0, 0, 0, 0, 0]];
         let answers = [planner.ask(&Settings::default(), || ()), planner.thin(&set, 1), planner.wire(&set)];
         answers.map(|answer| answer.unwrap_err())
     }
 
+    /// What becomes of an answer for two variables.
+    fn taken(marks: u64, degree: u64, text: &str) -> Result<Answer, String> {
+        let planner = Planner { runner: String::new(), n: 2, marks, degree: degree.into(), terms: vec![] };
+        planner.keeps_rules(answer::planned(2, text).unwrap())
+    }
+
     #[test]
     fn a_signal_from_outside_is_neither_held_nor_wired() {
-        let asked = |marks: u64, text: &str| {
-            let planner = Planner { runner: String::new(), n: 2, marks, terms: vec![] };
-            planner.keeps_outside(answer::planned(2, text).unwrap())
-        };
+        let asked = |marks: u64, text: &str| taken(marks, FULL_DEGREE, text);
         let held = "0 1 1 8 0\n1.1.0.0.0.0\n1 1 3 1\n3 3 3 1\n";
         assert!(asked(0, held).is_ok(), "a knob may be held");
         assert!(asked(2, held).unwrap_err().contains("holds one from outside"));
@@ -147,6 +156,17 @@ mod tests {
         assert!(asked(2, wired).unwrap_err().contains("is wired"));
         assert!(asked(2, "0 1 1 6 0\n2.0.0.0.0.0\n1 1 3 1\n3 2 3 2\n").is_ok());
         assert!(asked(2, "5 7 0 126 0\n").is_ok());
+    }
+
+    #[test]
+    fn no_new_signal_passes_the_limit_of_the_kit() {
+        let above = |degree: u64, text: &str| taken(0, degree, text).unwrap_err().contains("above the kit's limit");
+        let sets = "0 1 2 9 0\n0.2.0.0.0.0\n2.2.0.0.0.0\n";
+        assert!(above(3, sets), "the degree is the total, of whichever set");
+        assert!(taken(0, 4, sets).is_ok());
+        assert!(taken(0, FULL_DEGREE, "0 1 1 9 0\n54.54.54.54.54.54\n").is_ok());
+        assert!(above(FULL_DEGREE, "0 1 1 9 0\n54.54.54.54.54.55\n"));
+        assert!(taken(0, 10, "1 0 0 0 0\n").is_ok());
     }
 
     #[test]

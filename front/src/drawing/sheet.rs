@@ -213,6 +213,14 @@ pub mod tests {
     }
 
     #[test]
+    fn a_long_heading_is_broken_between_its_clauses() {
+        let clauses = ["The smallest set among those that leave u outside the new signals and", "whose new signals .."];
+        let lines = Heading { equations: vec![], given: None, which: clauses.join(" ") + &" ..".repeat(20) }.lines();
+        assert_eq!(lines.len(), 2);
+        assert!(lines.iter().zip(clauses).all(|(line, clause)| line.trim_start().starts_with(clause)), "{lines:?}");
+    }
+
+    #[test]
     fn every_wiring_record_is_one_input() {
         for (patch, drawing) in drawings() {
             let wires = patch.rows.iter().flat_map(|row| &row.wires);

@@ -58,10 +58,14 @@ fn operation(report: &Report) -> &'static str {
     }
 }
 
-/// Those that were sent: of a given set all that is asked is judged, and nothing is limited.
+/// Those that were sent, for the full kit too. Of a given set all that is asked is judged, and no search is limited.
 fn settings(report: &Report) -> Json {
     let count = |c: &Count| c.value().map_or(Json::from(c.digits()), whole);
-    let mut fields = vec![("n", whole(report.system.names.len() as u64)), ("marks", whole(report.system.marks()))];
+    let mut fields = vec![
+        ("n", whole(report.system.names.len() as u64)),
+        ("marks", whole(report.system.marks())),
+        ("degree", count(&report.settings.degree)),
+    ];
     if report.system.given.is_none() {
         fields.extend([
             ("cards", count(&report.settings.cards)),

@@ -8,12 +8,13 @@ use crate::saying::numbers::counted;
 use crate::saying::words::{Said, REPEATED};
 use crate::saying::{rule, thinned, unwired, wired};
 use crate::typed::given::{Aim, Given};
+use crate::typed::settings::Settings;
 use crate::typed::system::System;
 use crate::typed::text::{short, text_of, Source};
 
-pub fn said(reply: &Reply, given: &Given, system: &System, sources: &[Source]) -> Said {
+pub fn said(reply: &Reply, given: &Given, settings: &Settings, system: &System, sources: &[Source]) -> Said {
     if reply.code == SET {
-        return refused(given, system, sources);
+        return refused(given, settings, system, sources);
     }
     let said = match given.aim {
         Aim::Thinning => thinned::said(reply, given),
@@ -24,7 +25,7 @@ pub fn said(reply: &Reply, given: &Given, system: &System, sources: &[Source]) -
 }
 
 /// The reply has no place, so the fault is looked for here: first their number, then signal by signal.
-fn refused(given: &Given, system: &System, sources: &[Source]) -> Said {
+fn refused(given: &Given, settings: &Settings, system: &System, sources: &[Source]) -> Said {
     const MOST: usize = CARDS as usize;
     if let Some(first) = given.signals.get(MOST) {
         let typed = counted(given.signals.len() as u64, "signal");
@@ -33,7 +34,7 @@ fn refused(given: &Given, system: &System, sources: &[Source]) -> Said {
     }
     for (i, signal) in given.signals.iter().enumerate() {
         let earlier = given.signals[..i].iter().find(|other| other.powers == signal.powers);
-        let broken = rule::broken_signal(signal, system)
+        let broken = rule::broken_signal(signal, system, settings.junior())
             .or_else(|| earlier.map(|_| "the set has this product already; leave one out".into()));
         if let Some(broken) = broken {
             let text = short(text_of(sources, signal.span));
@@ -87,10 +88,15 @@ pub mod tests {
 
     /// What is said of a reply about a set.
     pub fn said_of(aim: Aim, reply: [u64; 5], text: &str, set: &str) -> Said {
+        said_with(&Settings::default(), aim, reply, text, set)
+    }
+
+    /// The same with settings.
+    fn said_with(settings: &Settings, aim: Aim, reply: [u64; 5], text: &str, set: &str) -> Said {
         let [code, order, count, steps, place] = reply;
         let reply = Reply { code, order, count, steps, place };
         let sources = typed_with_set(aim, text, set);
-        crate::saying::words::said(&reply, &Settings::default(), &given(aim, text, set), &sources)
+        crate::saying::words::said(&reply, settings, &given(aim, text, set), &sources)
     }
 
     /// What is said whatever is asked of the set.
@@ -149,6 +155,24 @@ pub mod tests {
         assert_eq!(words, "Refused: 8 signals were typed, and a set has up to 6. This is signal 7:");
         assert!(pointed.ends_with("                                ^^^\n"), "{pointed}");
         assert_eq!(refused("x^2"), ("Refused: the given set breaks a rule of the box.".into(), String::new()));
+    }
+
+    #[test]
+    fn code_8_of_a_junior_kit() {
+        let kit = |degree: u64| Settings { degree: degree.into(), ..Settings::default() };
+        let refused = |degree, set| AIMS.map(|aim| said_with(&kit(degree), aim, [8, 0, 0, 0, 0], "x' = y", set));
+        for said in refused(3, "x^3, x^2 y^2, x^4") {
+            assert_eq!(
+                said.words,
+                "Refused: signal 2 of the given set, x^2 y^2: its total degree is 4, and the junior kit takes up to 3."
+            );
+            let (_, span) = said.places[0];
+            assert_eq!((span.from, span.to, said.places.len()), (5, 12, 1));
+        }
+        // Of a limit that no kit has nothing is said: what fits no record is refused before the planner refuses it.
+        for said in refused(10, "x^11, x^0") {
+            assert!(said.words.starts_with("Refused: signal 2 of the given set, x^0: it is 1"), "{}", said.words);
+        }
     }
 
     #[test]

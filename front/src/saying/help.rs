@@ -1,6 +1,8 @@
 //! The words of `--help`.
 
-use crate::panel::{CARDS, SETS, STEPS, TERMS, USUAL_SETS, USUAL_STEPS, VARIABLES};
+use crate::panel::{
+    CARDS, FULL_DEGREE, LEAST_DEGREE, MOST_DEGREE, SETS, STEPS, TERMS, USUAL_SETS, USUAL_STEPS, VARIABLES,
+};
 use crate::saying::numbers::grouped;
 
 pub fn help() -> String {
@@ -34,6 +36,7 @@ to x{VARIABLES} are knobs without being said to be; any other name is pointed at
   --set N        wires the N-th set of the list (1)
   --thin SET     thins a set: up to {CARDS} products of powers, with commas between them (\"\" is the empty set)
   --given SET    judges such a set as it is, and wires it where it will do
+  --degree D     total degree of a new signal, at most, on a junior kit: {LEAST_DEGREE} to {MOST_DEGREE} ({FULL_DEGREE}, the full kit)
   --knob NAMES   says that names without equations are knobs; commas stand between names
   --signal NAMES says that names are signals fed from outside
   --svg FILE     draws the patch of that set
@@ -47,6 +50,10 @@ shown so far; it may be stopped at any time.
 
 A signal fed from outside has a slope that nobody knows, so no new signal holds one; \"smallest\" is then said of the sets
 that leave it out. --knob and --signal may be given several times, and go with all other options.
+
+A junior kit has no cascade bus: the total degree of a new signal, the sum of its powers, is at most the limit that is
+printed on it. \"Smallest\" is then said of the sets that keep it, and where there is none the full kit may have one; a
+set that is given must keep it. --degree goes with all other options; --json has it as \"degree\", {FULL_DEGREE} for the full kit.
 
 With --thin every subset of the given set is judged and no other set is searched, so \"smallest\" is said of its subsets
 alone; --cards, --steps and --sets do not go with it.

@@ -7,6 +7,7 @@ pub mod json;
 pub mod numbers;
 pub mod report;
 pub mod rule;
+pub mod searched;
 pub mod thinned;
 pub mod unwired;
 pub mod watch;

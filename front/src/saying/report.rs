@@ -3,7 +3,8 @@
 use crate::asking::answer::{Answer, DONE, SET, TWICE};
 use crate::patch::Patch;
 use crate::saying::numbers::{counted, grouped};
-use crate::saying::words::{among, said, Said};
+use crate::saying::searched::Searched;
+use crate::saying::words::{said, Said};
 use crate::typed::given::Aim;
 use crate::typed::names::Kind;
 use crate::typed::settings::Settings;
@@ -87,6 +88,11 @@ impl Report<'_> {
         kinds.into_iter().filter_map(line).collect()
     }
 
+    /// The limit of a junior kit.
+    fn kit(&self) -> Option<String> {
+        self.settings.junior().map(|most| format!("junior kit: new signals up to total degree {most}"))
+    }
+
     /// The signals of a set, from 0.
     pub fn set(&self, number: usize) -> Vec<String> {
         self.system.set(&self.answer.sets[number])
@@ -115,11 +121,10 @@ impl Report<'_> {
             return "Nothing needs to be added.".into();
         };
         let (which, count) = (self.settings.which, self.answer.reply.count);
+        let among = Searched::of(self.system, self.settings).among();
         let set = match (self.system.aim(), count) {
-            (None, 1) => format!("The smallest set{}", among(&self.system.outside())),
-            (None, count) => {
-                format!("Set {which} of the {} smallest sets{}", grouped(count), among(&self.system.outside()))
-            }
+            (None, 1) => format!("The smallest set{among}"),
+            (None, count) => format!("Set {which} of the {} smallest sets{among}", grouped(count)),
             (Some(Aim::Thinning), 1) => "The smallest subset of the given set that will do".to_string(),
             (Some(Aim::Thinning), count) => {
                 format!("Subset {which} of the {} smallest subsets of the given set that will do", grouped(count))
@@ -157,7 +162,8 @@ impl Report<'_> {
             return String::new();
         }
         let given = self.given_text().map(|text| format!("given set: {text}"));
-        let read = self.equations().into_iter().chain(self.kinds()).chain(given).map(|line| format!("  {line}\n"));
+        let lines = self.equations().into_iter().chain(self.kinds()).chain(self.kit()).chain(given);
+        let read = lines.map(|line| format!("  {line}\n"));
         let notes = self.notes().into_iter().map(|note| format!("{note}\n"));
         read.chain(notes).chain(std::iter::once("\n".into())).collect()
     }
@@ -248,10 +254,19 @@ mod tests {
         which: u64,
         said: impl FnOnce(&Report) -> T,
     ) -> T {
-        let settings = Settings { which, ..Settings::default() };
-        let patch = Patch::of(system, answer, which);
+        report_with(&Settings { which, ..Settings::default() }, sources, system, answer, said)
+    }
+
+    fn report_with<T>(
+        settings: &Settings,
+        sources: &[Source],
+        system: &System,
+        answer: &Answer,
+        said: impl FnOnce(&Report) -> T,
+    ) -> T {
+        let patch = Patch::of(system, answer, settings.which);
         let drawn = Drawn::NotAsked;
-        said(&Report { sources, system, settings: &settings, answer, patch: patch.as_ref(), drawn })
+        said(&Report { sources, system, settings, answer, patch: patch.as_ref(), drawn })
     }
 
     /// What is printed for a text and an answer, and whether set `which` is wired.
@@ -297,6 +312,32 @@ mod tests {
         let text = printed("x' = x^4 + x^3", &answer, 3);
         assert!(text.ends_with("\nThere is no set 3: the list has 2 sets.\n"), "{text}");
         assert!(!text.contains("wired:"), "{text}");
+    }
+
+    #[test]
+    fn a_junior_kit_stands_beside_the_system() {
+        let (text, set) = recorded::WIRED[0];
+        let all = |r: &Report| [r.for_a_person(), export::answer(r), r.which_set()];
+        for (degree, head, among) in [
+            (
+                4,
+                "  junior kit: new signals up to total degree 4\n",
+                " among those whose new signals have total degree up to 4",
+            ),
+            (324, "", ""),
+        ] {
+            let kit = Settings { degree: degree.into(), ..Settings::default() };
+            let answer = planned(1, crate::asking::answer::tests::EXAMPLE).unwrap();
+            let [printed, json, which] = report_with(&kit, &typed(text), &system(text), &answer, all);
+            assert!(printed.starts_with(&format!("  {text}\n{head}\nFound: 2 smallest sets{among}, of")), "{printed}");
+            assert!(json.contains(&format!("\"marks\": 0,\n    \"degree\": {degree},\n    \"cards\": 6")), "{json}");
+            assert_eq!(which, format!("Set 1 of the 2 smallest sets{among}: w1 = x^2, w2 = x^3"));
+            let (sources, system) = (typed_with_set(Aim::Wiring, text, set), given(Aim::Wiring, text, set));
+            let [printed, json, which] = report_with(&kit, &sources, &system, &recorded::wiring(&system), all);
+            assert!(printed.starts_with(&format!("  {text}\n{head}  given set: {set}\n\nQuadratic:")), "{printed}");
+            assert!(json.contains(&format!("\"marks\": 0,\n    \"degree\": {degree}\n")), "{json}");
+            assert_eq!(which, "New signals: w1 = x^3, w2 = x^4");
+        }
     }
 
     /// Systems with sets of many kinds: several smallest subsets, one, the whole set, the empty one.

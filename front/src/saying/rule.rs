@@ -23,13 +23,18 @@ pub fn broken(term: &Term, names: &[String]) -> Option<String> {
     None
 }
 
-/// Which rule of a set record the signal breaks by itself.
-pub fn broken_signal(signal: &Signal, system: &System) -> Option<String> {
+/// Which rule of a set record the signal breaks by itself. `junior` is the limit of a junior kit.
+pub fn broken_signal(signal: &Signal, system: &System, junior: Option<u64>) -> Option<String> {
     power(&signal.powers, &system.names, SET_POWER).or_else(|| match signal.powers.iter().sum() {
         0u128 => Some("it is 1, and no new signal; leave it out".into()),
         1 => Some("it is a variable, and no new signal; leave it out".into()),
-        _ => from_outside(&signal.powers, system),
+        degree => from_outside(&signal.powers, system).or_else(|| above(degree, junior)),
     })
+}
+
+fn above(degree: u128, junior: Option<u64>) -> Option<String> {
+    let most = junior.filter(|&most| u128::from(most) < degree)?;
+    Some(format!("its total degree is {degree}, and the junior kit takes up to {most}"))
 }
 
 fn from_outside(powers: &Powers, system: &System) -> Option<String> {
@@ -79,23 +84,40 @@ mod tests {
         let rule = |set: &str| {
             let sources = [&typed_with_set(Aim::Wiring, "x' = u v a", set)[..], &said(&[(Kind::Signal, "u, v")])];
             let system = system_of(&[&sources.concat()[..], &said(&[(Kind::Knob, "a")])].concat());
-            broken_signal(&system.given.as_ref().unwrap().signals[0], &system)
+            broken_signal(&system.given.as_ref().unwrap().signals[0], &system, Some(2))
         };
         let held =
             |names: &str| format!("it holds {names}, fed from outside, which no new signal may hold; leave it out");
         assert_eq!(rule("x*u"), Some(held("u")));
         assert_eq!(rule("v^2"), Some(held("v")));
-        assert_eq!(rule("u*a*v"), Some(held("u and v")));
+        assert_eq!(rule("u*a*v"), Some(held("u and v")), "above the limit too, which a higher one does not mend");
         assert_eq!(rule("x*a"), None);
         assert_eq!(rule("u").unwrap(), "it is a variable, and no new signal; leave it out");
     }
 
+    /// The rule that the first signal of a set breaks.
+    fn rule_of(text: &str, junior: Option<u64>) -> Option<String> {
+        let system = with_set("x' = y", text);
+        broken_signal(&system.given.as_ref().unwrap().signals[0], &system, junior)
+    }
+
+    #[test]
+    fn a_signal_above_the_limit_of_a_junior_kit() {
+        let rule = |text: &str| rule_of(text, Some(3));
+        let above = |degree: u64| Some(format!("its total degree is {degree}, and the junior kit takes up to 3"));
+        for within in ["x^2", "x^3", "x*y^2", "x*y*z"] {
+            assert_eq!(rule(within), None, "{within}");
+        }
+        assert_eq!(rule("x^4"), above(4));
+        assert_eq!(rule("x^2*y^2"), above(4), "neither power is above it");
+        assert_eq!(rule("x^54 y^54 z^54"), above(162));
+        assert_eq!(rule("x^55").unwrap(), "the power of x is 55, and the box takes 0 to 54");
+        assert_eq!(rule("x").unwrap(), "it is a variable, and no new signal; leave it out");
+    }
+
     #[test]
     fn the_broken_rule_of_a_signal() {
-        let rule = |text: &str| {
-            let system = with_set("x' = y", text);
-            broken_signal(&system.given.as_ref().unwrap().signals[0], &system)
-        };
+        let rule = |text: &str| rule_of(text, None);
         assert_eq!(rule("x^54*y^54"), None);
         assert_eq!(rule("x*y"), None);
         assert_eq!(rule("x^2"), None);

@@ -4,14 +4,17 @@ use std::io::Write;
 use std::time::Duration;
 
 use crate::saying::numbers::{counted, grouped};
+use crate::saying::searched::Searched;
 
 /// A search that is over sooner than this says nothing but its answer.
 const PATIENCE: Duration = Duration::from_secs(1);
 
-pub struct Watch<W: Write> {
+pub struct Watch<'a, W: Write> {
     out: W,
     /// A terminal shows one line that is written over; elsewhere each thing is said once.
     terminal: bool,
+    /// Among which sets is searched.
+    searched: &'a Searched<'a>,
     /// What has been shown and not been said yet.
     unsaid: Option<String>,
     level: u64,
@@ -19,14 +22,14 @@ pub struct Watch<W: Write> {
     open: bool,
 }
 
-impl<W: Write> Watch<W> {
-    pub fn new(out: W, terminal: bool) -> Watch<W> {
-        Watch { out, terminal, unsaid: None, level: 0, open: false }
+impl<W: Write> Watch<'_, W> {
+    pub fn new<'a>(out: W, terminal: bool, searched: &'a Searched<'a>) -> Watch<'a, W> {
+        Watch { out, terminal, searched, unsaid: None, level: 0, open: false }
     }
 
-    /// There is no set of up to `cards` signals, which the words `excluded` say.
-    pub fn shown(&mut self, cards: u64, excluded: &str, steps: u64, elapsed: Duration) {
-        self.unsaid = Some(format!("So far: {excluded} ({}).\n", counted(steps, "step")));
+    /// There is no set of up to `cards` signals.
+    pub fn shown(&mut self, cards: u64, steps: u64, elapsed: Duration) {
+        self.unsaid = Some(format!("So far: {} ({}).\n", self.searched.excluded(cards), counted(steps, "step")));
         self.level = cards + 1;
         self.say(elapsed);
     }
@@ -36,7 +39,7 @@ impl<W: Write> Watch<W> {
         self.say(elapsed);
         if self.terminal && PATIENCE <= elapsed {
             let seconds = grouped(elapsed.as_secs());
-            let sets = counted(self.level, "new signal");
+            let sets = self.searched.signals(self.level);
             let line = format!("\r\x1b[KLooking through sets of up to {sets}, {seconds} s ");
             self.open = true;
             self.put(&line);
@@ -70,23 +73,22 @@ impl<W: Write> Watch<W> {
 #[cfg(test)]
 mod tests {
     use super::*;
-    use crate::saying::words::excluded;
 
     fn seconds(s: u64) -> Duration {
         Duration::from_secs(s)
     }
 
-    fn heard(terminal: bool, say: impl Fn(&mut Watch<&mut Vec<u8>>)) -> String {
+    fn heard(terminal: bool, searched: &Searched, say: impl Fn(&mut Watch<&mut Vec<u8>>)) -> String {
         let mut out = Vec::new();
-        say(&mut Watch::new(&mut out, terminal));
+        say(&mut Watch::new(&mut out, terminal, searched));
         String::from_utf8(out).unwrap()
     }
 
     #[test]
     fn a_short_search_is_silent() {
-        let said = heard(true, |w| {
-            w.shown(0, "nothing", 1, Duration::from_millis(3));
-            w.shown(1, "nothing", 4, Duration::from_millis(900));
+        let said = heard(true, &Searched::default(), |w| {
+            w.shown(0, 1, Duration::from_millis(3));
+            w.shown(1, 4, Duration::from_millis(900));
             w.end();
         });
         assert_eq!(said, "");
@@ -94,28 +96,40 @@ mod tests {
 
     #[test]
     fn a_long_search_says_what_it_has_shown() {
-        let said = heard(false, |w| {
-            w.shown(0, &excluded(0, &[]), 1, seconds(0));
-            w.shown(1, &excluded(1, &[]), 4, seconds(0));
-            w.tick(seconds(1));
-            w.tick(seconds(2));
-            w.shown(2, &excluded(2, &["u"]), 4711, seconds(5));
-            w.end();
-        });
+        let long = |searched| {
+            heard(false, &searched, |w| {
+                w.shown(0, 1, seconds(0));
+                w.shown(1, 4, seconds(0));
+                w.tick(seconds(1));
+                w.tick(seconds(2));
+                w.shown(2, 4711, seconds(5));
+                w.end();
+            })
+        };
         assert_eq!(
-            said,
+            long(Searched::default()),
             "So far: no set of up to 1 new signal exists (4 steps).\n\
+             So far: no set of up to 2 new signals exists (4,711 steps).\n"
+        );
+        assert_eq!(
+            long(Searched { outside: vec!["u"], junior: None }),
+            "So far: no patch of up to 1 new signal exists that leaves u outside the new signals (4 steps).\n\
              So far: no patch of up to 2 new signals exists that leaves u outside the new signals (4,711 steps).\n"
+        );
+        assert_eq!(
+            long(Searched { outside: vec![], junior: Some(3) }),
+            "So far: no set of up to 1 new signal of total degree up to 3 exists (4 steps).\n\
+             So far: no set of up to 2 new signals of total degree up to 3 exists (4,711 steps).\n"
         );
     }
 
     #[test]
     fn a_terminal_sees_the_time_pass() {
-        let said = heard(true, |w| {
-            w.shown(2, &excluded(2, &[]), 9, seconds(1));
+        let said = heard(true, &Searched::default(), |w| {
+            w.shown(2, 9, seconds(1));
             w.tick(seconds(2));
             w.tick(seconds(3));
-            w.shown(3, &excluded(3, &[]), 99, seconds(4));
+            w.shown(3, 99, seconds(4));
             w.end();
         });
         let line = |s| format!("\r\x1b[KLooking through sets of up to 3 new signals, {s} s ");
@@ -127,5 +141,13 @@ mod tests {
             "So far: no set of up to 3 new signals exists (99 steps).\n",
         ];
         assert_eq!(said, expected.concat());
+        let junior = heard(true, &Searched { junior: Some(2), ..Searched::default() }, |w| {
+            w.shown(2, 9, seconds(1));
+            w.tick(seconds(2));
+        });
+        assert!(
+            junior.ends_with("KLooking through sets of up to 3 new signals of total degree up to 2, 2 s "),
+            "{junior}"
+        );
     }
 }

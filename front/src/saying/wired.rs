@@ -2,7 +2,8 @@
 //! of how it stands among others.
 
 use crate::asking::answer::{Reply, DONE, FULL, NOT_QUADRATIC};
-use crate::saying::words::{excluded, QUADRATIC};
+use crate::saying::searched::UNWIRED;
+use crate::saying::words::QUADRATIC;
 
 /// What was not asked. Of the empty set there is no such question.
 const UNASKED: &str =
@@ -36,7 +37,7 @@ fn full() -> String {
 
 fn not_quadratic(reply: &Reply) -> String {
     match reply.order {
-        0 => format!("Not quadratic: {}.", excluded(0, &[])),
+        0 => format!("Not quadratic: {UNWIRED}."),
         _ => "Not quadratic: the given set will not do.".into(),
     }
 }

@@ -4,8 +4,9 @@
 use crate::asking::answer::{Reply, DONE, FULL, LENGTH, NONE, SETTING, SPENT, TERM, TWICE};
 use crate::panel::{CARDS, SETS, STEPS, TERMS};
 use crate::saying::numbers::{counted, grouped};
+use crate::saying::searched::Searched;
 use crate::saying::{given, rule};
-use crate::typed::settings::Settings;
+use crate::typed::settings::{Range, Settings};
 use crate::typed::system::System;
 use crate::typed::text::{short, text_of, Source, Span};
 
@@ -41,31 +42,12 @@ pub fn listed(names: &[&str]) -> String {
     }
 }
 
-/// What is known once level k has ended without a find. Only sets without the signals from outside were searched.
-pub fn excluded(k: u64, outside: &[&str]) -> String {
-    match (k, outside) {
-        (0, _) => "without new signals it cannot be wired".into(),
-        (_, []) => format!("no set of up to {} exists", signals(k)),
-        (_, names) => {
-            format!("no patch of up to {} exists that leaves {} outside the new signals", signals(k), listed(names))
-        }
-    }
-}
-
-/// Among which sets those that were found are the smallest, where these are not all.
-pub fn among(outside: &[&str]) -> String {
-    match outside {
-        [] => String::new(),
-        names => format!(" among those that leave {} outside the new signals", listed(names)),
-    }
-}
-
 /// What is known where the walk stopped in a level.
-fn stopped(reply: &Reply, outside: &[&str]) -> String {
+fn stopped(reply: &Reply, searched: &Searched) -> String {
     let place = format!("stopped in level {} after {}", reply.order, counted(reply.steps, "step"));
     match reply.order {
         0 => place,
-        level => format!("{}; {place}", excluded(level - 1, outside)),
+        level => format!("{}; {place}", searched.excluded(level - 1)),
     }
 }
 
@@ -107,25 +89,25 @@ pub fn said(reply: &Reply, settings: &Settings, system: &System, sources: &[Sour
             }
         }
         _ => match &system.given {
-            Some(set) => return given::said(reply, set, system, sources),
-            None => planned(reply, settings, &system.outside()),
+            Some(set) => return given::said(reply, set, settings, system, sources),
+            None => planned(reply, settings, &Searched::of(system, settings)),
         },
     };
     Said { words, places }
 }
 
-fn planned(reply: &Reply, settings: &Settings, outside: &[&str]) -> String {
+fn planned(reply: &Reply, settings: &Settings, searched: &Searched) -> String {
     match reply.code {
-        DONE => done(reply, outside),
-        NONE => none(reply, outside),
-        FULL => full(reply, settings, outside),
-        SPENT => spent(reply, outside),
+        DONE => done(reply, searched),
+        NONE => none(reply, searched),
+        FULL => full(reply, settings, searched),
+        SPENT => spent(reply, searched),
         code => format!("Code {code}, which planning never gives."),
     }
 }
 
-fn done(reply: &Reply, outside: &[&str]) -> String {
-    let (size, among) = (signals(reply.order), among(outside));
+fn done(reply: &Reply, searched: &Searched) -> String {
+    let (size, among) = (signals(reply.order), searched.among());
     let found = match (reply.order, reply.count) {
         (0, _) => format!("Nothing needs to be added: {QUADRATIC}."),
         (_, 1) => format!("Found: 1 smallest set{among}, of {size}, and it is the only one."),
@@ -138,9 +120,7 @@ fn setting(settings: &Settings) -> String {
     let faults: Vec<String> = settings
         .out_of_range()
         .iter()
-        .map(|(option, count, least, most)| {
-            format!("{option} is {}, and may be {} to {}", grouped(count.digits()), grouped(least), grouped(most))
-        })
+        .map(|(option, count, range)| format!("{option} is {}, and may be {}", grouped(count.digits()), taken(range)))
         .collect();
     if faults.is_empty() {
         return "Refused: a setting is out of range.".into();
@@ -148,7 +128,13 @@ fn setting(settings: &Settings) -> String {
     format!("Refused: {}.", faults.join("; "))
 }
 
-fn none(reply: &Reply, outside: &[&str]) -> String {
+/// The numbers that an option takes.
+fn taken(range: &Range) -> String {
+    let open = range.open.map_or(String::new(), |open| format!(", or {open} for the full kit"));
+    format!("{} to {}{open}", grouped(range.least), grouped(range.most))
+}
+
+fn none(reply: &Reply, searched: &Searched) -> String {
     let cap = reply.order.saturating_sub(1);
     let further = match cap {
         CARDS => "The box has no more cards than that.".to_string(),
@@ -156,39 +142,26 @@ fn none(reply: &Reply, outside: &[&str]) -> String {
     };
     format!(
         "None: {}.\nThe search up to there has ended, after {}. {further}{}",
-        excluded(cap, outside),
+        searched.excluded(cap),
         counted(reply.steps, "step"),
-        if cap == 0 { String::new() } else { or_a_knob(outside) }
+        if cap == 0 { String::new() } else { searched.left_out() }
     )
 }
 
-/// What may help where signals from outside stand in the way of new ones.
-fn or_a_knob(outside: &[&str]) -> String {
-    let (one, option) = match outside {
-        [] => return String::new(),
-        [name] => (name.to_string(), format!("--knob {name}")),
-        names => (format!("one of {}", listed(names)), "--knob".to_string()),
-    };
-    format!(
-        "\nIf {one} never moves during a run, it is a knob, which new signals may hold: {option} enters it without \
-         the mark."
-    )
-}
-
-fn spent(reply: &Reply, outside: &[&str]) -> String {
+fn spent(reply: &Reply, searched: &Searched) -> String {
     let further = match reply.steps {
         STEPS => "No higher limit is taken.",
         _ => "--steps sets another limit.",
     };
     format!(
         "Spent: {}, the limit.\nSets of {} have not been searched to the end, so nothing is said of them. {further}",
-        stopped(reply, outside),
+        stopped(reply, searched),
         signals(reply.order)
     )
 }
 
-fn full(reply: &Reply, settings: &Settings, outside: &[&str]) -> String {
-    let stopped = stopped(reply, outside);
+fn full(reply: &Reply, settings: &Settings, searched: &Searched) -> String {
+    let stopped = stopped(reply, searched);
     if reply.order == 0 {
         return format!("Full: nothing needs to be added, and there is no room to list the empty set; {stopped}.");
     }
@@ -231,6 +204,11 @@ mod tests {
         words_with(reply, &Settings::default(), TEXT).words
     }
 
+    /// The same on a junior kit.
+    fn words_junior(reply: [u64; 5], degree: u64) -> String {
+        words_with(reply, &Settings { degree: degree.into(), ..Settings::default() }, TEXT).words
+    }
+
     #[test]
     fn code_0() {
         assert_eq!(
@@ -255,6 +233,10 @@ mod tests {
             words_with([1, 0, 0, 0, 0], &settings, TEXT).words,
             "Refused: --cards is 7, and may be 0 to 6; --steps is 0, and may be 1 to 1,000,000,000."
         );
+        for degree in [0, 1, 10, 323, 325] {
+            let refused = format!("Refused: --degree is {degree}, and may be 2 to 9, or 324 for the full kit.");
+            assert_eq!(words_junior([1, 0, 0, 0, 0], degree), refused);
+        }
     }
 
     #[test]
@@ -379,15 +361,73 @@ mod tests {
     }
 
     #[test]
+    fn what_is_found_for_a_junior_kit_keeps_its_limit() {
+        assert_eq!(
+            words_junior([0, 2, 1, 19, 0], 3),
+            "Found: 1 smallest set among those whose new signals have total degree up to 3, of 2 new signals, and it \
+             is the only one.\nThe whole search has ended, after 19 steps."
+        );
+        assert!(words_junior([0, 2, 2, 21, 0], 4).starts_with(
+            "Found: 2 smallest sets among those whose new signals have total degree up to 4, of 2 new signals each, \
+             and these are all.\n"
+        ));
+        assert_eq!(words_junior([0, 0, 1, 1, 0], 2), words([0, 0, 1, 1, 0]), "the same for every kit");
+        assert_eq!(words_junior([0, 2, 2, 23, 0], 324), words([0, 2, 2, 23, 0]), "the full kit");
+    }
+
+    #[test]
+    fn what_is_not_found_for_a_junior_kit_may_be_found_for_the_full_one() {
+        assert_eq!(
+            words_junior([5, 7, 0, 40, 0], 2),
+            "None: no set of up to 6 new signals of total degree up to 2 exists.\n\
+             The search up to there has ended, after 40 steps. The box has no more cards than that.\n\
+             The search was among new signals of total degree up to 2. The full kit may have a set: without --degree \
+             it is asked."
+        );
+        assert_eq!(words_junior([5, 1, 0, 1, 0], 2), words([5, 1, 0, 1, 0]), "no kit is wired without new signals");
+        for (code, begins) in [(6, "Full"), (7, "Spent")] {
+            let said = words_junior([code, 2, 0, 9, 0], 3);
+            let expected = format!("{begins}: no set of up to 1 new signal of total degree up to 3 exists; stopped in");
+            assert!(said.starts_with(&expected) && !said.contains("full kit"), "{said}");
+            let first = words_junior([code, 1, 0, 9, 0], 3);
+            assert!(
+                first.starts_with(&format!("{begins}: without new signals it cannot be wired; stopped")),
+                "{first}"
+            );
+        }
+    }
+
+    #[test]
+    fn no_set_is_denied_without_the_limit() {
+        for code in [5, 6, 7] {
+            for order in 0..8 {
+                let said = words_junior([code, order, 0, 9, 0], 5);
+                let limited = said.matches("new signals of total degree up to 5 exists").count()
+                    + said.matches("new signal of total degree up to 5 exists").count();
+                assert_eq!(said.matches("no set").count(), limited, "{said}");
+            }
+        }
+    }
+
+    #[test]
     fn smallest_is_said_of_a_whole_search_alone() {
         for code in 0..8 {
             for order in 0..8 {
                 let reply = [code, order, 1, 1, 1];
                 let may = code == 0 && 0 < order;
-                for (said, fed) in [(words(reply), false), (words_fed(reply, "u"), true)] {
+                for (said, fed, junior) in [
+                    (words(reply), false, false),
+                    (words_fed(reply, "u"), true, false),
+                    (words_junior(reply, 3), false, true),
+                ] {
                     let said = said.to_lowercase();
                     assert_eq!(said.contains("smallest"), may, "{said}");
                     assert_eq!(said.contains("among those that leave u outside"), may && fed, "{said}");
+                    assert_eq!(
+                        said.contains("among those whose new signals have total degree"),
+                        may && junior,
+                        "{said}"
+                    );
                     for boast in ["minimal", "optimal", "best", "fewest", "found:"] {
                         assert!(may || !said.contains(boast), "{said}");
                     }

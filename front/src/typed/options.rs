@@ -60,6 +60,7 @@ pub fn options(arguments: impl IntoIterator<Item = String>) -> Result<Options, S
             "--cards" => options.settings.cards = number()?,
             "--steps" => options.settings.steps = number()?,
             "--sets" => options.settings.sets = number()?,
+            "--degree" => options.settings.degree = number()?,
             "--set" => {
                 let which = number()?.value().filter(|&which| which != 0);
                 options.settings.which = which.ok_or(format!("{name} takes the number of a set, from 1"))?;
@@ -83,7 +84,8 @@ const KNOB: &str = "--knob";
 const SIGNAL: &str = "--signal";
 
 /// The options that have a value.
-const VALUED: [&str; 10] = ["--cards", "--steps", "--sets", "--set", THIN, GIVEN, KNOB, SIGNAL, "--svg", "--file"];
+const VALUED: [&str; 11] =
+    ["--cards", "--steps", "--sets", "--degree", "--set", THIN, GIVEN, KNOB, SIGNAL, "--svg", "--file"];
 
 /// Those that limit a search.
 const LIMITS: [&str; 3] = ["--cards", "--steps", "--sets"];
@@ -200,8 +202,18 @@ mod tests {
     }
 
     #[test]
+    fn a_kit_goes_with_whatever_is_asked() {
+        for others in [&["--cards", "2", "--sets", "5"][..], &["--thin", "x^2", "--set", "2"], &["--given", "x^2"]] {
+            let degree = |word: &str| read(&[&[word], others].concat()).unwrap().settings.degree;
+            assert_eq!(degree("--degree=3"), 3.into());
+            assert_eq!(degree("--degree=324"), Settings::default().degree, "the full kit");
+        }
+    }
+
+    #[test]
     fn numbers_out_of_range_are_for_the_planner() {
         assert!(read(&["--cards", "99"]).is_ok());
+        assert!(read(&["--degree", "10"]).is_ok());
         assert!(read(&["--steps", "99999999999999999999999"]).is_ok());
     }
 
@@ -213,6 +225,9 @@ mod tests {
             (vec!["--cards"], "needs a value"),
             (vec!["--cards", "two"], "whole number"),
             (vec!["--steps", "-1"], "whole number"),
+            (vec!["--degree"], "needs a value"),
+            (vec!["--degree", "three"], "whole number"),
+            (vec!["--degrees", "3"], "--degrees is no option"),
             (vec!["--steps", "1e9"], "whole number"),
             (vec!["--set", "0"], "from 1"),
             (vec!["--json=yes"], "takes no value"),

@@ -1,6 +1,6 @@
-//! How far the planner may go: cards, steps and room.
+//! How far the planner may go: cards, steps and room; and for which kit.
 
-use crate::panel::{CARDS, SETS, STEPS, USUAL_SETS, USUAL_STEPS};
+use crate::panel::{CARDS, FULL_DEGREE, LEAST_DEGREE, MOST_DEGREE, SETS, STEPS, USUAL_SETS, USUAL_STEPS};
 
 /// A number as typed. It may be too large for the planner, which then refuses it.
 #[derive(Debug, Clone, PartialEq)]
@@ -28,10 +28,6 @@ impl Count {
     pub fn value(&self) -> Option<u64> {
         self.0.parse().ok()
     }
-
-    fn within(&self, least: u64, most: u64) -> bool {
-        self.value().is_some_and(|v| least <= v && v <= most)
-    }
 }
 
 impl From<u64> for Count {
@@ -48,23 +44,58 @@ pub struct Settings {
     pub steps: Count,
     /// The room, in sets.
     pub sets: Count,
+    /// The most that the total degree of a new signal may be: a junior kit's limit, or what stands for the full kit.
+    pub degree: Count,
     /// The number of the set that is wired, from 1.
     pub which: u64,
+}
+
+/// The numbers that an option takes: from the least to the most, and for a kit's limit also what stands for none.
+#[derive(Debug, Clone, Copy, PartialEq)]
+pub struct Range {
+    pub least: u64,
+    pub most: u64,
+    pub open: Option<u64>,
+}
+
+impl Range {
+    fn of(least: u64, most: u64) -> Range {
+        Range { least, most, open: None }
+    }
+
+    fn takes(&self, count: &Count) -> bool {
+        count.value().is_some_and(|v| self.least <= v && v <= self.most || self.open == Some(v))
+    }
 }
 
 impl Default for Settings {
     /// As document 01's program plans.
     fn default() -> Settings {
-        Settings { cards: CARDS.into(), steps: USUAL_STEPS.into(), sets: USUAL_SETS.into(), which: 1 }
+        Settings {
+            cards: CARDS.into(),
+            steps: USUAL_STEPS.into(),
+            sets: USUAL_SETS.into(),
+            degree: FULL_DEGREE.into(),
+            which: 1,
+        }
     }
 }
 
 impl Settings {
-    /// The options that are out of range: option, typed number, least and most.
-    pub fn out_of_range(&self) -> Vec<(&'static str, &Count, u64, u64)> {
-        let all =
-            [("--cards", &self.cards, 0, CARDS), ("--steps", &self.steps, 1, STEPS), ("--sets", &self.sets, 0, SETS)];
-        all.into_iter().filter(|(_, count, least, most)| !count.within(*least, *most)).collect()
+    /// The options that are out of range: option, typed number, and what the option takes.
+    pub fn out_of_range(&self) -> Vec<(&'static str, &Count, Range)> {
+        let all = [
+            ("--cards", &self.cards, Range::of(0, CARDS)),
+            ("--steps", &self.steps, Range::of(1, STEPS)),
+            ("--sets", &self.sets, Range::of(0, SETS)),
+            ("--degree", &self.degree, Range { open: Some(FULL_DEGREE), ..Range::of(LEAST_DEGREE, MOST_DEGREE) }),
+        ];
+        all.into_iter().filter(|(_, count, range)| !range.takes(count)).collect()
+    }
+
+    /// The limit that is printed on a junior kit; nothing for the full kit, and for a number that no kit has.
+    pub fn junior(&self) -> Option<u64> {
+        self.degree.value().filter(|degree| (LEAST_DEGREE..=MOST_DEGREE).contains(degree))
     }
 }
 
@@ -101,5 +132,19 @@ mod tests {
         assert!(options(6, 1_000_000_000, 20_000).is_empty());
         assert_eq!(options(7, 0, 20_001), ["--cards", "--steps", "--sets"]);
         assert_eq!(options(6, 1_000_000_001, 0), ["--steps"]);
+    }
+
+    #[test]
+    fn kits() {
+        let kit = |degree: &str| Settings { degree: Count::of(degree).unwrap(), ..Settings::default() };
+        for degree in 2..=9 {
+            let junior = kit(&degree.to_string());
+            assert_eq!((junior.junior(), junior.out_of_range()), (Some(degree), vec![]));
+        }
+        assert_eq!((kit("324"), kit("324").junior()), (Settings::default(), None));
+        for degree in ["0", "1", "10", "323", "325", "99999999999999999999999"] {
+            let none = kit(degree);
+            assert_eq!((none.junior(), none.out_of_range()[0].0), (None, "--degree"), "{degree}");
+        }
     }
 }

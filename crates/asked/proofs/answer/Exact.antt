@@ -22,14 +22,14 @@ pub answered-lines : (a : Asked) (input : List ℕ) (p : Prepared) (sets setsAft
 unfolding answered
 answered-lines (Plan s) input p sets setsAfter wires wiresAfter h long e =
     prepared-lines s input (roomy s input (omega arith) e)
-answered-lines (Thin n marks which) input p sets setsAfter wires wiresAfter h long e =
-    rw (← long) (thin-prepared-lines (panelOf n marks) which (termsIn input) (setIn input) e)
-answered-lines (Wire n marks) input p sets setsAfter wires wiresAfter h long e = wire-prepared-lines (panelOf n marks) (termsIn input) (setIn input) e
+answered-lines (Thin n marks degree which) input p sets setsAfter wires wiresAfter h long e =
+    rw (← long) (thin-prepared-lines (panelOf n marks degree) which (termsIn input) (setIn input) e)
+answered-lines (Wire n marks degree) input p sets setsAfter wires wiresAfter h long e = wire-prepared-lines (panelOf n marks degree) (termsIn input) (setIn input) e
 answered-lines Wrong input p sets setsAfter wires wiresAfter h long e = rw (e .0) (setting-line setsAfter wiresAfter)
 
 pub asked-determined : (a : Asked) (input sets wires : List ℕ) (p p' : Prepared) (b b' w w' : List ℕ)
     → Answers a input p sets b wires w → Answers a input p' sets b' wires w' → (p ≡ p') × (b ≡ b') × (w ≡ w')
 asked-determined (Plan s) input sets wires p p' b b' w w' e e' = prepare-determined e e'
-asked-determined (Thin n marks which) input sets wires p p' b b' w w' e e' = prepare-determined e e'
-asked-determined (Wire n marks) input sets wires p p' b b' w w' e e' = prepare-determined e e'
+asked-determined (Thin n marks degree which) input sets wires p p' b b' w w' e e' = prepare-determined e e'
+asked-determined (Wire n marks degree) input sets wires p p' b b' w w' e e' = prepare-determined e e'
 asked-determined Wrong input sets wires p p' b b' w w' e e' = (e .0 ∙ sym (e' .0), e .1 ∙ sym (e' .1), e .2 ∙ sym (e' .2))

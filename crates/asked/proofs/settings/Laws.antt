@@ -13,23 +13,24 @@ numbered-roomy : (x : Number) (f : ℕ → Asked) → ((v : ℕ) → Roomy (f v)
 numbered-roomy (Of v) f h = h v
 numbered-roomy Nothing f h = tt
 
-panelled-roomy : (x y : Number) (f : ℕ → ℕ → Asked) → ((n marks : ℕ) → Roomy (f n marks)) → Roomy (panelled x y f)
-panelled-roomy x y f h = numbered-roomy x _ (λ n. numbered-roomy y (f n) (h n))
+panelled-roomy : (x y z : Number) (f : ℕ → ℕ → ℕ → Asked) → ((n marks degree : ℕ) → Roomy (f n marks degree)) → Roomy (panelled x y z f)
+panelled-roomy x y z f h = numbered-roomy x _ (λ n. numbered-roomy y _ (λ marks. numbered-roomy z (f n marks) (h n marks)))
 
-within-roomy : (n marks cap limit sets which : ℕ) → Roomy (within n marks cap limit sets which)
-within-roomy n marks cap limit sets which =
-    let s : Settings = record { n = n; marks = marks; cap = cap; limit = limit; room = sets; which = which } in
+within-roomy : (n marks degree cap limit sets which : ℕ) → Roomy (within n marks degree cap limit sets which)
+within-roomy n marks degree cap limit sets which =
+    let s : Settings = record { n = n; marks = marks; degree = degree; cap = cap; limit = limit; room = sets; which = which } in
     cond-cases Roomy (leb sets mostSets) (Plan s) Wrong (leb→le sets mostSets) (λ _. tt)
 
-pub asked-roomy : (a b c d e f : Number) → Roomy (asked a b c d e f)
+pub asked-roomy : (a b c d e f g : Number) → Roomy (asked a b c d e f g)
 unfolding asked
-asked-roomy a b c d e f =
-    panelled-roomy a b _ (λ n marks. numbered-roomy c _ (λ cap. numbered-roomy d _ (λ limit. numbered-roomy e _ (λ sets. numbered-roomy f _ (within-roomy n marks cap limit sets)))))
+asked-roomy a b c d e f g =
+    panelled-roomy a b c _
+    (λ n marks degree. numbered-roomy d _ (λ cap. numbered-roomy e _ (λ limit. numbered-roomy f _ (λ sets. numbered-roomy g _ (within-roomy n marks degree cap limit sets)))))
 
-pub thin-roomy : (a b c : Number) → Roomy (askedThin a b c)
+pub thin-roomy : (a b c d : Number) → Roomy (askedThin a b c d)
 unfolding askedThin
-thin-roomy a b c = panelled-roomy a b _ (λ n marks. numbered-roomy c (Thin n marks) (λ which. tt))
+thin-roomy a b c d = panelled-roomy a b c _ (λ n marks degree. numbered-roomy d (Thin n marks degree) (λ which. tt))
 
-pub wire-roomy : (a b : Number) → Roomy (askedWire a b)
+pub wire-roomy : (a b c : Number) → Roomy (askedWire a b c)
 unfolding askedWire
-wire-roomy a b = panelled-roomy a b Wire (λ n marks. tt)
+wire-roomy a b c = panelled-roomy a b c Wire (λ n marks degree. tt)

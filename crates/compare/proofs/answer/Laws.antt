@@ -22,19 +22,19 @@ told r o five bytes {end} {l} {m} e f s = subst (λ (x : Outcome). Answers (outc
 
 module _ (h : Head) (terms set : List ℕ) (size now : ℕ) (same : now ≡ size) {end : ℕ} {l m : List ℕ} where
   pub plan-told : h .operation ≡ 1 → (r : Reply) (five bytes : List ℕ)
-      → outcome r bytes ≡ planned (panelOf (h .n) (h .marks)) (h .cap) (h .limit) terms now → five ≡ inOrder (numbers r)
+      → outcome r bytes ≡ planned (panelOf (h .n) (h .marks) (h .degree)) (h .cap) (h .limit) terms now → five ≡ inOrder (numbers r)
       → Stands (caseLine five bytes) end l m → Answers (caseOf h terms set size) end l m bytes
   unfolding caseOf
   plan-told p r five bytes e f s = rw (eq-eqb (h .operation) 1 p) (told r _ five bytes (rw same at e) f s)
 
   pub wire-told : (h .operation ≡ 1 → ⊥) → h .operation ≡ 2 → (r : Reply) (five bytes : List ℕ)
-      → outcome r bytes ≡ wired (panelOf (h .n) (h .marks)) terms set now → five ≡ inOrder (numbers r)
+      → outcome r bytes ≡ wired (panelOf (h .n) (h .marks) (h .degree)) terms set now → five ≡ inOrder (numbers r)
       → Stands (caseLine five bytes) end l m → Answers (caseOf h terms set size) end l m bytes
   unfolding caseOf
   wire-told p q r five bytes e f s = rw (ne-eqb (h .operation) 1 p, eq-eqb (h .operation) 2 q) (told r _ five bytes (rw same at e) f s)
 
   pub thin-told : (h .operation ≡ 1 → ⊥) → (h .operation ≡ 2 → ⊥) → (r : Reply) (five bytes : List ℕ)
-      → outcome r bytes ≡ thinned (panelOf (h .n) (h .marks)) terms set now → five ≡ inOrder (numbers r)
+      → outcome r bytes ≡ thinned (panelOf (h .n) (h .marks) (h .degree)) terms set now → five ≡ inOrder (numbers r)
       → Stands (caseLine five bytes) end l m → Answers (caseOf h terms set size) end l m bytes
   unfolding caseOf
   thin-told p q r five bytes e f s = rw (ne-eqb (h .operation) 1 p, ne-eqb (h .operation) 2 q) (told r _ five bytes (rw same at e) f s)

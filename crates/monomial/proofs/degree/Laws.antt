@@ -1,15 +1,16 @@
--- The degree of a monomial of any width: a product adds it, degree below 2 means 1 or a variable, and degree below 3 a product of two of these. Assumes nothing.
+-- The degree of a monomial of any width: a product adds it, a bound on exponents bounds it, degree below 2 means 1 or a variable, and degree below 3
+-- a product of two of these. Assumes nothing.
 use mathlib.Core.Path.{_≡_, refl, sym, ap, ap₂, _∙_, subst}
 use mathlib.Core.Logic.{⊎-elim}
 use mathlib.Core.List.{[], _∷_, List·Memᴰ·head, List·Memᴰ·cases-cons, List·Memᴰ·not-nil, Memᴰ·map, Memᴰ·of-map}
-use Prim.Native.Nat.{ℕ, zero, suc, _+_, _<_}
+use Prim.Native.Nat.{ℕ, zero, suc, _+_, _*_, _≤_, _<_}
 use native.Mathlib.Omega.{arith}
 use lib.Dec.{T, eqb, ltb, eqb→eq, eqb-refl, ltb→lt, lt→ltb}
 use lib.ListN.{length, take, length-replicate}
 use Rattle.monomial.specs.Lists.{any, all, pointwise}
 use Rattle.monomial.specs.Monomial.{Mono, one, vars, constants}
 use Rattle.monomial.specs.Order.{same}
-use Rattle.monomial.specs.Product.{mul}
+use Rattle.monomial.specs.Product.{mul, AtMost}
 use Rattle.monomial.specs.Quotient.{divides}
 use Rattle.monomial.specs.Degree.{degree, within, low}
 use Rattle.monomial.specs.Claims.{_∈_, Within}
@@ -44,6 +45,12 @@ degree-mul [] [] h = refl
 degree-mul [] (y ∷ b) h = let z : ⊥ = omega arith in absurd z
 degree-mul (x ∷ a) [] h = let z : ⊥ = omega arith in absurd z
 degree-mul (x ∷ a) (y ∷ b) h = let ih : degree (mul a b) ≡ degree a + degree b = degree-mul a b (omega arith) in omega arith
+
+-- where each exponent is at most b, the degree is at most that for each variable
+pub degree-most : (b : ℕ) (m : Mono) → AtMost b m → degree m ≤ length m * b
+unfolding degree
+degree-most b [] h = omega arith
+degree-most b (e ∷ m) h = let ih : degree m ≤ length m * b = degree-most b m (h .1) in omega (arith, h .0)
 
 pub degree-one : (w : ℕ) → degree (one w) ≡ 0
 unfolding degree

@@ -24,6 +24,7 @@ use Rattle.wiring.specs.declared.panel.Panel.{Panel}
 use Rattle.wiring.specs.declared.reply.Reply.{Reply}
 use Rattle.wiring.specs.declared.reply.Reply.the-variants.{Done, Setting, Length, Term, Twice, Nothing, Full, Spent, BadSet, NotQuadratic}
 use Rattle.wiring.specs.Claims.{WellFormed, slope, Driven, derivativeIn, listIn, VerdictSays, QuadraticIn}
+use Rattle.wiring.proofs.kit.Laws.{buildable-part}
 use Rattle.wiring.proofs.reply.Laws.{same-reply, code-done}
 use Rattle.wiring.proofs.sets.Exact.{record-length, right-iff, right-recordable}
 use Rattle.wiring.proofs.sockets.Slopes.{slope-driven}
@@ -196,7 +197,7 @@ module _ (panel : Panel) (terms set : List ℕ) (size : ℕ) where
     each : (t : List Mono) → t ∈ thinnestIn panel terms set → Usable panel terms o t
     each t m =
         let l = found .smallest .each t m in
-        record { recordable = l .recordable; free = λ x h. formed .right .free x (l .part x h); quadratic = l .quadratic; size = l .size }
+        record { recordable = l .recordable; buildable = buildable-part panel (setOf set) t (l .part) (formed .right .buildable); quadratic = l .quadratic; size = l .size }
 
     -- whatever the buffer, it is called quadratic: done or full
     pub thin-judged : (t : List Mono) → t ∈ thinnestIn panel terms set → (room : ℕ) (r : Reply) (left : List ℕ) → outcome r left ≡ wired panel terms (setRecord t) room

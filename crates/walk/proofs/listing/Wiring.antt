@@ -13,7 +13,7 @@ use Rattle.wiring.specs.Terms.{records}
 use Rattle.wiring.specs.Sets.{setRecord}
 use Rattle.wiring.specs.Wires.{wireList}
 use Rattle.wiring.specs.Answers.{wired}
-use Rattle.wiring.specs.Claims.{Measured, Flawless, beyond, Free, Ranged, Recordable, derivativeIn, listIn}
+use Rattle.wiring.specs.Claims.{Measured, Flawless, beyond, Buildable, Ranged, Recordable, derivativeIn, listIn}
 use Rattle.wiring.specs.declared.panel.Panel.{Panel}
 use Rattle.wiring.specs.declared.reply.Reply.{Reply}
 use Rattle.wiring.specs.declared.reply.Reply.the-variants.{Done}
@@ -21,10 +21,10 @@ use Rattle.wiring.proofs.answers.Recorded.{recorded-judged, recorded-wired, rec
 use Rattle.walk.specs.Walk.{Finds}
 use Rattle.walk.specs.Claims.{QuadraticList, Laid}
 
--- a quadratic set of that many monomials, without signals, that can stand in a record
+-- a quadratic set of that many monomials that the kit can build and that can stand in a record
 pub record Usable (panel : Panel) (terms : List ℕ) (o : ℕ) (s : List Mono) : Type 0 where
   pub recordable : Recordable (panel .n) s
-  pub free : Free (panel .marks) s
+  pub buildable : Buildable panel s
   pub quadratic : QuadraticList (panel .n) (derivativeIn panel terms) s
   pub size : length s ≡ o
 
@@ -32,13 +32,13 @@ module _ (panel : Panel) (terms : List ℕ) (ranged : Ranged panel) (measured : 
   module _ (s : List Mono) (u : Usable panel terms o s) where
     -- whatever the buffer, it is called quadratic: done or full
     pub usable-judged : (size : ℕ) (r : Reply) (bytes : List ℕ) → outcome r bytes ≡ wired panel terms (setRecord s) size → (numbers r .code ≡ 0) ⊎ (numbers r .code ≡ 6)
-    usable-judged = recorded-judged panel terms ranged measured flawless s (u .recordable) (u .free) (u .quadratic)
+    usable-judged = recorded-judged panel terms ranged measured flawless s (u .recordable) (u .buildable) (u .quadratic)
 
     -- into 1,792 bytes or more
     pub usable-wires : (room : ℕ) → wiresBytes ≤ room → (r : Reply) (bytes : List ℕ) → outcome r bytes ≡ wired panel terms (setRecord s) room
         → r ≡ Done o (length (listIn panel terms (setRecord s))) 0
     usable-wires room h r bytes e =
-        recorded-wires panel terms ranged measured flawless s (u .recordable) (u .free) (u .quadratic) room h r bytes e
+        recorded-wires panel terms ranged measured flawless s (u .recordable) (u .buildable) (u .quadratic) room h r bytes e
         ∙ ap (λ (x : ℕ). Done x (length (listIn panel terms (setRecord s))) 0) (u .size)
 
   -- record number i of a list of such sets
@@ -55,7 +55,7 @@ module _ (panel : Panel) (terms : List ℕ) (ranged : Ranged panel) (measured : 
         outcome (Done o (length list) 0) (wireList list ++ replicate (room - wireBytes * length list) 0) ≡ wired panel terms (take setBytes (drop (setBytes * i) bytes)) room
     laid-wired room q =
         let list = listIn panel terms (setRecord set) in
-        let done = recorded-wired panel terms ranged measured flawless set (usable .recordable) (usable .free) (usable .quadratic) room q in
+        let done = recorded-wired panel terms ranged measured flawless set (usable .recordable) (usable .buildable) (usable .quadratic) room q in
         rw (laid .written i h) (ap (λ (x : ℕ). outcome (Done x (length list) 0) (wireList list ++ replicate (room - wireBytes * length list) 0)) (sym (usable .size)) ∙ done)
 
     -- and so it is said

@@ -1,13 +1,15 @@
 -- Closing by counting changes no listing and adds no step: beside the panel's walk that closes nothing, each level of planning finds the same sets in
--- no more steps, planning ends as that walk does, in no more steps, and back. With no marks that walk is document 01's. Assumes nothing.
+-- no more steps, planning ends as that walk does, in no more steps, and back. With no marks and the full kit that walk is document 01's. Assumes nothing.
 use mathlib.Core.Path.{_≡_, sym, ap, _∙_, subst}
+use mathlib.Core.Bool.{true}
 use mathlib.Core.List.{List, _++_}
 use Prim.Native.Nat.{ℕ, suc, _*_, _-_, _/_, _≤_}
+use native.Mathlib.Omega.{arith}
 use lib.ListN.{length, replicate}
 use Rattle.monomial.specs.Monomial.{Mono, width}
-use Rattle.wiring.specs.Panel.{setBytes}
+use Rattle.wiring.specs.Panel.{cards, setBytes}
 use Rattle.wiring.specs.Poly.{Poly}
-use Rattle.wiring.specs.Sockets.{panelOf, mayBe}
+use Rattle.wiring.specs.Sockets.{fullPanel, mayBe}
 use Rattle.wiring.specs.Terms.{records, system, CleanTerms}
 use Rattle.wiring.specs.Reply.{outcome, refused}
 use Rattle.wiring.specs.declared.panel.Panel.{Panel}
@@ -15,11 +17,12 @@ use Rattle.wiring.specs.declared.reply.Reply.the-variants.{Done, Nothing, Full}
 use Rattle.wiring.specs.Claims.{beyond}
 use Rattle.wiring.proofs.terms.Exact.{clean-exact}
 use Rattle.wiring.proofs.terms.Laws.{clean-for}
-use Rattle.walk.specs.Walk.{Finds, Rules, allowing, bare, rulesOf, walked}
+use Rattle.walk.specs.Walk.{Finds, Rules, Step, allowing, bare, counted, rulesOf, level, walked}
 use Rattle.walk.specs.Plan.{Ending, done, none, fullAt, plan, setsBytes, said, planned}
-use Rattle.walk.specs.Claims.{Alike, NoMore, Accepted}
-use Rattle.walk.proofs.Rules.{allowing-orderly, unmarked-open}
-use Rattle.walk.proofs.Alike.{plan-alike, done-back, none-back}
+use Rattle.walk.specs.Claims.{Pruned, Alike, NoMore, Accepted}
+use Rattle.walk.proofs.Rules.{allowing-orderly}
+use Rattle.walk.proofs.Kit.{full-level, unmarked-open}
+use Rattle.walk.proofs.Alike.{alike-of, plan-alike, done-back, none-back}
 use Rattle.walk.proofs.Counting.{counted-alike}
 use Rattle.walk.proofs.children.Laws.{empty-walked}
 use Rattle.walk.proofs.plan.Exact.{planned-walk}
@@ -79,12 +82,20 @@ module _ (panel : Panel) (cap limit : ℕ) (terms : List ℕ) (a : Accepted pane
         let d = subst (NoMore closed-plan) e closing-ends in
         (d .0, d .1, said-full o (d .0) size ∙ answered (fullAt o (d .0)) (d .2))
 
--- with no marks this is beside document 01's walk
-pub unmarked-closing : (n cap limit : ℕ) (terms : List ℕ) → Accepted (panelOf n 0) cap limit terms
-    → Alike bare (rulesOf (panelOf n 0)) n (system (records terms)) cap
+-- with no marks and the full kit this is beside document 01's walk
+pub unmarked-closing : (n cap limit : ℕ) (terms : List ℕ) → Accepted (fullPanel n) cap limit terms
+    → Alike bare (rulesOf (fullPanel n)) n (system (records terms)) cap
 unmarked-closing n cap limit terms a =
-    subst (λ (r : Rules). Alike r (rulesOf (panelOf n 0)) n (system (records terms)) cap) (unmarked-open n) (plan-closing (panelOf n 0) cap limit terms a)
+    let capped : cap ≤ cards = a .range .capped in
+    let six : CleanTerms terms = clean (fullPanel n) cap limit terms a in
+    let beside : Alike bare (counted bare) n (system (records terms)) cap =
+    counted-alike bare (allowing-orderly (λ m. true)) n terms six empty-walked cap capped in
+    alike-of bare (rulesOf (fullPanel n)) n (system (records terms)) cap
+    (λ k h. subst (λ (es : List Step). Pruned es (level bare n (system (records terms)) k)) (sym (bare-level k (omega arith) six)) (beside .pruned k h))
+  where
+    bare-level : (k : ℕ) → k ≤ cards → CleanTerms terms → level (rulesOf (fullPanel n)) n (system (records terms)) k ≡ level (counted bare) n (system (records terms)) k
+    bare-level k low six = full-level n 0 terms six k low ∙ ap (λ (r : Rules). level (counted r) n (system (records terms)) k) unmarked-open
 
-pub unmarked-ends : (n cap limit : ℕ) (terms : List ℕ) → Accepted (panelOf n 0) cap limit terms → (room : ℕ)
-    → NoMore (plan (rulesOf (panelOf n 0)) n (system (records terms)) limit room cap) (plan bare n (system (records terms)) limit room cap)
-unmarked-ends n cap limit terms a = plan-alike bare (rulesOf (panelOf n 0)) n (system (records terms)) cap (unmarked-closing n cap limit terms a) limit
+pub unmarked-ends : (n cap limit : ℕ) (terms : List ℕ) → Accepted (fullPanel n) cap limit terms → (room : ℕ)
+    → NoMore (plan (rulesOf (fullPanel n)) n (system (records terms)) limit room cap) (plan bare n (system (records terms)) limit room cap)
+unmarked-ends n cap limit terms a = plan-alike bare (rulesOf (fullPanel n)) n (system (records terms)) cap (unmarked-closing n cap limit terms a) limit

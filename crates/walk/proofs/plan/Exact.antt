@@ -9,9 +9,10 @@ use native.Mathlib.Omega.{arith}
 use borrow.Author.Tests.{le-leb, ne-eqb, eqb-true, eqb-false}
 use lib.Dec.{T, eqb, leb→le}
 use lib.ListN.{length, replicate, length-replicate}
+use Rattle.monomial.specs.Lists.{arrangeBy}
 use Rattle.monomial.specs.Monomial.{Mono, width}
-use Rattle.monomial.specs.Order.{same}
-use Rattle.monomial.specs.Claims.{_∈_, empty}
+use Rattle.monomial.specs.Order.{same, before}
+use Rattle.monomial.specs.Claims.{_∈_}
 use Rattle.monomial.proofs.Tests.{Tested, passed, failed, test, T→is, nT→is, is→T, is→nT, and-l, and-r}
 use Rattle.wiring.specs.Panel.{cards, setBytes, wiresBytes, mostSteps}
 use Rattle.wiring.specs.Sockets.{mayBe}
@@ -20,34 +21,36 @@ use Rattle.wiring.specs.Poly.{Poly, plain}
 use Rattle.wiring.specs.Derivative.{derivative}
 use Rattle.wiring.specs.Signals.{signals}
 use Rattle.wiring.specs.Reply.{numbers, Outcome, outcome, refused}
-use Rattle.wiring.specs.Terms.{records, lengthRight, fault, system}
+use Rattle.wiring.specs.Terms.{records, lengthRight, fault, system, CleanTerms}
 use Rattle.wiring.specs.Sets.{setRecord}
 use Rattle.wiring.specs.Answers.{unlessFault, wired}
 use Rattle.wiring.specs.declared.reply.Reply.{Reply}
 use Rattle.wiring.specs.declared.reply.Reply.the-variants.{Done, Setting, Length, Term, Twice, Nothing, Full, Spent, BadSet, NotQuadratic}
 use Rattle.wiring.specs.declared.terms.Fault.{Fault}
 use Rattle.wiring.specs.declared.terms.Fault.the-variants.{Clean, Wrong, Repeated}
-use Rattle.wiring.specs.Claims.{Measured, Breaks, Repeats, beyond, derivativeIn, listIn}
+use Rattle.wiring.specs.Claims.{Wide, Measured, Breaks, Repeats, beyond, Buildable, derivativeIn, listIn}
 use Rattle.wiring.proofs.reply.Laws.{same-reply, code-done}
 use Rattle.wiring.proofs.terms.Exact.{length-exact, wrong-exact, repeated-exact, clean-exact}
 use Rattle.wiring.proofs.sets.Exact.{record-length}
+use Rattle.wiring.proofs.quadratic.Definition1.{quadratic-same}
 use Rattle.wiring.proofs.sockets.Slopes.{slope-is}
 use Rattle.wiring.proofs.terms.Laws.{clean-for}
 use Rattle.wiring.proofs.answers.Exact.{panel-in, panel-out}
 use Rattle.walk.specs.Walk.{allowing, rulesOf}
 use Rattle.walk.specs.Plan.{Ending, done, none, fullAt, spentAt, plan, setsBytes, said, settingsRight, planned}
-use Rattle.walk.specs.Claims.{Barren, Ends, Lacks, Fills, Spends, Fate, Listed, InRange, Accepted, setsAt, PlanSays, planLeaves, NoneBelow, Planned, Finished, Counts}
+use Rattle.walk.specs.Claims.{Barren, Ends, Lacks, Fills, Spends, Fate, Listed, InRange, Accepted, setsAt, PlanSays, planLeaves, NoneBelow, Planned, Finished, QuadraticList}
 use Rattle.walk.proofs.Stops.{fate, fate-exact, done-exact}
-use Rattle.walk.proofs.Rules.{allowing-orderly, free-counts, counts-free}
+use Rattle.walk.proofs.Rules.{allowing-orderly}
+use Rattle.walk.proofs.Kit.{buildable-counts, counts-built, none-smaller-limit, all-limit}
 use Rattle.walk.proofs.Counting.{counted-sparing}
 use Rattle.walk.proofs.children.Laws.{empty-walked}
 use Rattle.walk.proofs.Sound.{empty-proper}
-use Rattle.walk.proofs.Smallest.{none-smaller, plan-done, none-smaller-by, finished-by}
+use Rattle.walk.proofs.Smallest.{plan-done, finished-by}
 use Rattle.walk.proofs.listing.Laid.{sets-laid}
 use Rattle.walk.proofs.listing.Wiring.{Usable, usable-judged, usable-wires}
 
 -- ---- the settings
-range-out : (panel : Panel) (cap limit : ℕ) → T (settingsRight panel cap limit) → InRange panel cap limit
+pub range-out : (panel : Panel) (cap limit : ℕ) → T (settingsRight panel cap limit) → InRange panel cap limit
 unfolding settingsRight
 range-out panel cap limit t = record {
   ranged = panel-out panel (search (and-l, and-r, t));
@@ -199,39 +202,67 @@ module _ (panel : Panel) (cap limit : ℕ) (terms : List ℕ) (size : ℕ) where
       ↔ ((Accepted panel cap limit terms × Spends (rulesOf panel) (panel .n) (system (records terms)) limit (size / setBytes) cap o k) × (bytes ≡ replicate size 0))
   says-spent o k bytes = plan-exact (Spent o k) bytes
 
-  -- ---- none, full and spent: no quadratic list without signals has fewer members than the order, since by the panel's rules these count
-  -- on V of what counts the derivative is that of what has one
-  slope-counts : Accepted panel cap limit terms → (s : List Mono) → Counts (rulesOf panel) s → (z : Mono) → z ∈ signals width (panel .n) s
-      → derivative plain fs z ≡ derivativeIn panel terms z
-  slope-counts a s x = slope-is panel terms (clean-exact panel (records terms) beyond .1 (a .flawless)) s (counts-free panel s x)
+-- ---- of accepted input: what the kit can build is what counts by its rules, whose walk is the panel's
+module _ (panel : Panel) (cap limit : ℕ) (terms : List ℕ) (a : Accepted panel cap limit terms) where
+  abbrev system-of : List (Poly Mono)
+  system-of = system (records terms)
 
-  none-below : Accepted panel cap limit terms → (j : ℕ) → Barren (rulesOf panel) (panel .n) (system (records terms)) j → NoneBelow panel terms j
-  none-below a j b s w f q =
-      none-smaller-by (rulesOf panel) (panel .n) (derivative plain fs) (derivativeIn panel terms) (slope-counts a) j
-      (none-smaller (rulesOf panel) (allowing-orderly (mayBe panel)) empty (panel .n) fs (counted-sparing (allowing (mayBe panel)) (panel .n) fs) j b)
-      s w (free-counts panel s f) q
+  clean-of : fault panel (records terms) ≡ Clean
+  clean-of = clean-exact panel (records terms) beyond .1 (a .flawless)
 
-  pub plan-lacks : (o k : ℕ) (bytes : List ℕ) → outcome (Nothing o k) bytes ≡ planned panel cap limit terms size → (o ≡ suc cap) × NoneBelow panel terms o
-  plan-lacks o k bytes e = let f = says-none o k bytes .0 e .0 in (f .1 .last, none-below (f .0) o (f .1 .barren))
+  clean-6 : CleanTerms terms
+  clean-6 = clean-for panel width terms (a .range .ranged .high) clean-of
 
-  pub plan-fills : (o k : ℕ) (bytes : List ℕ) → outcome (Full o k) bytes ≡ planned panel cap limit terms size → NoneBelow panel terms o
-  plan-fills o k bytes e = let f = says-full o k bytes .0 e .0 in none-below (f .0) o (f .1 .barren)
+  -- on V of it the derivative is that of what has one
+  slope-built : (s : List Mono) → Buildable panel s → (z : Mono) → z ∈ signals width (panel .n) s → derivative plain system-of z ≡ derivativeIn panel terms z
+  slope-built s b = slope-is panel terms clean-of s (b .free)
 
-  pub plan-spends : (o k : ℕ) (bytes : List ℕ) → outcome (Spent o k) bytes ≡ planned panel cap limit terms size → NoneBelow panel terms o
-  plan-spends o k bytes e = let f = says-spent o k bytes .0 e .0 in none-below (f .0) o (f .1 .barren)
+  quadratic-built : (s : List Mono) → Buildable panel s → QuadraticList (panel .n) (derivativeIn panel terms) s → QuadraticList (panel .n) (derivative plain system-of) s
+  quadratic-built s b =
+      quadratic-same plain (signals width (panel .n) s) (derivativeIn panel terms) (derivative plain system-of) (λ z h. sym (slope-built s b z h))
+
+  -- where no level below j has a find, no quadratic list that the kit can build is smaller than j
+  none-below : (j : ℕ) → j ≤ suc cap → Barren (rulesOf panel) (panel .n) (system (records terms)) j → NoneBelow panel terms j
+  none-below j h f s w b q =
+      let capped : cap ≤ cards = a .range .capped in
+      none-smaller-limit panel (panel .n) terms clean-6 j (omega arith) f s w (buildable-counts panel s b) (quadratic-built s b q)
+
+  -- and each of j members is found at level j
+  all-below : (j : ℕ) → j ≤ cap → Barren (rulesOf panel) (panel .n) (system (records terms)) j → (s : List Mono) → Wide s → Buildable panel s
+      → QuadraticList (panel .n) (derivativeIn panel terms) s → length s ≡ j → arrangeBy same before s ∈ setsAt panel terms j
+  all-below j h f s w b q =
+      let capped : cap ≤ cards = a .range .capped in
+      all-limit panel (panel .n) terms clean-6 j (omega arith) f (omega arith) s w (buildable-counts panel s b) (quadratic-built s b q)
+
+-- ---- none, full and spent: no quadratic list that the kit can build has fewer members than the order
+module _ (panel : Panel) (cap limit : ℕ) (terms : List ℕ) (size o k : ℕ) (bytes : List ℕ) where
+  pub plan-lacks : outcome (Nothing o k) bytes ≡ planned panel cap limit terms size → (o ≡ suc cap) × NoneBelow panel terms o
+  plan-lacks e =
+      let f = says-none panel cap limit terms size o k bytes .0 e .0 in
+      let last : o ≡ suc cap = f .1 .last in
+      (last, none-below panel cap limit terms (f .0) o (omega arith) (f .1 .barren))
+
+  pub plan-fills : outcome (Full o k) bytes ≡ planned panel cap limit terms size → NoneBelow panel terms o
+  plan-fills e =
+      let f = says-full panel cap limit terms size o k bytes .0 e .0 in
+      let low : o ≤ cap = f .1 .low in
+      none-below panel cap limit terms (f .0) o (omega arith) (f .1 .barren)
+
+  pub plan-spends : outcome (Spent o k) bytes ≡ planned panel cap limit terms size → NoneBelow panel terms o
+  plan-spends e =
+      let f = says-spent panel cap limit terms size o k bytes .0 e .0 in
+      let low : o ≤ cap = f .1 .low in
+      none-below panel cap limit terms (f .0) o (omega arith) (f .1 .barren)
 
 -- ---- done: what the bytes say
 module _ (panel : Panel) (cap limit : ℕ) (terms : List ℕ) (size : ℕ) where
-  clean-of : Accepted panel cap limit terms → fault panel (records terms) ≡ Clean
-  clean-of a = clean-exact panel (records terms) beyond .1 (a .flawless)
-
   pub plan-finds : (o c k : ℕ) (bytes : List ℕ) → outcome (Done o c k) bytes ≡ planned panel cap limit terms size → Planned panel cap limit terms size o c k bytes
   plan-finds o c k bytes e = record {
     accepted = a;
     finished = f;
-    free = λ s m. counts-free panel s (f .sets .each s m .extends);
-    none-below = λ s w g q. f .sets .none-smaller s w (free-counts panel s g) q;
-    all = λ s w g q h. f .sets .all s w (free-counts panel s g) q h;
+    buildable = λ s m. counts-built panel s (f .sets .each s m .extends);
+    none-below = let low : o ≤ cap = ends .low in none-below panel cap limit terms a o (omega arith) (ends .barren);
+    all = all-below panel cap limit terms a o (ends .low) (ends .barren);
     laid = sets-laid (setsAt panel terms o) c size bytes (λ s m. let r = f .sets .each s m .recordable in record-length s (r .few) (r .wide)) (says .0 .1)
         (omega (arith, f .roomy, says .0 .1)) (says .1);
   }
@@ -242,15 +273,18 @@ module _ (panel : Panel) (cap limit : ℕ) (terms : List ℕ) (size : ℕ) where
       a : Accepted panel cap limit terms
       a = says .0 .0
 
+      ends : Ends (rulesOf panel) (panel .n) (system (records terms)) limit (size / setBytes) cap o k (setsAt panel terms o)
+      ends = says .0 .2
+
       f : Finished (rulesOf panel) (panel .n) (system (records terms)) (derivativeIn panel terms) cap limit (size / setBytes) o k (setsAt panel terms o)
       f =
-          let system-of : List (Poly Mono) = system (records terms) in
+          let fs : List (Poly Mono) = system (records terms) in
           let few : panel .n ≤ width = a .range .ranged .high in
-          let ending = done-exact (rulesOf panel) (panel .n) system-of limit (size / setBytes) cap o k (setsAt panel terms o) .1 (says .0 .2) in
-          finished-by (rulesOf panel) (panel .n) (derivative plain system-of) (derivativeIn panel terms) (slope-counts panel cap limit terms size a)
-          system-of cap limit (size / setBytes) o k (setsAt panel terms o)
+          let ending = done-exact (rulesOf panel) (panel .n) fs limit (size / setBytes) cap o k (setsAt panel terms o) .1 ends in
+          finished-by (rulesOf panel) (panel .n) (derivative plain fs) (derivativeIn panel terms) (λ s x. slope-built panel cap limit terms a s (counts-built panel s x))
+          fs cap limit (size / setBytes) o k (setsAt panel terms o)
           (plan-done (rulesOf panel) (allowing-orderly (mayBe panel)) empty-walked (panel .n) (empty-proper (panel .n)) terms few
-          (clean-for panel (panel .n) terms (omega arith) (clean-of a)) (counted-sparing (allowing (mayBe panel)) (panel .n) system-of)
+          (clean-for panel (panel .n) terms (omega arith) (clean-of panel cap limit terms a)) (counted-sparing (allowing (mayBe panel)) (panel .n) fs)
           cap limit (size / setBytes) (a .range .capped) o k (setsAt panel terms o) ending)
 
   -- the buffer keeps its length
@@ -269,7 +303,7 @@ abbrev Found : Panel → List ℕ → ℕ → List Mono → Type 0
 Found panel terms o s = Listed (rulesOf panel) (panel .n) (derivativeIn panel terms) o s
 
 pub listed-usable : (panel : Panel) (terms : List ℕ) (o : ℕ) (s : List Mono) → Found panel terms o s → Usable panel terms o s
-listed-usable panel terms o s l = record { recordable = l .recordable; free = counts-free panel s (l .extends); quadratic = l .quadratic; size = l .size }
+listed-usable panel terms o s l = record { recordable = l .recordable; buildable = counts-built panel s (l .extends); quadratic = l .quadratic; size = l .size }
 
 module _ (panel : Panel) (cap limit : ℕ) (terms : List ℕ) (size : ℕ) (a : Accepted panel cap limit terms) (o : ℕ) (s : List Mono) (l : Found panel terms o s) where
   -- whatever the buffer, it is called quadratic: done or full

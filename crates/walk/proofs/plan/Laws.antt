@@ -25,10 +25,11 @@ use Rattle.wiring.proofs.terms.Laws.{clean-for}
 use Rattle.walk.specs.declared.walk.State.{State}
 use Rattle.walk.specs.declared.walk.Turn.{Turn}
 use Rattle.walk.specs.declared.walk.Turn.the-variants.{Going, Spent, Full}
-use Rattle.walk.specs.Walk.{Finds, Rules, rulesOf, opened, level, Run, ended, spent, full, run}
+use Rattle.walk.specs.Walk.{Finds, Rules, kitRules, opened, level, Run, ended, spent, full, run}
 use Rattle.walk.specs.Plan.{Ending, done, none, fullAt, settled, levels, plan, setsBytes, said, settingsRight, planned}
 use Rattle.walk.specs.Listing.{Shown}
 use Rattle.walk.specs.Turns.{Ended, Tells}
+use Rattle.walk.proofs.Kit.{kit-plan}
 use Rattle.walk.proofs.Steps.{level-opens}
 use Rattle.walk.proofs.Begins.{plan-begins}
 
@@ -239,11 +240,13 @@ module _ (panel : Panel) (cap limit : ℕ) (terms : List ℕ) (size : ℕ) where
       unfolding planned
       said-repeated h place q = rw (e, h, q, z)
 
-  -- what is not refused is walked, in the buffer that was cleared
-  pub said-walked : (answer : Outcome) (size' : ℕ) → answer ≡ said (plan (rulesOf panel) (panel .n) (system (records terms)) limit (size' / setBytes) cap) size' → size' ≡ size
+  -- what is not refused is walked by the rules of the kit, in the buffer that was cleared
+  pub said-walked : (answer : Outcome) (size' : ℕ) → answer ≡ said (plan (kitRules panel) (panel .n) (system (records terms)) limit (size' / setBytes) cap) size' → size' ≡ size
       → settingsRight panel cap limit ≡ true → lengthRight terms ≡ true → fault panel (records terms) ≡ Clean → answer ≡ planned panel cap limit terms size
   unfolding planned
-  said-walked answer size' a k e h q = rw (e, h, q, sym k) a
+  said-walked answer size' a k e h q =
+      let walk = kit-plan panel (panel .n) terms (settings-clean panel cap limit e terms q) cap (settings-low panel cap limit e) limit (size' / setBytes) in
+      rw (e, h, q, sym k) (a ∙ ap (λ (x : Ending). said x size') (sym walk))
 
 -- zeros are so many zeros as they are long
 pub zeros-long : (size : ℕ) (out : List ℕ) → length out ≡ size → out ≡ replicate size 0 → out ≡ replicate (length out) 0

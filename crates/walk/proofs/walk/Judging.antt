@@ -19,7 +19,7 @@ use Rattle.wiring.specs.Poly.{plain}
 use Rattle.wiring.specs.Derivative.{derivative, Uncancelled}
 use Rattle.wiring.specs.Quadratic.{nonsquares}
 use Rattle.wiring.specs.Signals.{tabled, signalsAt}
-use Rattle.wiring.specs.Sockets.{mayBe}
+use Rattle.wiring.specs.Sockets.{canBuild}
 use Rattle.wiring.specs.Terms.{records, system}
 use Rattle.wiring.specs.declared.panel.Panel.{Panel}
 use Rattle.wiring.proofs.signals.Laws.{signals-different}
@@ -28,7 +28,7 @@ use Rattle.counting.specs.declared.verdict.Verdict.{Verdict}
 use Rattle.counting.proofs.verdict.Laws.{closes-some}
 use Rattle.walk.specs.declared.walk.State.{State}
 use Rattle.walk.specs.declared.walk.Turn.the-variants.{Going}
-use Rattle.walk.specs.Walk.{Finds, Rules, rulesOf, ends, opened, Run, ended, run, kept}
+use Rattle.walk.specs.Walk.{Finds, Rules, kitRules, ends, opened, Run, ended, run, kept}
 use Rattle.walk.specs.Listing.{Shown}
 use Rattle.walk.specs.Turns.{Openable, GoesOn, Weighed, SteppedBy, Stepped}
 use Rattle.walk.proofs.Rules.{goes-on, at-its-level, closed-ends}
@@ -45,10 +45,10 @@ module _ (panel : Panel) (terms : List ℕ) (level : ℕ) (set : List ℕ) (o : 
   gaps = nonsquares plain v (derivative plain (system (records terms)))
 
   -- at its level: nothing is counted
-  pub weighed-last : (r : Verdict) → r .split ≡ false → r .found ≡ not (some gaps) → level ≤ length own → Weighed (rulesOf panel) (panel .n) terms level set r
+  pub weighed-last : (r : Verdict) → r .split ≡ false → r .found ≡ not (some gaps) → level ≤ length own → Weighed (kitRules panel) (panel .n) terms level set r
   weighed-last r s f h = record {
     finds = λ t. some-none gaps (T-not (some gaps) (is→T (not (some gaps)) (sym f ∙ t)));
-    shuts = λ t u. (not-false (some gaps) (sym f ∙ t), at-its-level (rulesOf panel) (panel .n) level own gaps h);
+    shuts = λ t u. (not-false (some gaps) (sym f ∙ t), at-its-level (kitRules panel) (panel .n) level own gaps h);
     splits = λ t u. absurd (is-not (r .split) u s);
   }
 
@@ -67,19 +67,19 @@ module _ (panel : Panel) (terms : List ℕ) (level : ℕ) (set : List ℕ) (o : 
     }
 
     -- and what it answers
-    pub weighed-below : (r : Verdict) → Judged (mayBe panel) (level - length own) v gaps r → Weighed (rulesOf panel) (panel .n) terms level set r
+    pub weighed-below : (r : Verdict) → Judged (canBuild panel) (level - length own) v gaps r → Weighed (kitRules panel) (panel .n) terms level set r
     weighed-below r q = record {
       finds = q .finds;
-      shuts = λ t u. (closes-some (mayBe panel) (level - length own) v gaps (q .shuts t u), closed-ends (rulesOf panel) (panel .n) level own gaps (q .shuts t u));
+      shuts = λ t u. (closes-some (canBuild panel) (level - length own) v gaps (q .shuts t u), closed-ends (kitRules panel) (panel .n) level own gaps (q .shuts t u));
       splits = λ t u. on (q .splits t u);
     }
       where
-        on : Split (mayBe panel) (level - length own) v gaps (r .m .e) → GoesOn (rulesOf panel) (panel .n) terms level set (r .m .e)
+        on : Split (canBuild panel) (level - length own) v gaps (r .m .e) → GoesOn (kitRules panel) (panel .n) terms level set (r .m .e)
         on s = record {
           first = s .first;
           others = s .others;
           are = s .are;
-          on = subst (λ (l : List Mono). ends (rulesOf panel) (panel .n) level own l ≡ false) (s .are) (goes-on (rulesOf panel) (panel .n) level own gaps below (s .on));
+          on = subst (λ (l : List Mono). ends (kitRules panel) (panel .n) level own l ≡ false) (s .are) (goes-on (kitRules panel) (panel .n) level own gaps below (s .on));
           is = s .is;
         }
 

@@ -34,6 +34,7 @@ use Rattle.wiring.proofs.terms.Exact.{length-exact, wrong-exact, repeat
 use Rattle.wiring.proofs.sets.Exact.{right-iff}
 use Rattle.wiring.proofs.quadratic.Definition1.{definition1, quadratic-same, first-unlinked, first-unlinked-same, first-unlinked-one}
 use Rattle.wiring.proofs.sockets.Laws.{halved-in, halved-out}
+use Rattle.wiring.proofs.kit.Laws.{kit-in, kit-out}
 use Rattle.wiring.proofs.sockets.Slopes.{first-unlinked-raised, first-unlinked-free}
 use Rattle.wiring.proofs.answers.Limits.{well-slope}
 use Rattle.wiring.proofs.signals.Laws.{signals-length}
@@ -43,7 +44,8 @@ use Rattle.wiring.proofs.answers.Laws.{judged-not, said-setting, said-t
 pub panel-in : (panel : Panel) → Ranged panel → panelRight panel ≡ true
 unfolding panelRight countRight
 panel-in panel r =
-    rw (le-leb 1 (panel .n) (r .low), le-leb (panel .n) width (r .high), eq-eqb (halved (panel .marks) (panel .n)) 0 (halved-in (panel .marks) (panel .n) (r .known)))
+    let marks = eq-eqb (halved (panel .marks) (panel .n)) 0 (halved-in (panel .marks) (panel .n) (r .known)) in
+    rw (le-leb 1 (panel .n) (r .low), le-leb (panel .n) width (r .high), marks, kit-in (panel .degree) (r .kit))
 
 pub panel-out : (panel : Panel) → T (panelRight panel) → Ranged panel
 unfolding panelRight countRight
@@ -51,6 +53,7 @@ panel-out panel t = record {
   low = leb→le 1 (panel .n) (search (and-l, and-r, t));
   high = leb→le (panel .n) width (search (and-l, and-r, t));
   known = halved-out (panel .marks) (panel .n) (eqb→eq (halved (panel .marks) (panel .n)) 0 (search (and-l, and-r, t)));
+  kit = kit-out (panel .degree) (search (and-l, and-r, t));
 }
 
 -- ---- what each verdict says

@@ -38,7 +38,7 @@ module _ (panel : Panel) (terms set : List ℕ) (w : WellFormed panel terms set)
 
   -- on V the derivative is that of what has one
   pub well-slope : (z : Mono) → z ∈ signalsIn panel set → derivative plain (system (records terms)) z ≡ derivativeIn panel terms z
-  well-slope = slope-is panel terms (clean-exact panel (records terms) beyond .1 (w .flawless)) (setOf set) (w .right .free)
+  well-slope = slope-is panel terms (clean-exact panel (records terms) beyond .1 (w .flawless)) (setOf set) (w .right .buildable .free)
 
   module _ (z : Mono) (h : z ∈ signalsIn panel set) where
     pub exponents-fit : (m : Mono) → m ∈ support plain (derivativeIn panel terms z) → (length m ≡ width) × ((i : ℕ) → getD m i 0 ≤ derivedExponent)

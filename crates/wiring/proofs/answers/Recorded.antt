@@ -1,4 +1,4 @@
--- A quadratic set without signals that can stand in a record: its record is called quadratic whatever the buffer, and wired into one that is large enough.
+-- A quadratic set that the kit can build and that can stand in a record: its record is called quadratic whatever the buffer, and wired into one that is large enough.
 -- Assumes nothing.
 use mathlib.Core.Path.{_≡_, refl, sym, ap, _∙_, subst}
 use mathlib.Core.Logic.{_⊎_}
@@ -19,19 +19,19 @@ use Rattle.wiring.specs.Answers.{wired}
 use Rattle.wiring.specs.declared.panel.Panel.{Panel}
 use Rattle.wiring.specs.declared.reply.Reply.{Reply}
 use Rattle.wiring.specs.declared.reply.Reply.the-variants.{Done}
-use Rattle.wiring.specs.Claims.{Measured, Flawless, beyond, Ranged, Free, Recordable, WellFormed, signalsIn, derivativeIn, listIn}
+use Rattle.wiring.specs.Claims.{Measured, Flawless, beyond, Ranged, Buildable, Recordable, WellFormed, signalsIn, derivativeIn, listIn}
 use Rattle.wiring.proofs.sets.Exact.{record-length, record-set, record-right, right-iff}
 use Rattle.wiring.proofs.answers.Alone.{wire-verdict}
 use Rattle.wiring.proofs.answers.Wired.{list-most, wire-exact, wire-enough}
 
 module _ (panel : Panel) (terms : List ℕ) (ranged : Ranged panel) (measured : Measured terms) (flawless : Flawless panel (records terms) beyond) where
-  module _ (s : List Mono) (r : Recordable (panel .n) s) (f : Free (panel .marks) s) (q : Quadratic plain (signals width (panel .n) s) (derivativeIn panel terms)) where
+  module _ (s : List Mono) (r : Recordable (panel .n) s) (b : Buildable panel s) (q : Quadratic plain (signals width (panel .n) s) (derivativeIn panel terms)) where
     recorded-formed : WellFormed panel terms (setRecord s)
     recorded-formed = record {
       ranged = ranged;
       lengths = record { measured = measured; long = record-length s (r .few) (r .wide) };
       flawless = flawless;
-      right = right-iff panel (setRecord s) .0 (record-right panel s r f);
+      right = right-iff panel (setRecord s) .0 (record-right panel s r b);
     }
 
     recorded-quadratic : Quadratic plain (signalsIn panel (setRecord s)) (derivativeIn panel terms)

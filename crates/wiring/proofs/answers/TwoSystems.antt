@@ -8,7 +8,9 @@ use lib.ListN.{replicate}
 use Rattle.monomial.specs.Lists.{any, some, all, keep, place, gather, below, pairwise, pointwise, dictionary, insertBy, arrangeBy}
 use Rattle.monomial.specs.Monomial.{vars}
 use Rattle.wiring.specs.Panel.{setBytes}
-use Rattle.wiring.specs.Sockets.{panelOf, halved, marked, countRight, panelRight, free, mayBe}
+use Rattle.monomial.specs.Degree.{degree}
+use Rattle.wiring.specs.Kit.{degreeRight}
+use Rattle.wiring.specs.Sockets.{fullPanel, halved, marked, countRight, panelRight, free, mayBe}
 use Rattle.wiring.specs.declared.panel.Panel.{Panel}
 use Rattle.wiring.specs.Reply.{Numbers, five}
 use Rattle.wiring.specs.Coefficient.{signed, isZero}
@@ -29,11 +31,11 @@ abbrev pub xSquared : List ℕ
 xSquared = 2 ∷ replicate (setBytes - 1) 0
 
 pub record TwoSystems : Type 0 where
-  pub cubic : wired (panelOf 1 0) (xTo 3) xSquared 0 .said ≡ five 6 1 0 0 0
-  pub quartic : wired (panelOf 1 0) (xTo 4) xSquared 0 .said ≡ five 9 1 0 0 2
+  pub cubic : wired (fullPanel 1) (xTo 3) xSquared 0 .said ≡ five 6 1 0 0 0
+  pub quartic : wired (fullPanel 1) (xTo 4) xSquared 0 .said ≡ five 9 1 0 0 2
 
 pub two-systems : TwoSystems
-unfolding wired told listed verdict recordJudged judged firstUnmet halved marked countRight panelRight free mayBe records lengthRight exponentsRight coefficientRight termRight faultFrom equation
+unfolding wired told listed verdict recordJudged judged firstUnmet halved marked countRight degreeRight panelRight free degree mayBe records lengthRight exponentsRight coefficientRight termRight faultFrom equation
     system places sizeOf setOf ascending monomialRight setRight
     firstOf secondOf rowOf rowsFrom wiring signals factor inV2 unmet nonsquares partsFrom derivative coeff times support signed isZero vars any some all keep place gather below pairwise
     pointwise dictionary insertBy arrangeBy
@@ -41,7 +43,7 @@ two-systems = record { cubic = refl; quartic = refl }
 
 pub wire-not-constant : (x : Numbers) → ((panel : Panel) (terms set : List ℕ) (size : ℕ) → x ≡ wired panel terms set size .said) → ⊥
 wire-not-constant x h =
-    let full : x ≡ five 6 1 0 0 0 = h (panelOf 1 0) (xTo 3) xSquared 0 ∙ two-systems .cubic in
-    let not : x ≡ five 9 1 0 0 2 = h (panelOf 1 0) (xTo 4) xSquared 0 ∙ two-systems .quartic in
+    let full : x ≡ five 6 1 0 0 0 = h (fullPanel 1) (xTo 3) xSquared 0 ∙ two-systems .cubic in
+    let not : x ≡ five 9 1 0 0 2 = h (fullPanel 1) (xTo 4) xSquared 0 ∙ two-systems .quartic in
     let codes : _≡_ {A = ℕ} 6 9 = ap (λ (y : Numbers). y .code) (sym full ∙ not) in
     omega arith

@@ -25,7 +25,7 @@ use Rattle.monomial.proofs.Loops.{pointwise-length}
 use Rattle.monomial.proofs.order.Laws.{mono-order}
 use Rattle.monomial.proofs.product.Laws.{atMost-mul, atMost-set, atMost-at}
 use Rattle.wiring.specs.Panel.{termBytes, mostCoefficient, setExponent, termExponent}
-use Rattle.wiring.specs.Sockets.{panelOf}
+use Rattle.wiring.specs.Sockets.{fullPanel}
 use Rattle.wiring.specs.Poly.{Kind, Term, Poly, plain, coeff, times, monos, support}
 use Rattle.wiring.specs.Derivative.{derivative, part, partsFrom, power, image}
 use Rattle.wiring.specs.Terms.{Record, recordAt, records, equation, system, CleanTerms}
@@ -179,7 +179,7 @@ module _ (bytes : List ℕ) (clean : CleanTerms bytes) where
   clean-sized t = record {
     long = λ r h. first-in t r h .long;
     limited = λ r h. first-in t r h .limited;
-    unlike = clean-unlike (panelOf width 0) [] (take t (records bytes)) (clean-take (panelOf width 0) [] (records bytes) t clean);
+    unlike = clean-unlike (fullPanel width) [] (take t (records bytes)) (clean-take (fullPanel width) [] (records bytes) t clean);
   }
 
   pub clean-exchange : (z m : Mono) (t : ℕ) → summed (take t (records bytes)) z m ≡ coeff plain (derivative plain (system (take t (records bytes))) z) m

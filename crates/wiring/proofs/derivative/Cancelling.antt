@@ -22,7 +22,7 @@ use Rattle.monomial.proofs.Variables.{vars-length, constants-fit}
 use Rattle.monomial.proofs.order.Laws.{mono-order}
 use Rattle.monomial.proofs.product.Laws.{atMost-mul, atMost-weaken}
 use Rattle.wiring.specs.Panel.{termBytes, termExponent}
-use Rattle.wiring.specs.Sockets.{panelOf}
+use Rattle.wiring.specs.Sockets.{fullPanel}
 use Rattle.wiring.specs.Coefficient.{isZero}
 use Rattle.wiring.specs.Poly.{Kind, plain, coeff}
 use Rattle.wiring.specs.Derivative.{derivative, power, image, crosses, Uncancelled}
@@ -218,9 +218,9 @@ uncancelled bytes clean apart z t long b h =
     let rs = records bytes in
     let r = recordAt bytes t in
     let listed : r ∈ rs = Memᴰ·map (recordAt bytes) (below-in (length bytes / termBytes) t b) in
-    let fields = fields-out (panelOf width 0) r (clean-right (panelOf width 0) [] rs clean r listed) in
+    let fields = fields-out (fullPanel width) r (clean-right (fullPanel width) [] rs clean r listed) in
     let nonzero = coefficient-exact (r .coefficient) .0 (fields .coefficient) .0 in
-    let total = total-alone rs (clean-in bytes clean) (clean-unlike (panelOf width 0) [] rs clean) apart z long r listed h in
+    let total = total-alone rs (clean-in bytes clean) (clean-unlike (fullPanel width) [] rs clean) apart z long r listed h in
     ap isZero total ∙ counts (power r z) (r .coefficient) h nonzero
 
 -- ---- two loops that look for records that cross: none before number t crosses one before it, and number t crosses none before number u

@@ -17,6 +17,7 @@ use Rattle.monomial.proofs.Tests.{Tested, passed, failed, test, T→is, nT→is
 use Rattle.monomial.proofs.Members.{here, all-in, all-out, take-in, fill-at}
 use Rattle.monomial.proofs.Counting.{at-in}
 use Rattle.monomial.proofs.Strips.{strip-length, strip-at}
+use Rattle.monomial.proofs.product.Laws.{atMost-all}
 use Rattle.monomial.proofs.order.Laws.{mono-order}
 use Rattle.monomial.proofs.order.Ascending.{among-in, among-out, sub-length}
 use Rattle.wiring.specs.Panel.{cards, setBytes, setExponent}
@@ -25,11 +26,11 @@ use Rattle.wiring.specs.declared.panel.Panel.{Panel}
 use Rattle.wiring.specs.Signals.{flat}
 use Rattle.wiring.specs.Terms.{exponentsRight}
 use Rattle.wiring.specs.Sets.{places, sizeOf, setOf, ascending, monomialRight, setRight, setRecord}
-use Rattle.wiring.specs.Claims.{Permitted, Free, RightRecord, Recordable, Wide}
-use Rattle.wiring.proofs.sockets.Laws.{may-in, may-out}
+use Rattle.wiring.specs.Claims.{Permitted, Buildable, RightRecord, Recordable, Wide}
+use Rattle.wiring.proofs.kit.Laws.{may-buildable, buildable-may}
 use Rattle.wiring.proofs.terms.Laws.{Fit, exponents-in, exponents-everywhere}
 use Rattle.wiring.proofs.signals.Tables.{flat-cuts}
-use Rattle.wiring.proofs.sets.Laws.{placeAt, places-length, places-at, places-width, used-length, used-at, ascending-in, ascending-out}
+use Rattle.wiring.proofs.sets.Laws.{placeAt, places-length, places-at, places-width, set-narrow, used-length, used-at, ascending-in, ascending-out}
 
 -- ---- zeros
 zero-all : (l : List ℕ) → T (all (eqb 0) l) → (k : ℕ) → getD l k 0 ≡ 0
@@ -81,13 +82,13 @@ module _ (panel : Panel) where
         within = λ m h i. fit m h i .zero;
       }
 
-  permitted-in : (s : List Mono) → Permitted (panel .n) s → Free (panel .marks) s → T (all (monomialRight panel) s)
-  permitted-in s p f =
+  permitted-in : (s : List Mono) → ((m : Mono) → m ∈ s → length m ≤ width) → Permitted (panel .n) s → Buildable panel s → T (all (monomialRight panel) s)
+  permitted-in s narrow p b =
       all-in (monomialRight panel) s
       (λ m h. facts-in m (record {
         new = not-T (any (same m) (constants width)) (λ t. p .new m h (among-out mono-order m (constants width) t));
         exponents = exponents-in setExponent (panel .n) m (λ i k. record { small = p .small m h i; zero = p .within m h i });
-        may = may-in panel m (f m h);
+        may = buildable-may panel s b m h (narrow m h) (atMost-all setExponent m (p .small m h));
       }))
 
   pub right-iff : (bytes : List ℕ) → T (setRight panel bytes) ↔ RightRecord panel bytes
@@ -103,7 +104,7 @@ module _ (panel : Panel) where
             let e : width * sizeOf bytes + (k - width * sizeOf bytes) ≡ k = omega arith in
             rw (getD-drop (width * sizeOf bytes) bytes (k - width * sizeOf bytes) 0, e) at (zero-all rest (search (and-l, and-r, t)) (k - width * sizeOf bytes));
         permitted = permitted-out (setOf bytes) (search (and-l, and-r, t)) (search (and-l, and-r, t));
-        free = λ m h. may-out panel m (right-facts (setOf bytes) (search (and-l, and-r, t)) m h .may);
+        buildable = may-buildable panel (setOf bytes) (λ m h. right-facts (setOf bytes) (search (and-l, and-r, t)) m h .may);
       }
 
       rule : RightRecord panel bytes → T (setRight panel bytes)
@@ -111,7 +112,7 @@ module _ (panel : Panel) where
           let s = setOf bytes in
           let none : T (all (eqb 0) rest) = all-zero rest (λ k. getD-drop (width * sizeOf bytes) bytes k 0 ∙ r .zeros (width * sizeOf bytes + k) (omega arith)) in
           let first : T (all (eqb 0) rest && ascending s) = and-i (all (eqb 0) rest) (ascending s) none (ascending-in s (r .permitted .ascends)) in
-          and-i (all (eqb 0) rest && ascending s) (all (monomialRight panel) s) first (permitted-in s (r .permitted) (r .free))
+          and-i (all (eqb 0) rest && ascending s) (all (monomialRight panel) s) first (permitted-in s (set-narrow bytes) (r .permitted) (r .buildable))
 
 -- ---- the first entry that passes
 module _ {A : Type 0} (f : A → Bool) where
@@ -216,13 +217,13 @@ module _ (n : ℕ) (s : List Mono) (r : Recordable n s) where
     };
   }
 
--- and is right where the set has no signals
-pub record-right : (panel : Panel) (s : List Mono) → Recordable (panel .n) s → Free (panel .marks) s → T (setRight panel (setRecord s))
-record-right panel s r f =
+-- and is right where the kit can build the set
+pub record-right : (panel : Panel) (s : List Mono) → Recordable (panel .n) s → Buildable panel s → T (setRight panel (setRecord s))
+record-right panel s r b =
     right-iff panel (setRecord s) .1 (record {
       zeros = λ k h. record-zeros s (r .few) (r .wide) k (rw (recorded-size (panel .n) s r) at h);
       permitted = subst (Permitted (panel .n)) (sym (record-set (panel .n) s r)) (r .permitted);
-      free = subst (Free (panel .marks)) (sym (record-set (panel .n) s r)) f;
+      buildable = subst (Buildable panel) (sym (record-set (panel .n) s r)) b;
     })
 
 -- the first k places, one behind the other, are the first 6 * k bytes

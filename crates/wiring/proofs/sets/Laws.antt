@@ -3,10 +3,10 @@ use mathlib.Core.Path.{_≡_, refl, sym, ap, ap₂, subst, _∙_}
 use mathlib.Core.Logic.{⊎-elim}
 use mathlib.Core.Bool.{Bool, true, false, _&&_}
 use mathlib.Core.List.{List, [], _∷_, List·Memᴰ·cases-cons, Memᴰ·of-map}
-use Prim.Native.Nat.{ℕ, suc, _+_, _*_, _-_, _<_, _≤_}
+use Prim.Native.Nat.{ℕ, suc, _+_, _*_, _-_, _<_, _≤_, min}
 use native.Mathlib.Omega.{arith}
 use lib.Dec.{T, eqb}
-use lib.ListN.{length, getD, take, drop, length-drop}
+use lib.ListN.{length, getD, take, drop, length-take, length-drop}
 use lib.Seq.{length-take-le, getD-take, drop-cons}
 use Rattle.monomial.specs.Lists.{any, all, below}
 use Rattle.monomial.specs.Monomial.{Mono, constants, width}
@@ -15,13 +15,16 @@ use Rattle.monomial.specs.Claims.{_∈_, Ascending, empty, first}
 use Rattle.monomial.proofs.Tests.{is→T, is→nT, nT→is, and-l, and-r, and-i, same-test}
 use Rattle.monomial.proofs.Members.{here, all-in, all-out, take-in}
 use Rattle.monomial.proofs.Counting.{below-out, below-at}
+use Rattle.monomial.proofs.product.Laws.{atMost-all}
 use Rattle.monomial.proofs.order.Laws.{mono-order}
 use Rattle.monomial.proofs.order.Ascending.{head-first, tail-asc}
 use Rattle.wiring.specs.Panel.{cards, setBytes, setExponent}
-use Rattle.wiring.specs.Sockets.{mayBe}
+use Rattle.wiring.specs.Sockets.{canBuild}
 use Rattle.wiring.specs.declared.panel.Panel.{Panel}
 use Rattle.wiring.specs.Signals.{Fitting}
 use Rattle.wiring.specs.Terms.{exponentsRight}
+use Rattle.wiring.proofs.terms.Laws.{exponents-everywhere}
+use Rattle.wiring.proofs.kit.Laws.{may-can}
 use Rattle.wiring.specs.Sets.{places, sizeOf, setOf, ascending, monomialRight, setRight, monomialsOf, SetReads}
 use Rattle.wiring.specs.declared.sets.SetRead.{SetRead}
 use Rattle.wiring.proofs.terms.Laws.{all-small}
@@ -46,6 +49,14 @@ places-width bytes l m h =
     let i : p .0 < cards = below-out cards (p .0) (p .1) in
     let long : length (placeAt bytes (p .0)) ≡ width = length-take-le width (drop (width * p .0) bytes) (simp length-drop (omega arith)) in
     ap length (sym (p .2)) ∙ long
+
+-- none is wider, however long the record is
+pub set-narrow : (bytes : List ℕ) (m : Mono) → m ∈ setOf bytes → length m ≤ width
+unfolding setOf places
+set-narrow bytes m h =
+    let p : (i : ℕ) × (i ∈ below cards) × (placeAt bytes i ≡ m) = Memᴰ·of-map (placeAt bytes) (below cards) (take-in (sizeOf bytes) (places bytes) h) in
+    let long : length (placeAt bytes (p .0)) ≡ min width (length (drop (width * p .0) bytes)) = length-take width (drop (width * p .0) bytes) in
+    omega (arith, ap length (p .2))
 
 module _ (bytes : List ℕ) (len : ℕ) (h : len ≤ cards) where
   pub used-length : length (take len (places bytes)) ≡ len
@@ -164,9 +175,11 @@ module _ (panel : Panel) (m : Mono) where
     unfolding monomialRight
     exponents-refused e = rw (new, e)
 
-    pub may-decides : exponentsRight setExponent (panel .n) m ≡ true → mayBe panel m ≡ monomialRight panel m
+    pub may-decides : length m ≡ width → exponentsRight setExponent (panel .n) m ≡ true → canBuild panel m ≡ monomialRight panel m
     unfolding monomialRight
-    may-decides e = rw (new, e)
+    may-decides long e =
+        let fits = exponents-everywhere setExponent (panel .n) m (is→T (exponentsRight setExponent (panel .n) m) e) in
+        rw (new, e) (sym (may-can panel m (omega arith) (atMost-all setExponent m (λ i. fits i .small))))
 
 -- ---- reading a record whose size is known: each test that fails refuses it, and one that passes all three holds its set
 module _ (panel : Panel) (bytes : List ℕ) (len : ℕ) (e : len ≡ sizeOf bytes) where

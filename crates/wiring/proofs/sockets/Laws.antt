@@ -7,10 +7,11 @@ use Prim.Native.Nat.{ℕ, zero, suc, _+_, _-_, _/_, _%_, _<_, _≤_}
 use native.Mathlib.Omega.{arith}
 use native.Mathlib.Numerals.{add-one}
 use borrow.Author.Tests.{eq-eqb, ne-eqb, eqb-false}
-use lib.Dec.{T, eqb, eqb→eq, not-T, T-not}
+use lib.Dec.{T, eqb, leb, eqb→eq, leb→le, not-T, T-not}
 use lib.ListN.{length, getD, drop, drop-of-length-le}
 use lib.Seq.{drop-cons}
 use Rattle.monomial.specs.Monomial.{Mono}
+use Rattle.monomial.specs.Degree.{degree}
 use Rattle.monomial.proofs.Tests.{Tested, passed, failed, test, T→is, is→T, is→nT, and-l, and-r, and-i, or-l, or-r, or-e}
 use Rattle.wiring.specs.Sockets.{panelOf, halved, marked, free, mayBe}
 use Rattle.wiring.specs.declared.panel.Panel.{Panel}
@@ -107,24 +108,20 @@ free-iff marks m = (free-out marks m, free-in marks m)
 pub unmarked-free : (m : Mono) → free 0 m ≡ true
 unmarked-free m = T→is (free 0 m) (free-in 0 m (λ i e. absurd (is→nT (marked 0 i) (unmarked i) (is→T (marked 0 i) e))))
 
--- a new monomial may be what has no signal
-pub may-out : (panel : Panel) (m : Mono) → T (mayBe panel m) → (i : ℕ) → marked (panel .marks) i ≡ true → getD m i 0 ≡ 0
-unfolding mayBe
-may-out panel m = free-out (panel .marks) m
+-- a new monomial may be what has no signal and a degree that is at most the limit
+module _ (panel : Panel) (m : Mono) where
+  pub may-free : T (mayBe panel m) → (i : ℕ) → marked (panel .marks) i ≡ true → getD m i 0 ≡ 0
+  unfolding mayBe
+  may-free t = free-out (panel .marks) m (and-l (free (panel .marks) m) (leb (degree m) (panel .degree)) t)
 
-pub may-in : (panel : Panel) (m : Mono) → ((i : ℕ) → marked (panel .marks) i ≡ true → getD m i 0 ≡ 0) → T (mayBe panel m)
-unfolding mayBe
-may-in panel m = free-in (panel .marks) m
+  pub may-low : T (mayBe panel m) → degree m ≤ panel .degree
+  unfolding mayBe
+  may-low t = leb→le (degree m) (panel .degree) (and-r (free (panel .marks) m) (leb (degree m) (panel .degree)) t)
 
 -- the number of variables has no say in it
-pub may-same : (n b marks : ℕ) → mayBe (panelOf n marks) ≡ mayBe (panelOf b marks)
+pub may-same : (n b marks limit : ℕ) → mayBe (panelOf n marks limit) ≡ mayBe (panelOf b marks limit)
 unfolding mayBe
-may-same n b marks = refl
-
--- with no marks it may be anything
-pub unmarked-may : (n : ℕ) (m : Mono) → mayBe (panelOf n 0) m ≡ true
-unfolding mayBe
-unmarked-may n m = unmarked-free m
+may-same n b marks limit = refl
 
 -- ---- a loop that looks for a signal, and has come to place i: what is left says what the whole says
 pub record Clearing (w marks : ℕ) (m : Mono) (rest i : ℕ) : Type 0 where

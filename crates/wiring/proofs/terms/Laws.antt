@@ -23,7 +23,7 @@ use Rattle.monomial.proofs.Loops.{Seeking, seeking-start, seeking-found, seekin
 use Rattle.monomial.proofs.order.Laws.{mono-order}
 use Rattle.monomial.proofs.Counting.{below-in, below-out, below-length, below-at, at-in}
 use Rattle.wiring.specs.Panel.{termBytes, mostCoefficient, termExponent}
-use Rattle.wiring.specs.Sockets.{panelOf, marked}
+use Rattle.wiring.specs.Sockets.{fullPanel, marked}
 use Rattle.wiring.specs.declared.panel.Panel.{Panel}
 use mir.Syntax.{w32}
 use mir.Val.{SFits, toZ, ofZ}
@@ -291,10 +291,10 @@ unfolding all
 all-small b [] t = tt
 all-small b (e ∷ m) t = (leb→le e b (and-l (leb e b) (all (λ x. leb x b) m) t), all-small b m (and-r (leb e b) (all (λ x. leb x b) m) t))
 
-pub right-holds : (r : Record) → length (r .monomial) ≡ width → T (termRight (panelOf width 0) r) → Rightful r
+pub right-holds : (r : Record) → length (r .monomial) ≡ width → T (termRight (fullPanel width) r) → Rightful r
 unfolding exponentsRight coefficientRight
 right-holds r l t =
-    let f = fields-out (panelOf width 0) r t in
+    let f = fields-out (fullPanel width) r t in
     record {
       low = f .low;
       high = f .high;
@@ -310,7 +310,7 @@ record-long bytes t h = simp (length-take, length-drop) (omega arith)
 pub clean-in : (bytes : List ℕ) → CleanTerms bytes → (r : Record) → r ∈ records bytes → Rightful r
 clean-in bytes c r h =
     let i = records-out bytes r h in
-    right-holds r (subst (λ (x : Record). length (x .monomial) ≡ width) (i .is) (record-long bytes (i .number) (i .counted))) (clean-right (panelOf width 0) [] (records bytes) c r h)
+    right-holds r (subst (λ (x : Record). length (x .monomial) ≡ width) (i .is) (record-long bytes (i .number) (i .counted))) (clean-right (fullPanel width) [] (records bytes) c r h)
 
 pub clean-at : (bytes : List ℕ) → CleanTerms bytes → (t : ℕ) → t < length bytes / termBytes → Rightful (recordAt bytes t)
 unfolding records
@@ -357,7 +357,7 @@ module _ (panel wide : Panel) (more : panel .n ≤ wide .n) (fewer : (i : ℕ) �
 
 -- records that are clean for a panel are clean for one of as many variables, or of more, without marks
 pub clean-for : (panel : Panel) (b : ℕ) (bytes : List ℕ) → panel .n ≤ b → fault panel (records bytes) ≡ Clean → CleanFor b bytes
-clean-for panel b bytes h = clean-widens panel (panelOf b 0) h (λ i e. unmarked i) (records bytes)
+clean-for panel b bytes h = clean-widens panel (fullPanel b) h (λ i e. unmarked i) (records bytes)
 
 -- ---- a loop that judges the records, and has come to number t: what is left says what the whole says
 pub record Judging (panel : Panel) (rs : List Record) (t : ℕ) : Type 0 where

@@ -34,19 +34,23 @@ eight-at-requires-3 c κs = search needs
 eight-at-requires-4 : tie.Need-eight-at-requires-4
 eight-at-requires-4 c κs = search needs
 
+eight-at-requires-5 : tie.Need-eight-at-requires-5
+eight-at-requires-5 c κs = search needs
+
 returns : tie.Need-returns
 unfolding headOf
 returns c =
-    let low = c .before .before .before .before in
+    let low = c .before .before .before .before .before in
     rw (
       low .before .before .before .before .wide .ensures .0,
       low .before .before .wide2 .ensures .0,
       low .before .two-at .ensures .0,
       low .four-at .ensures .0,
-      c .before .before .before .eight-at .ensures,
-      c .before .before .eight-at2 .ensures,
-      c .before .eight-at3 .ensures,
-      c .eight-at4 .ensures,
+      c .before .before .before .before .eight-at .ensures,
+      c .before .before .before .eight-at2 .ensures,
+      c .before .before .eight-at3 .ensures,
+      c .before .eight-at4 .ensures,
+      c .eight-at5 .ensures,
     )
 
 pub read-spec : {M : Type 1} → statement M
@@ -63,4 +67,5 @@ read-spec =
     eight-at-requires-2
     eight-at-requires-3
     eight-at-requires-4
+    eight-at-requires-5
     returns)

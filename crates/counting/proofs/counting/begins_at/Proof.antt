@@ -11,7 +11,7 @@ use lib.Seq.{length-take-le}
 use Rattle.monomial.specs.Monomial.{Mono, one, width}
 use Rattle.monomial.proofs.Tests.{is→T}
 use Rattle.wiring.specs.Signals.{tabled, signalsAt}
-use Rattle.wiring.specs.Sockets.{mayBe}
+use Rattle.wiring.specs.Sockets.{canBuild}
 use Rattle.wiring.proofs.signals.Tables.{tabled-at, tabled-take}
 use Rattle.counting.specs.Counting.{hits, begins}
 use Rattle.counting.proofs.counting.Begins.{begins-undivided, begins-barred, begins-rare, begins-first}
@@ -34,14 +34,14 @@ returns c =
     let a = start .args in
     let l = a .list .now in
     let here = c .before .before .read .ensures ∙ sym (tabled-at l (a .i) (one width) (start .pre .0)) in
-    begins-undivided (mayBe (a .panel)) _ _ _ _ _ _ (sym (c .before .divides .ensures) ∙ not-true _ (c .if1 .taken))
-    ∙ ap (λ (m : Mono). begins (mayBe (a .panel)) (signalsAt (a .panel .n) (a .set .now)) (a .often) (take (a .i) (tabled l)) (drop (a .i + 1) (tabled l)) m (a .x .e)) here
+    begins-undivided (canBuild (a .panel)) _ _ _ _ _ _ (sym (c .before .divides .ensures) ∙ not-true _ (c .if1 .taken))
+    ∙ ap (λ (m : Mono). begins (canBuild (a .panel)) (signalsAt (a .panel .n) (a .set .now)) (a .often) (take (a .i) (tabled l)) (drop (a .i + 1) (tabled l)) m (a .x .e)) here
 
 over-requires : tie.Need-over-requires
 over-requires c κs = is→T _ (sym (c .before .divides .ensures) ∙ not-false _ (c .if1 .left))
 
-may-be-requires : tie.Need-may-be-requires
-may-be-requires c κs = search needs
+can-build-requires : tie.Need-can-build-requires
+can-build-requires c κs = search needs
 
 returns-2 : tie.Need-returns-2
 returns-2 c =
@@ -50,10 +50,10 @@ returns-2 c =
     let start = at-divides .before .before .before .before in
     let a = start .args in
     let l = a .list .now in
-    let may = mayBe (a .panel) in
+    let may = canBuild (a .panel) in
     let here = at-divides .before .read .ensures ∙ sym (tabled-at l (a .i) (one width) (start .pre .0)) in
     let divided = sym (at-divides .divides .ensures) ∙ not-false _ (at-over .before .if1 .left) in
-    let barred = ap may (sym (at-over .over .ensures)) ∙ sym (c .before .may-be .ensures) ∙ not-true _ (c .if2 .taken) in
+    let barred = ap may (sym (at-over .over .ensures)) ∙ sym (c .before .can-build .ensures) ∙ not-true _ (c .if2 .taken) in
     begins-barred may _ _ _ _ _ _ divided barred
     ∙ ap (λ (m : Mono). begins may (signalsAt (a .panel .n) (a .set .now)) (a .often) (take (a .i) (tabled l)) (drop (a .i + 1) (tabled l)) m (a .x .e)) here
 
@@ -68,17 +68,17 @@ recurs-requires c κs = search needs
 
 returns-3 : tie.Need-returns-3
 returns-3 c =
-    let at-may-be = c .before .before .before in
-    let at-over = at-may-be .before in
+    let at-can-build = c .before .before .before in
+    let at-over = at-can-build .before in
     let at-divides = at-over .before .before in
     let start = at-divides .before .before .before .before in
     let a = start .args in
     let l = a .list .now in
     let v = signalsAt (a .panel .n) (a .set .now) in
-    let may = mayBe (a .panel) in
+    let may = canBuild (a .panel) in
     let here = at-divides .before .read .ensures ∙ sym (tabled-at l (a .i) (one width) (start .pre .0)) in
     let divided = sym (at-divides .divides .ensures) ∙ not-false _ (at-over .before .if1 .left) in
-    let allowed = ap may (sym (at-over .over .ensures)) ∙ sym (at-may-be .may-be .ensures) ∙ not-false _ (c .before .before .if2 .left) in
+    let allowed = ap may (sym (at-over .over .ensures)) ∙ sym (at-can-build .can-build .ensures) ∙ not-false _ (c .before .before .if2 .left) in
     let rare =
     ap (λ (q : Mono). leb (a .often - 1) (hits v q (drop (a .i + 1) (tabled l)))) (sym (at-over .over .ensures)) ∙ sym (c .before .recurs .ensures) ∙ not-true _ (c .if3 .taken) in
     begins-rare may _ _ _ _ _ _ divided allowed (a .often - 1) (omega (arith, start .pre .1)) rare
@@ -99,19 +99,19 @@ recurs-requires-2 c κs = search needs
 returns-4 : tie.Need-returns-4
 returns-4 c =
     let at-recurs = c .before .before .before in
-    let at-may-be = at-recurs .before .before in
-    let at-over = at-may-be .before in
+    let at-can-build = at-recurs .before .before in
+    let at-over = at-can-build .before in
     let at-divides = at-over .before .before in
     let start = at-divides .before .before .before .before in
     let a = start .args in
     let l = a .list .now in
     let v = signalsAt (a .panel .n) (a .set .now) in
     let near = start .pre .0 in
-    let may = mayBe (a .panel) in
+    let may = canBuild (a .panel) in
     let here = at-divides .before .read .ensures ∙ sym (tabled-at l (a .i) (one width) (start .pre .0)) in
     let divided = sym (at-divides .divides .ensures) ∙ not-false _ (at-over .before .if1 .left) in
     let quotient = sym (at-over .over .ensures) in
-    let allowed = ap may quotient ∙ sym (at-may-be .may-be .ensures) ∙ not-false _ (at-recurs .before .if2 .left) in
+    let allowed = ap may quotient ∙ sym (at-can-build .can-build .ensures) ∙ not-false _ (at-recurs .before .if2 .left) in
     let enough =
     ap (λ (q : Mono). leb (a .often - 1) (hits v q (drop (a .i + 1) (tabled l)))) quotient ∙ sym (at-recurs .recurs .ensures) ∙ not-false _ (c .before .before .if3 .left) in
     let before =
@@ -131,7 +131,7 @@ begins-at-spec =
     divides-requires
     returns
     over-requires
-    may-be-requires
+    can-build-requires
     returns-2
     add-recurs
     sub-recurs

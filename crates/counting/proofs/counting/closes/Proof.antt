@@ -9,7 +9,7 @@ use lib.ListN.{length}
 use Rattle.monomial.specs.Monomial.{width}
 use Rattle.wiring.specs.Panel.{cards}
 use Rattle.wiring.specs.Signals.{tabled, signalsAt}
-use Rattle.wiring.specs.Sockets.{mayBe}
+use Rattle.wiring.specs.Sockets.{canBuild}
 use Rattle.wiring.proofs.signals.Tables.{tabled-length}
 use Rattle.counting.specs.Counting.{frequent}
 use Rattle.counting.proofs.UpTo.{upTo-none, upTo-some}
@@ -31,7 +31,7 @@ returns : tie.Need-returns
 returns c =
     let start = c .before .before .before in
     let a = start .args in
-    closes-few (mayBe (a .panel)) _ (tabled (a .list .now)) (a .room) (omega (arith, tabled-length (a .list .now), ap (λ k. a .room * k / 2) (add-one (a .room))))
+    closes-few (canBuild (a .panel)) _ (tabled (a .list .now)) (a .room) (omega (arith, tabled-length (a .list .now), ap (λ k. a .room * k / 2) (add-one (a .room))))
 
 sub-wanted : tie.Need-sub-wanted
 sub-wanted c = search needs
@@ -56,7 +56,7 @@ returns-2 c =
     let start = c .before .before .before .before .before in
     let a = start .args in
     let l = a .list .now in
-    let may = mayBe (a .panel) in
+    let may = canBuild (a .panel) in
     let wanted = length l / width - a .room * (a .room + 1) / 2 in
     let split : length (tabled l) ≡ wanted + a .room * suc (a .room) / 2 = omega (arith, tabled-length l, ap (λ k. a .room * k / 2) (add-one (a .room))) in
     let share = (wanted - 1) / a .room in
@@ -68,7 +68,7 @@ returns-3 c =
     let start = c .before .before .before .before .before .before in
     let a = start .args in
     let l = a .list .now in
-    let may = mayBe (a .panel) in
+    let may = canBuild (a .panel) in
     let wanted = length l / width - a .room * (a .room + 1) / 2 in
     let split : length (tabled l) ≡ wanted + a .room * suc (a .room) / 2 = omega (arith, tabled-length l, ap (λ k. a .room * k / 2) (add-one (a .room))) in
     let share = (wanted - 1) / a .room in
@@ -84,7 +84,7 @@ returns-4 c =
     let start = c .before .before .before .before .before .before .before in
     let a = start .args in
     let l = a .list .now in
-    let may = mayBe (a .panel) in
+    let may = canBuild (a .panel) in
     let wanted = length l / width - a .room * (a .room + 1) / 2 in
     let split : length (tabled l) ≡ wanted + a .room * suc (a .room) / 2 = omega (arith, tabled-length l, ap (λ k. a .room * k / 2) (add-one (a .room))) in
     closes-sum may _ (tabled l) (a .room) wanted split _ (c .stays-below .ensures)

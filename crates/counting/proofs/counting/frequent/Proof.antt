@@ -6,7 +6,7 @@ use native.Mathlib.Omega.{arith}
 use lib.ListN.{length}
 use Rattle.monomial.specs.Monomial.{one, width}
 use Rattle.wiring.specs.Signals.{tabled, signalsAt}
-use Rattle.wiring.specs.Sockets.{mayBe}
+use Rattle.wiring.specs.Sockets.{canBuild}
 use Rattle.wiring.proofs.signals.Tables.{tabled-length}
 use Rattle.wiring.proofs.signals.Laws.{signals-at-wide}
 use Rattle.counting.specs.Counting.{upTo}
@@ -18,7 +18,7 @@ use Rattle.counting.proofs.counting.frequent.Tie as tie
 
 abbrev Inv-loop : tie.InvT-loop
 Inv-loop panel list set often cap len met₀ i₀ met i =
-    (len ≡ length list / width) × Finding (mayBe panel) (signalsAt (panel .n) set) often (tabled list) cap i met
+    (len ≡ length list / width) × Finding (canBuild panel) (signalsAt (panel .n) set) often (tabled list) cap i met
 
 abbrev μ-loop : tie.MeasureT-loop
 μ-loop panel list set often cap len met₀ i₀ met i = len - i
@@ -59,7 +59,7 @@ returns c =
     let a = start .args in
     let v = signalsAt (a .panel .n) (a .set .now) in
     finding-end _ _ _ _ _ (k .inv .1) (omega (arith, tabled-length (a .list .now)))
-    ∙ ap (upTo (a .cap)) (news-frequent (mayBe (a .panel)) v (signals-at-wide (a .panel .n) (a .set .now)) (start .pre .1 .1) (a .often) (tabled (a .list .now)))
+    ∙ ap (upTo (a .cap)) (news-frequent (canBuild (a .panel)) v (signals-at-wide (a .panel .n) (a .set .now)) (start .pre .1 .1) (a .often) (tabled (a .list .now)))
 
 pub frequent-spec : {M : Type 1} → statement M
 frequent-spec =

@@ -1,14 +1,14 @@
 -- `stays_below` meets its contract: the quotients that occur once, twice, and so on are added up (`Summing`). Assumes nothing.
 use native.Mathlib.Omega.{arith}
 use Rattle.wiring.specs.Signals.{tabled, signalsAt}
-use Rattle.wiring.specs.Sockets.{mayBe}
+use Rattle.wiring.specs.Sockets.{canBuild}
 use Rattle.counting.proofs.counting.Sums.{Summing, summing-start, summing-enough, summing-none, summing-next, summing-end}
 use borrow.Author.Needs.{needs}
 use Rattle.counting.proofs.counting.stays_below.Statement.{statement}
 use Rattle.counting.proofs.counting.stays_below.Tie as tie
 
 abbrev Inv-loop : tie.InvT-loop
-Inv-loop panel list set room wanted left₀ often₀ left often = Summing (mayBe panel) (signalsAt (panel .n) set) (tabled list) room wanted left often
+Inv-loop panel list set room wanted left₀ often₀ left often = Summing (canBuild panel) (signalsAt (panel .n) set) (tabled list) room wanted left often
 
 abbrev μ-loop : tie.MeasureT-loop
 μ-loop panel list set room wanted left₀ often₀ left often = left

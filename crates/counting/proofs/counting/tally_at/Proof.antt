@@ -6,7 +6,7 @@ use native.Mathlib.Omega.{arith}
 use lib.ListN.{length, getD, take, drop}
 use Rattle.monomial.specs.Monomial.{one, width}
 use Rattle.wiring.specs.Signals.{tabled, signalsAt}
-use Rattle.wiring.specs.Sockets.{mayBe}
+use Rattle.wiring.specs.Sockets.{canBuild}
 use Rattle.wiring.proofs.signals.Laws.{signals-at-length}
 use Rattle.counting.specs.Counting.{begins}
 use Rattle.counting.proofs.counting.Hits.{Tallying, tallying-start, tallying-full, tallying-end, tallying-hit, tallying-miss}
@@ -17,7 +17,7 @@ use Rattle.counting.proofs.counting.tally_at.Tie as tie
 abbrev Inv-loop : tie.InvT-loop
 Inv-loop panel list i set often many cap len met₀ j₀ met j =
     (len ≡ length (signalsAt (panel .n) set))
-    × Tallying (begins (mayBe panel) (signalsAt (panel .n) set) often (take i (tabled list)) (drop (i + 1) (tabled list)) (getD (tabled list) i (one width))) (signalsAt (panel .n) set) cap many j met
+    × Tallying (begins (canBuild panel) (signalsAt (panel .n) set) often (take i (tabled list)) (drop (i + 1) (tabled list)) (getD (tabled list) i (one width))) (signalsAt (panel .n) set) cap many j met
 
 abbrev μ-loop : tie.MeasureT-loop
 μ-loop panel list i set often many cap len met₀ j₀ met j = len - j
@@ -62,7 +62,7 @@ loop-again c =
     let l = a .list .now in
     let v = signalsAt (a .panel .n) (a .set .now) in
     let few : k .j < length v = omega arith in
-    let test = begins (mayBe (a .panel)) v (a .often) (take (a .i) (tabled l)) (drop (a .i + 1) (tabled l)) (getD (tabled l) (a .i) (one width)) in
+    let test = begins (canBuild (a .panel)) v (a .often) (take (a .i) (tabled l)) (drop (a .i + 1) (tabled l)) (getD (tabled l) (a .i) (one width)) in
     let told = ap test (sym (c .before .before .signal .ensures)) ∙ sym (c .before .begins-at .ensures) in (
       k .inv .0,
       ⊎-elim

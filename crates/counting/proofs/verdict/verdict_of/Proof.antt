@@ -5,7 +5,7 @@ use native.Mathlib.Omega.{arith}
 use lib.Seq.{length-take-le}
 use Rattle.monomial.specs.Monomial.{width}
 use Rattle.monomial.proofs.order.Laws.{mono-order}
-use Rattle.wiring.specs.Sockets.{mayBe}
+use Rattle.wiring.specs.Sockets.{canBuild}
 use Rattle.wiring.specs.Poly.{plain}
 use Rattle.wiring.specs.Derivative.{derivative}
 use Rattle.wiring.specs.Quadratic.{nonsquares}
@@ -59,7 +59,7 @@ returns c =
     let s = c .before .before .before .before .before .before .before .before .before in
     let v = signalsAt (s .args .panel .n) (s .args .set .now) in
     let many = c .before .before .before .gather .ensures .more (c .if1 .taken) in
-    judged-closed (mayBe (s .args .panel)) _ _ _ _ refl refl (over-closes (s .pre .0) _ _ (nonsquares-asc plain mono-order v _) many)
+    judged-closed (canBuild (s .args .panel)) _ _ _ _ refl refl (over-closes (s .pre .0) _ _ (nonsquares-asc plain mono-order v _) many)
 
 same-length-2 : tie.Need-same-length-2
 same-length-2 c = search needs
@@ -68,7 +68,7 @@ returns-2 : tie.Need-returns-2
 returns-2 c =
     let s = c .before .before .before .before .before .before .before .before .before .before .before in
     let l = c .before .before .before .before .before .gather .ensures .all (c .before .before .if1 .left) in
-    judged-found (mayBe (s .args .panel)) _ _ _ _ refl (omega (arith, l .many))
+    judged-found (canBuild (s .args .panel)) _ _ _ _ refl (omega (arith, l .many))
 
 mul-used : tie.Need-mul-used
 mul-used c =
@@ -104,7 +104,7 @@ returns-3 : tie.Need-returns-3
 returns-3 c =
     let s = c .before .before .before .before .before .before .before .before .before .before .before .before .before .before .before in
     let l = c .before .before .before .before .before .before .before .before .before .gather .ensures .all (c .before .before .before .before .before .before .if1 .left) in
-    let may = mayBe (s .args .panel) in
+    let may = canBuild (s .args .panel) in
     judged-closed may _ _ _ _ refl refl (sym (list-closes (s .pre .0) may _ _ (l .are)) ∙ sym (c .before .closes .ensures) ∙ c .if3 .taken)
 
 slice-reshare-prefix-cheapest-of : tie.Need-slice-reshare-prefix-cheapest-of
@@ -132,7 +132,7 @@ returns-4 c =
     let s = c .before .before .before .before .before .before .before .before .before .before .before .before .before .before .before .before .before .before in
     let made = c .before .before .before .before .before .before .before .before .before .before .before .before .gather in
     let l = made .ensures .all (c .before .before .before .before .before .before .before .before .before .if1 .left) in
-    let may = mayBe (s .args .panel) in
+    let may = canBuild (s .args .panel) in
     let on = sym (list-closes (s .pre .0) may _ _ (l .are)) ∙ sym (c .before .before .before .before .closes .ensures) ∙ c .before .before .before .if3 .left in
     let v = signalsAt (s .args .panel .n) (s .args .set .now) in
     let ns = nonsquares plain v (derivative plain (system (records (s .args .terms .now)))) in

@@ -19,7 +19,7 @@ wire-set-requires c κs =
     let at-numbers = c .before .before in
     let at-thin = at-numbers .before .before .before in
     let a = at-thin .before .before .before .before .before .args in
-    thin-holds (panelOf (a .n) (a .marks)) (a .terms .now) (a .set .now) (a .sets .now) (at-thin .thin .result) _ (at-thin .thin .ensures) _ (at-numbers .numbers .ensures)
+    thin-holds (panelOf (a .n) (a .marks) (a .degree)) (a .terms .now) (a .set .now) (a .sets .now) (at-thin .thin .result) _ (at-thin .thin .ensures) _ (at-numbers .numbers .ensures)
 
 same-length : tie.Need-same-length
 same-length c = search needs
@@ -29,7 +29,7 @@ returns c =
     let at-numbers = c .before .before .before in
     let at-thin = at-numbers .before .before .before in
     let a = at-thin .before .before .before .before .before .args in
-    prepares-thin (panelOf (a .n) (a .marks)) (a .terms .now) (a .set .now) (a .sets .now) (at-thin .thin .result) _ (at-thin .thin .ensures) _ (at-numbers .numbers .ensures)
+    prepares-thin (panelOf (a .n) (a .marks) (a .degree)) (a .terms .now) (a .set .now) (a .sets .now) (at-thin .thin .result) _ (at-thin .thin .ensures) _ (at-numbers .numbers .ensures)
     (a .which)
     _
     _

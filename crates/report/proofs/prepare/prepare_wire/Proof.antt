@@ -22,7 +22,7 @@ returns c =
     let at-wire = c .before in
     let a = at-wire .before .before .before .before .args in
     let long : length (a .out .now) ≡ wiresBytes = search needs in
-    prepares-wire (panelOf (a .n) (a .marks)) (a .terms .now) (a .set .now) _ long (at-wire .wire .result) _ _ (at-wire .wire .ensures) (c .numbers .ensures)
+    prepares-wire (panelOf (a .n) (a .marks) (a .degree)) (a .terms .now) (a .set .now) _ long (at-wire .wire .result) _ _ (at-wire .wire .ensures) (c .numbers .ensures)
 
 pub prepare-wire-spec : {M : Type 1} → statement M
 prepare-wire-spec = tie.close (tie.spec wire-requires numbers-requires array-read-wires returns)

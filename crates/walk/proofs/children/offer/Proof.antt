@@ -3,7 +3,7 @@ use mathlib.Core.Path.{refl, sym, _∙_}
 use mathlib.Core.Logic.{⊎-elim}
 use borrow.Author.Tests.{not-true, not-false}
 use Rattle.wiring.specs.Signals.{tabled}
-use Rattle.walk.specs.Walk.{rulesOf}
+use Rattle.walk.specs.Walk.{kitRules}
 use Rattle.walk.proofs.children.Offers.{same-child, made-own, opens-none, opens-second, opens-first, opens-both}
 use Rattle.walk.proofs.children.Offers.{child-none, child-second, child-first, child-both, set-lacks, first-lacks, both-lack}
 use borrow.Author.Needs.{needs}
@@ -34,7 +34,7 @@ returns c =
     let has = sym (at-is-signal .is-signal .ensures) ∙ at-if2 .if2 .taken in
     let met = sym (at-is-met .is-met .ensures) ∙ at-if2 .before .if1 .taken in
     let up = start .pre .ascending in
-    same-child (opens-none (a .panel .n) s (a .a .e) (a .b .e) (rulesOf (a .panel)) (a .level) up (start .pre .within) has met)
+    same-child (opens-none (a .panel .n) s (a .a .e) (a .b .e) (kitRules (a .panel)) (a .level) up (start .pre .within) has met)
     (child-none (a .panel .n) s (a .a .e) (a .b .e) up has met) (made-own (a .set .now) (start .pre .whole) _ _ (at-put .put .ensures) _ refl refl)
 
 with-two-requires : tie.Need-with-two-requires
@@ -54,7 +54,7 @@ returns-2 c =
     let s = tabled (a .set .now) in
     let lacks = sym (at-is-signal .is-signal .ensures) ∙ not-true _ (at-if3 .if3 .taken) in
     let unmet = sym (at-is-met .is-met .ensures) ∙ at-if3 .before .if1 .left in
-    same-child (opens-both (a .panel .n) s (a .a .e) (a .b .e) (rulesOf (a .panel)) (a .level) lacks unmet)
+    same-child (opens-both (a .panel .n) s (a .a .e) (a .b .e) (kitRules (a .panel)) (a .level) lacks unmet)
     (child-both (a .panel .n) s (a .a .e) (a .b .e) lacks unmet)
     (at-with-two .with-two .ensures (set-lacks (a .panel .n) s (a .a .e) (a .b .e) (a .b .e) lacks) (both-lack (a .panel .n) s (a .a .e) (a .b .e) unmet))
 
@@ -79,14 +79,14 @@ returns-3 c =
     let lacks = sym (at-is-signal .is-signal .ensures) ∙ w .1 .left in
     let met = sym (at-is-met .is-met .ensures) ∙ w .0 .taken in
     let told = rw (w .2) at (at-with-one .with-one .ensures) in
-    same-child (opens-second (a .panel .n) s (a .a .e) (a .b .e) (rulesOf (a .panel)) (a .level) up lacks met)
+    same-child (opens-second (a .panel .n) s (a .a .e) (a .b .e) (kitRules (a .panel)) (a .level) up lacks met)
     (child-second (a .panel .n) s (a .a .e) (a .b .e) up lacks met)
     (told (set-lacks (a .panel .n) s (a .a .e) (a .b .e) (a .b .e) lacks)))
     (λ w.
     let has = sym (at-is-signal .is-signal .ensures) ∙ not-false _ (w .1 .left) in
     let unmet = sym (at-is-met .is-met .ensures) ∙ w .0 .left in
     let told = rw (w .2) at (at-with-one .with-one .ensures) in
-    same-child (opens-first (a .panel .n) s (a .a .e) (a .b .e) (rulesOf (a .panel)) (a .level) has unmet)
+    same-child (opens-first (a .panel .n) s (a .a .e) (a .b .e) (kitRules (a .panel)) (a .level) has unmet)
     (child-first (a .panel .n) s (a .a .e) (a .b .e) has unmet)
     (told (first-lacks (a .panel .n) s (a .a .e) (a .b .e) unmet)))
     (at-if1 .if1 .came)

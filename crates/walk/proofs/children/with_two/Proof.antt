@@ -3,7 +3,7 @@ use mathlib.Core.Path.{refl, sym, _∙_}
 use borrow.Author.Tests.{not-true, not-false}
 use Rattle.walk.proofs.children.Offers.{copied, two-refused, first-barred, second-barred, two-made}
 use borrow.Author.Needs.{needs}
-use Rattle.wiring.specs.Sockets.{mayBe}
+use Rattle.wiring.specs.Sockets.{canBuild}
 use Rattle.walk.proofs.children.with_two.Statement.{statement}
 use Rattle.walk.proofs.children.with_two.Tie as tie
 
@@ -13,25 +13,25 @@ add-if1 c = search needs
 returns : tie.Need-returns
 returns c =
     let a = c .before .before .before .args in
-    λ lacks lacks-first. two-refused (a .set .now) (mayBe (a .panel)) (a .level) _ _ _ _ lacks lacks-first refl (c .if1 .taken)
+    λ lacks lacks-first. two-refused (a .set .now) (canBuild (a .panel)) (a .level) _ _ _ _ lacks lacks-first refl (c .if1 .taken)
 
-may-be-requires : tie.Need-may-be-requires
-may-be-requires c κs = search needs
+can-build-requires : tie.Need-can-build-requires
+can-build-requires c κs = search needs
 
 returns-2 : tie.Need-returns-2
 returns-2 c =
     let a = c .before .before .before .before .before .args in
-    let bars = sym (c .before .may-be .ensures) ∙ not-true _ (c .if2 .taken) in
-    λ lacks lacks-first. first-barred (a .set .now) (mayBe (a .panel)) (a .level) _ _ _ _ lacks lacks-first refl bars
+    let bars = sym (c .before .can-build .ensures) ∙ not-true _ (c .if2 .taken) in
+    λ lacks lacks-first. first-barred (a .set .now) (canBuild (a .panel)) (a .level) _ _ _ _ lacks lacks-first refl bars
 
-may-be-requires-2 : tie.Need-may-be-requires-2
-may-be-requires-2 c κs = search needs
+can-build-requires-2 : tie.Need-can-build-requires-2
+can-build-requires-2 c κs = search needs
 
 returns-3 : tie.Need-returns-3
 returns-3 c =
     let a = c .before .before .before .before .before .before .before .args in
-    let bars = sym (c .before .may-be2 .ensures) ∙ not-true _ (c .if3 .taken) in
-    λ lacks lacks-first. second-barred (a .set .now) (mayBe (a .panel)) (a .level) _ _ _ _ lacks lacks-first refl bars
+    let bars = sym (c .before .can-build2 .ensures) ∙ not-true _ (c .if3 .taken) in
+    λ lacks lacks-first. second-barred (a .set .now) (canBuild (a .panel)) (a .level) _ _ _ _ lacks lacks-first refl bars
 
 put-requires : tie.Need-put-requires
 put-requires c κs = search needs
@@ -61,11 +61,11 @@ returns-4 c =
     let at-if1 = at-if2 .before .before in
     let start = at-if1 .before .before .before in
     let a = start .args in
-    let may-first = sym (at-if2 .before .may-be .ensures) ∙ not-false _ (at-if2 .if2 .left) in
-    let may-second = sym (at-if3 .before .may-be2 .ensures) ∙ not-false _ (at-if3 .if3 .left) in
+    let may-first = sym (at-if2 .before .can-build .ensures) ∙ not-false _ (at-if2 .if2 .left) in
+    let may-second = sym (at-if3 .before .can-build2 .ensures) ∙ not-false _ (at-if3 .if3 .left) in
     let held = copied (a .set .now) (start .pre .whole) _ _ (at-put .put .ensures) in
     λ lacks lacks-first.
-    two-made (a .set .now) (mayBe (a .panel)) (a .level) _ _ _ _ lacks lacks-first refl refl (at-if1 .if1 .left) may-first may-second
+    two-made (a .set .now) (canBuild (a .panel)) (a .level) _ _ _ _ lacks lacks-first refl refl (at-if1 .if1 .left) may-first may-second
     _ _ held (at-first .put-in .ensures) (at-second .put-in2 .ensures) (start .pre .ascending)
 
 pub with-two-spec : {M : Type 1} → statement M
@@ -74,9 +74,9 @@ with-two-spec =
     (tie.spec
     add-if1
     returns
-    may-be-requires
+    can-build-requires
     returns-2
-    may-be-requires-2
+    can-build-requires-2
     returns-3
     put-requires
     put-in-requires

@@ -7,7 +7,7 @@ use lib.ListN.{length}
 use Rattle.wiring.specs.Terms.{records, system}
 use Rattle.wiring.proofs.signals.Tables.{tabled-none}
 use Rattle.counting.specs.Verdict.{listBytes}
-use Rattle.walk.specs.Walk.{rulesOf}
+use Rattle.walk.specs.Walk.{kitRules}
 use Rattle.walk.proofs.plan.Laws.{Climbing, shown-none, climb-start, climb-none, climb-on, climb-done, climb-spent, climb-full, opening-at}
 use borrow.Author.Needs.{needs}
 use Rattle.walk.proofs.plan.climb.Statement.{statement}
@@ -15,7 +15,7 @@ use Rattle.walk.proofs.walk.Runner.{empty-openable}
 use Rattle.walk.proofs.plan.climb.Tie as tie
 
 abbrev Inv-loop : tie.InvT-loop
-Inv-loop terms out₀ panel cap limit cancels empty list₀ steps₀ k₀ out list steps k = Climbing (rulesOf panel) (panel .n) (system (records terms)) limit cap (length out₀) k steps out × (length list ≡ listBytes)
+Inv-loop terms out₀ panel cap limit cancels empty list₀ steps₀ k₀ out list steps k = Climbing (kitRules panel) (panel .n) (system (records terms)) limit cap (length out₀) k steps out × (length list ≡ listBytes)
 
 abbrev μ-loop : tie.MeasureT-loop
 μ-loop terms out₀ panel cap limit cancels empty list₀ steps₀ k₀ out list steps k = cap + 1 - k
@@ -27,7 +27,7 @@ loop-holds : tie.Need-loop-holds Inv-loop μ-loop
 loop-holds c =
     let s = c .before .before .before in
     let a = s .args in
-    (climb-start (rulesOf (a .panel)) (a .panel .n) (system (records (a .terms .now))) (a .limit) (a .cap) (length (a .out .now)) (a .out .now) refl (s .pre .1 .1 .1) (omega arith), refl)
+    (climb-start (kitRules (a .panel)) (a .panel .n) (system (records (a .terms .now))) (a .limit) (a .cap) (length (a .out .now)) (a .out .now) refl (s .pre .1 .1 .1) (omega arith), refl)
 
 slice-aggregate-open : tie.Need-slice-aggregate-open Inv-loop μ-loop
 slice-aggregate-open c = sym (c .before .before .before .loop .inv .1)
@@ -65,7 +65,7 @@ returns c =
     let r = at-open .«open» in
     let low = at-loop-test .loop-test .taken in
     let a = at-loop .before .before .before .before .args in
-    let told = opening-at (rulesOf (a .panel)) (a .panel .n) (system (records (a .terms .now))) (a .limit) (a .cap) (length (a .out .now)) (k .k) (k .steps) (k .out) (r .result) (r .last .1 .0) _ tabled-none (r .ensures) in
+    let told = opening-at (kitRules (a .panel)) (a .panel .n) (system (records (a .terms .now))) (a .limit) (a .cap) (length (a .out .now)) (k .k) (k .steps) (k .out) (r .result) (r .last .1 .0) _ tabled-none (r .ensures) in
     let s = c .before .before .s .given in
     climb-done (k .inv .0) low (r .result) (r .last .1 .0) told (r .kept .1 .0) (s .0 .0) (s .1) (c .if1 .taken)
 
@@ -92,7 +92,7 @@ returns-2 c =
     let r = at-open .«open» in
     let low = at-loop-test .loop-test .taken in
     let a = at-loop .before .before .before .before .args in
-    let told = opening-at (rulesOf (a .panel)) (a .panel .n) (system (records (a .terms .now))) (a .limit) (a .cap) (length (a .out .now)) (k .k) (k .steps) (k .out) (r .result) (r .last .1 .0) _ tabled-none (r .ensures) in
+    let told = opening-at (kitRules (a .panel)) (a .panel .n) (system (records (a .terms .now))) (a .limit) (a .cap) (length (a .out .now)) (k .k) (k .steps) (k .out) (r .result) (r .last .1 .0) _ tabled-none (r .ensures) in
     climb-spent (k .inv .0) low (r .result) (r .last .1 .0) told (r .kept .1 .0) _ (c .before .before .clear .ensures)
     (at-enum-told .enum-told .given .1)
 
@@ -119,7 +119,7 @@ returns-3 c =
     let r = at-open .«open» in
     let low = at-loop-test .loop-test .taken in
     let a = at-loop .before .before .before .before .args in
-    let told = opening-at (rulesOf (a .panel)) (a .panel .n) (system (records (a .terms .now))) (a .limit) (a .cap) (length (a .out .now)) (k .k) (k .steps) (k .out) (r .result) (r .last .1 .0) _ tabled-none (r .ensures) in
+    let told = opening-at (kitRules (a .panel)) (a .panel .n) (system (records (a .terms .now))) (a .limit) (a .cap) (length (a .out .now)) (k .k) (k .steps) (k .out) (r .result) (r .last .1 .0) _ tabled-none (r .ensures) in
     let t = at-taken .taken .given in
     climb-full (k .inv .0) low (r .result) (r .last .1 .0) told (r .kept .1 .0) _ (c .before .before .clear2 .ensures) (t .0 .0) (t .1)
 
@@ -138,7 +138,7 @@ loop-again c =
     let r = at-open .«open» in
     let low = at-loop-test .loop-test .taken in
     let a = at-loop .before .before .before .before .args in
-    let told = opening-at (rulesOf (a .panel)) (a .panel .n) (system (records (a .terms .now))) (a .limit) (a .cap) (length (a .out .now)) (k .k) (k .steps) (k .out) (r .result) (r .last .1 .0) _ tabled-none (r .ensures) in
+    let told = opening-at (kitRules (a .panel)) (a .panel .n) (system (records (a .terms .now))) (a .limit) (a .cap) (length (a .out .now)) (k .k) (k .steps) (k .out) (r .result) (r .last .1 .0) _ tabled-none (r .ensures) in
     let s = c .before .before .s .given in
     (climb-on (k .inv .0) low (r .result) (r .last .1 .0) told (r .kept .1 .0) (s .0 .0) (s .1) (c .if1 .left), r .kept .1 .1 .0 ∙ k .inv .1)
 

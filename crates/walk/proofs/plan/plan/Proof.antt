@@ -23,7 +23,7 @@ returns c =
     let start = at-clear .before .before .before .before in
     let a = start .args in
     let wrong = sym (c .before .settings-right .ensures) ∙ not-true _ (c .if1 .taken) in
-    said-setting (panelOf (a .n) (a .marks)) (a .cap) (a .limit) (a .terms .now) (length (a .out .now)) _ (at-clear .clear .ensures) wrong
+    said-setting (panelOf (a .n) (a .marks) (a .degree)) (a .cap) (a .limit) (a .terms .now) (length (a .out .now)) _ (at-clear .clear .ensures) wrong
 
 length-right-requires : tie.Need-length-right-requires
 length-right-requires c κs = search needs
@@ -39,7 +39,7 @@ returns-2 c =
     let a = start .args in
     let right = sym (at-settings-right .settings-right .ensures) ∙ not-false _ (c .before .before .if1 .left) in
     let wrong = sym (c .before .length-right .ensures) ∙ not-true _ (c .if2 .taken) in
-    said-length (panelOf (a .n) (a .marks)) (a .cap) (a .limit) (a .terms .now) (length (a .out .now)) _ (at-clear .clear .ensures) right wrong
+    said-length (panelOf (a .n) (a .marks) (a .degree)) (a .cap) (a .limit) (a .terms .now) (length (a .out .now)) _ (at-clear .clear .ensures) right wrong
 
 fault-of-requires : tie.Need-fault-of-requires
 fault-of-requires c κs = search needs
@@ -58,9 +58,9 @@ climb-requires c κs =
     let blank = at-clear .clear in
     let right = sym (at-settings-right .settings-right .ensures)
     ∙ not-false _ (at-if1 .if1 .left) in
-    let clean = settings-clean (panelOf (a .n) (a .marks)) (a .cap) (a .limit) right (a .terms .now) (sym (at-fault-of .fault-of .ensures) ∙ c .before .enum-told .given .1) in
+    let clean = settings-clean (panelOf (a .n) (a .marks) (a .degree)) (a .cap) (a .limit) right (a .terms .now) (sym (at-fault-of .fault-of .ensures) ∙ c .before .enum-told .given .1) in
     let zeros = zeros-long (length (a .out .now)) (blank .last .0) (blank .kept .0) (blank .ensures) in
-    (settings-few (panelOf (a .n) (a .marks)) (a .cap) (a .limit) right, (settings-low (panelOf (a .n) (a .marks)) (a .cap) (a .limit) right, (clean, zeros)))
+    (settings-few (panelOf (a .n) (a .marks) (a .degree)) (a .cap) (a .limit) right, (settings-low (panelOf (a .n) (a .marks) (a .degree)) (a .cap) (a .limit) right, (clean, zeros)))
 
 enum-known-place : tie.Need-enum-known-place
 enum-known-place c = search needs
@@ -87,7 +87,7 @@ returns-3 c =
     let measured = sym (at-length-right .length-right .ensures)
     ∙ not-false _ (at-if2 .if2 .left) in
     let clean = sym (at-fault-of .fault-of .ensures) ∙ at-enum-told .enum-told .given .1 in
-    said-walked (panelOf (a .n) (a .marks)) (a .cap) (a .limit) (a .terms .now) (length (a .out .now)) _ _
+    said-walked (panelOf (a .n) (a .marks) (a .degree)) (a .cap) (a .limit) (a .terms .now) (length (a .out .now)) _ _
     (c .before .before .climb .ensures) (at-clear .clear .kept .0) right measured clean
 
 same-length-4 : tie.Need-same-length-4
@@ -107,7 +107,7 @@ returns-4 c =
     ∙ not-false _ (at-if1 .if1 .left) in
     let measured = sym (at-length-right .length-right .ensures) ∙ not-false _ (at-if2 .if2 .left) in
     let wrong = sym (at-fault-of .fault-of .ensures) ∙ c .before .place .given .1 in
-    said-wrong (panelOf (a .n) (a .marks)) (a .cap) (a .limit) (a .terms .now) (length (a .out .now)) _
+    said-wrong (panelOf (a .n) (a .marks) (a .degree)) (a .cap) (a .limit) (a .terms .now) (length (a .out .now)) _
     (at-clear .clear .ensures) right measured _ wrong
 
 same-length-5 : tie.Need-same-length-5
@@ -127,7 +127,7 @@ returns-5 c =
     ∙ not-false _ (at-if1 .if1 .left) in
     let measured = sym (at-length-right .length-right .ensures) ∙ not-false _ (at-if2 .if2 .left) in
     let again = sym (at-fault-of .fault-of .ensures) ∙ c .before .place2 .given .1 in
-    said-repeated (panelOf (a .n) (a .marks)) (a .cap) (a .limit) (a .terms .now) (length (a .out .now)) _
+    said-repeated (panelOf (a .n) (a .marks) (a .degree)) (a .cap) (a .limit) (a .terms .now) (length (a .out .now)) _
     (at-clear .clear .ensures) right measured _ again
 
 pub plan-spec : {M : Type 1} → statement M

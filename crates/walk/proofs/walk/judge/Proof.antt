@@ -9,7 +9,7 @@ use Rattle.wiring.specs.Poly.{plain}
 use Rattle.wiring.specs.Derivative.{derivative}
 use Rattle.wiring.specs.Quadratic.{nonsquares}
 use Rattle.wiring.specs.Signals.{tabled, signalsAt}
-use Rattle.wiring.specs.Sockets.{mayBe}
+use Rattle.wiring.specs.Sockets.{canBuild}
 use Rattle.wiring.specs.Terms.{records, system}
 use Rattle.wiring.proofs.signals.Tables.{tabled-length}
 use Rattle.counting.specs.Verdict.{Weighing, Judged}
@@ -53,7 +53,7 @@ returns-2 c =
     let gaps = nonsquares plain v (derivative plain (system (records (a .terms .now)))) in
     let said = c .before .before .verdict-of in
     weighed-below (a .f .panel) (a .terms .now) (a .f .level) (a .set .now) (s .pre .0) low (said .result)
-    (subst (λ (k : ℕ). Judged (mayBe (a .f .panel)) (a .f .level - k) v gaps (said .result)) (sym (tabled-length (a .set .now))) (said .ensures))
+    (subst (λ (k : ℕ). Judged (canBuild (a .f .panel)) (a .f .level - k) v gaps (said .result)) (sym (tabled-length (a .set .now))) (said .ensures))
 
 pub judge-spec : {M : Type 1} → statement M
 judge-spec = tie.close (tie.spec is-unmet-requires returns sub-verdict-of verdict-of-requires same-length returns-2)

@@ -6,7 +6,7 @@ use lib.ListN.{length}
 use Rattle.wiring.specs.Panel.{setBytes}
 use Rattle.wiring.specs.Signals.{tabled}
 use Rattle.wiring.specs.Terms.{records, system}
-use Rattle.walk.specs.Walk.{rulesOf}
+use Rattle.walk.specs.Walk.{kitRules}
 use Rattle.walk.specs.Turns.{Tells}
 use Rattle.walk.proofs.walk.Laws.{open-spent}
 use Rattle.walk.proofs.walk.Judging.{found-runs, lost-steps}
@@ -18,7 +18,7 @@ returns : tie.Need-returns
 returns c =
     λ d finds p sh.
     let a = c .before .before .before .before .before .before .args in
-    open-spent (rulesOf (a .f .panel)) (a .f .panel .n) (system (records (a .terms .now))) (a .f .level) (a .f .limit) (length (a .out .now) / setBytes) (a .st .steps) finds (tabled (a .set .now)) d p (omega arith)
+    open-spent (kitRules (a .f .panel)) (a .f .panel .n) (system (records (a .terms .now))) (a .f .level) (a .f .limit) (length (a .out .now) / setBytes) (a .st .steps) finds (tabled (a .set .now)) d p (omega arith)
 
 add-t16 : tie.Need-add-t16
 add-t16 c = search needs
@@ -46,7 +46,7 @@ returns-2 c =
     let start = c .before .before .before .before .before .before .before .before .before .before .before .before .before .before .before in
     let a = start .args in
     let j = c .before .before .before .before .before .before .before .judge in
-    let told = found-runs (rulesOf (a .f .panel)) (a .f .panel .n) (a .terms .now) (a .f .level) (a .f .limit) (a .set .now) (a .st) (a .out .now) _ (j .ensures) (omega (arith, c .before .before .before .before .before .before .before .before .before .if1 .left)) (c .before .before .before .before .if2 .taken) d finds p in
+    let told = found-runs (kitRules (a .f .panel)) (a .f .panel .n) (a .terms .now) (a .f .level) (a .f .limit) (a .set .now) (a .st) (a .out .now) _ (j .ensures) (omega (arith, c .before .before .before .before .before .before .before .before .before .if1 .left)) (c .before .before .before .before .if2 .taken) d finds p in
     subst (Tells (c .before .before .found .result) (c .before .before .found .last .0)) (sym told) (c .before .before .found .ensures finds sh)
 
 same-length-3 : tie.Need-same-length-3
@@ -57,7 +57,7 @@ returns-3 c =
     let start = c .before .before .before .before .before .before .before .before .before .before .before .before in
     let a = start .args in
     let j = c .before .before .before .before .judge in
-    lost-steps (rulesOf (a .f .panel)) (a .f .panel .n) (a .terms .now) (a .f .level) (a .f .limit) (a .set .now) (a .st) (a .out .now) _ (j .ensures) (omega arith) (c .before .if2 .left) _ refl refl
+    lost-steps (kitRules (a .f .panel)) (a .f .panel .n) (a .terms .now) (a .f .level) (a .f .limit) (a .set .now) (a .st) (a .out .now) _ (j .ensures) (omega arith) (c .before .if2 .left) _ refl refl
 
 pub take-step-spec : {M : Type 1} → statement M
 take-step-spec =

@@ -19,7 +19,7 @@ refused-requires c κs = search needs
 returns : tie.Need-returns
 returns c =
     let a = c .before .before .before .before .before .args in
-    let no = said-setting (panelOf (a .n) (a .marks)) (a .terms .now) (a .set .now) (sym (c .before .before .panel-right .ensures) ∙ not-true _ (c .before .if1 .taken)) in
+    let no = said-setting (panelOf (a .n) (a .marks) (a .degree)) (a .terms .now) (a .set .now) (sym (c .before .before .panel-right .ensures) ∙ not-true _ (c .before .if1 .taken)) in
     given-refused _ _ _ _ Setting no (λ z. omega arith) (c .refused .ensures)
 
 length-right-requires : tie.Need-length-right-requires
@@ -35,7 +35,7 @@ returns-2 c =
     let at-panel-right = at-if1 .before in
     let a = at-panel-right .before .before .before .args in
     let known = sym (at-panel-right .panel-right .ensures) ∙ not-false _ (at-if1 .if1 .left) in
-    let no = said-terms-length (panelOf (a .n) (a .marks)) (a .terms .now) (a .set .now) known (sym (at-length-right .length-right .ensures) ∙ not-true _ (c .before .if2 .taken)) in
+    let no = said-terms-length (panelOf (a .n) (a .marks) (a .degree)) (a .terms .now) (a .set .now) known (sym (at-length-right .length-right .ensures) ∙ not-true _ (c .before .if2 .taken)) in
     given-refused _ _ _ _ Length no (λ z. omega arith) (c .refused2 .ensures)
 
 refused-requires-3 : tie.Need-refused-requires-3
@@ -51,7 +51,7 @@ returns-3 c =
     let a = at-panel-right .before .before .before .args in
     let known = sym (at-panel-right .panel-right .ensures) ∙ not-false _ (at-if1 .if1 .left) in
     let measured = sym (at-length-right .length-right .ensures) ∙ not-false _ (at-if2 .if2 .left) in
-    given-refused _ _ _ _ Length (said-set-length (panelOf (a .n) (a .marks)) (a .terms .now) (a .set .now) known measured (at-if3 .if3 .taken)) (λ z. omega arith) (c .refused3 .ensures)
+    given-refused _ _ _ _ Length (said-set-length (panelOf (a .n) (a .marks) (a .degree)) (a .terms .now) (a .set .now) known measured (at-if3 .if3 .taken)) (λ z. omega arith) (c .refused3 .ensures)
 
 fault-of-requires : tie.Need-fault-of-requires
 fault-of-requires c κs = search needs
@@ -86,7 +86,7 @@ returns-4 c =
     let known = sym (at-panel-right .panel-right .ensures) ∙ not-false _ (at-if1 .if1 .left) in
     let measured = sym (at-length-right .length-right .ensures) ∙ not-false _ (at-if2 .if2 .left) in
     let clean = sym (c .before .enum-told .given .1) ∙ at-fault-of .fault-of .ensures in
-    let says = sym (said-rest (panelOf (a .n) (a .marks)) (a .terms .now) (a .set .now) known measured (at-if3 .if3 .left) Clean clean) in
+    let says = sym (said-rest (panelOf (a .n) (a .marks) (a .degree)) (a .terms .now) (a .set .now) known measured (at-if3 .if3 .left) Clean clean) in
     given-read _ _ _ _ known (at-if3 .if3 .left) (sym clean) says (c .read-given .ensures)
 
 returns-5 : tie.Need-returns-5
@@ -101,7 +101,7 @@ returns-5 c =
     let known = sym (at-panel-right .panel-right .ensures) ∙ not-false _ (at-if1 .if1 .left) in
     let measured = sym (at-length-right .length-right .ensures) ∙ not-false _ (at-if2 .if2 .left) in
     let place = c .before .before .place .given in
-    let says = sym (said-rest (panelOf (a .n) (a .marks)) (a .terms .now) (a .set .now) known measured (at-if3 .if3 .left) (Wrong (place .0 .0)) (sym (place .1) ∙ at-fault-of .fault-of .ensures)) in
+    let says = sym (said-rest (panelOf (a .n) (a .marks) (a .degree)) (a .terms .now) (a .set .now) known measured (at-if3 .if3 .left) (Wrong (place .0 .0)) (sym (place .1) ∙ at-fault-of .fault-of .ensures)) in
     given-refused _ _ _ _ (Term (place .0 .0)) says (λ z. omega arith) (c .refused4 .ensures)
 
 returns-6 : tie.Need-returns-6
@@ -116,7 +116,7 @@ returns-6 c =
     let known = sym (at-panel-right .panel-right .ensures) ∙ not-false _ (at-if1 .if1 .left) in
     let measured = sym (at-length-right .length-right .ensures) ∙ not-false _ (at-if2 .if2 .left) in
     let place = c .before .before .place2 .given in
-    let says = sym (said-rest (panelOf (a .n) (a .marks)) (a .terms .now) (a .set .now) known measured (at-if3 .if3 .left) (Repeated (place .0 .0)) (sym (place .1) ∙ at-fault-of .fault-of .ensures)) in
+    let says = sym (said-rest (panelOf (a .n) (a .marks) (a .degree)) (a .terms .now) (a .set .now) known measured (at-if3 .if3 .left) (Repeated (place .0 .0)) (sym (place .1) ∙ at-fault-of .fault-of .ensures)) in
     given-refused _ _ _ _ (Twice (place .0 .0)) says (λ z. omega arith) (c .refused5 .ensures)
 
 pub accept-spec : {M : Type 1} → statement M

@@ -25,7 +25,7 @@ returns c =
     let g = c .before .before .accept in
     let no = g .ensures .refused (not-true _ (c .if1 .taken)) in
     ap (outcome (g .result .said)) (c .before .before .before .before .before .clear .ensures)
-    ∙ sym (wired-refused (panelOf (a .n) (a .marks)) (a .terms .now) (a .set .now) (length (a .out .now)) (g .result .said) (no .says) (no .code))
+    ∙ sym (wired-refused (panelOf (a .n) (a .marks) (a .degree)) (a .terms .now) (a .set .now) (length (a .out .now)) (g .result .said) (no .says) (no .code))
 
 wire-set-requires : tie.Need-wire-set-requires
 wire-set-requires c κs =
@@ -41,7 +41,7 @@ returns-2 c =
     let a = c .before .before .before .before .before .before .before .before .before .before .before .before .before .before .args in
     let g = c .before .before .before .before .before .before .accept in
     let taken = g .ensures .taken (not-false _ (c .before .before .before .before .if1 .left)) in
-    c .before .before .wire-set .ensures ∙ wired-given (panelOf (a .n) (a .marks)) (a .terms .now) (a .set .now) (length (a .out .now)) _ (g .result .set) taken (c .before .before .before .before .before .before .before .before .before .clear .kept .0)
+    c .before .before .wire-set .ensures ∙ wired-given (panelOf (a .n) (a .marks) (a .degree)) (a .terms .now) (a .set .now) (length (a .out .now)) _ (g .result .set) taken (c .before .before .before .before .before .before .before .before .before .clear .kept .0)
 
 pub wire-spec : {M : Type 1} → statement M
 wire-spec = tie.close (tie.spec clear-requires accept-requires same-length returns wire-set-requires same-length-2 returns-2)

@@ -24,8 +24,8 @@ returns-2 c =
     let new = sym (at-is-constant .is-constant .ensures) ∙ c .before .before .if1 .left in
     exponents-refused (a .panel) (a .m .e) new (sym (c .before .exponents-right .ensures) ∙ not-true _ (c .if2 .taken))
 
-may-be-requires : tie.Need-may-be-requires
-may-be-requires c κs = search needs
+can-build-requires : tie.Need-can-build-requires
+can-build-requires c κs = search needs
 
 returns-3 : tie.Need-returns-3
 returns-3 c =
@@ -33,8 +33,8 @@ returns-3 c =
     let at-is-constant = at-exponents .before .before in
     let a = at-is-constant .before .args in
     let new = sym (at-is-constant .is-constant .ensures) ∙ at-exponents .before .if1 .left in
-    c .may-be .ensures ∙ may-decides (a .panel) (a .m .e) new (sym (at-exponents .exponents-right .ensures) ∙ not-false _ (c .before .if2 .left))
+    c .can-build .ensures ∙ may-decides (a .panel) (a .m .e) new (search needs) (sym (at-exponents .exponents-right .ensures) ∙ not-false _ (c .before .if2 .left))
 
 pub monomial-right-spec : {M : Type 1} → statement M
 monomial-right-spec =
-    tie.close (tie.spec is-constant-requires returns exponents-right-requires returns-2 may-be-requires returns-3)
+    tie.close (tie.spec is-constant-requires returns exponents-right-requires returns-2 can-build-requires returns-3)

@@ -14,7 +14,7 @@ use Rattle.monomial.specs.Order.{before}
 use Rattle.monomial.proofs.Tests.{is→T}
 use Rattle.wiring.specs.Signals.{tabled, listed}
 use Rattle.wiring.specs.Terms.{records, system}
-use Rattle.walk.specs.Walk.{Finds, rulesOf, child, opens, opened, run}
+use Rattle.walk.specs.Walk.{Finds, kitRules, child, opens, opened, run}
 use Rattle.walk.specs.Listing.{Shown}
 use Rattle.walk.specs.Turns.{Child, Tells}
 use Rattle.walk.specs.declared.walk.State.{State}
@@ -29,7 +29,7 @@ use Rattle.walk.proofs.walk.+open+pairs.Proof.Cycle.{runner-at, runner-
 -- ---- the loop
 abbrev pub Inv-loop : runner-lts.InvT-loop
 Inv-loop terms out₀ list₀ f set m child₀ cur₀ a₀ out list child cur a =
-    Running (rulesOf (f .panel)) (f .panel .n) terms (f .level) (f .limit) set (m .e) cur₀ out₀ (a .e) cur out × ((length list ≡ length list₀) × (length child ≡ setBytes))
+    Running (kitRules (f .panel)) (f .panel .n) terms (f .level) (f .limit) set (m .e) cur₀ out₀ (a .e) cur out × ((length list ≡ length list₀) × (length child ≡ setBytes))
 
 abbrev pub μ-loop : runner-lts.MeasureT-loop
 μ-loop terms out₀ list₀ f set m child₀ cur₀ a₀ out list child cur a = length (from before (a .e) (divisors (m .e)))
@@ -71,7 +71,7 @@ module _ (t : ℕ) (c : Offered t) where
 
   -- whether it is opened
   abbrev pub test : Bool
-  test = opens (rulesOf (begun .args .f .panel)) (begun .args .f .panel .n) (begun .args .f .level) (tabled (begun .args .set .now)) (first, quo (begun .args .m .e) first)
+  test = opens (kitRules (begun .args .f .panel)) (begun .args .f .panel .n) (begun .args .f .level) (tabled (begun .args .set .now)) (first, quo (begun .args .m .e) first)
 
   -- the buffer of children, once it was offered
   abbrev pub nursery : List ℕ
@@ -84,7 +84,7 @@ module _ (t : ℕ) (c : Offered t) where
   offered-child =
       let a = begun .args in
       let s = tabled (a .set .now) in
-      subst (λ (b : Mono). Child (opens (rulesOf (a .f .panel)) (a .f .panel .n) (a .f .level) s (first, b)) (child (a .f .panel .n) s (first, b)) (c .offer .result) nursery) (c .before .over .ensures)
+      subst (λ (b : Mono). Child (opens (kitRules (a .f .panel)) (a .f .panel .n) (a .f .level) s (first, b)) (child (a .f .panel .n) s (first, b)) (c .offer .result) nursery) (c .before .over .ensures)
       (c .offer .ensures)
 
   pub offered-opens : test ≡ c .offer .result .go
@@ -100,33 +100,33 @@ module _ (t : ℕ) (c : Offered t) where
     offered-more =
         let a = begun .args in
         child-more (a .f .panel .n) (a .terms .now) (a .f .level) (a .set .now) (a .m .e) (a .st .count) (a .out .now) (begun .pre .1 .0) (begun .pre .1 .1 .0)
-        first (at-loop .loop .inv .0 .divisor) offered-lead (rulesOf (a .f .panel)) (c .offer .result) nursery offered-child go
+        first (at-loop .loop .inv .0 .divisor) offered-lead (kitRules (a .f .panel)) (c .offer .result) nursery offered-child go
 
     pub offered-within : c .offer .result .len ≤ begun .args .f .level
     offered-within =
         let a = begun .args in
         child-within (a .f .panel .n) (a .terms .now) (a .f .level) (a .set .now) (a .m .e) (a .st .count) (a .out .now) (begun .pre .1 .0) (begun .pre .1 .1 .0)
-        first (at-loop .loop .inv .0 .divisor) offered-lead (rulesOf (a .f .panel)) (c .offer .result) nursery offered-child go
+        first (at-loop .loop .inv .0 .divisor) offered-lead (kitRules (a .f .panel)) (c .offer .result) nursery offered-child go
 
     pub offered-long : length (listed (c .offer .result .len) nursery) ≡ c .offer .result .len
     offered-long =
         let a = begun .args in
         child-long (a .f .panel .n) (a .terms .now) (a .f .level) (a .set .now) (a .m .e) (a .st .count) (a .out .now) (begun .pre .1 .0) (begun .pre .1 .1 .0)
-        first (at-loop .loop .inv .0 .divisor) offered-lead (rulesOf (a .f .panel)) (c .offer .result) nursery offered-child go
+        first (at-loop .loop .inv .0 .divisor) offered-lead (kitRules (a .f .panel)) (c .offer .result) nursery offered-child go
 
     -- what the opener told of it, by its size
     abbrev pub told-of : ℕ → Turn → ℕ → List Mono → List ℕ → Type 0
     told-of len turn size s out' =
         (d : ℕ) (finds : Finds) → begun .args .f .level - len < d → Shown finds (reached .count) sheet
         → Tells turn out'
-        (run (begun .args .f .limit) (size / setBytes) (opened (rulesOf (begun .args .f .panel)) (begun .args .f .panel .n) (system (records (begun .args .terms .now))) (begun .args .f .level) d s) (reached .steps + 1) finds)
+        (run (begun .args .f .limit) (size / setBytes) (opened (kitRules (begun .args .f .panel)) (begun .args .f .panel .n) (system (records (begun .args .terms .now))) (begun .args .f .level) d s) (reached .steps + 1) finds)
 
     pub offered-told : (turn turn' : Turn) (out' : List ℕ) → turn ≡ turn'
         → told-of (length (listed (c .offer .result .len) nursery)) turn (length sheet) (listed (c .offer .result .len) nursery) out'
         → told-of (c .offer .result .len) turn' (length (begun .args .out .now)) offspring out'
     offered-told turn turn' out' e f =
         let a = begun .args in
-        told-as (rulesOf (a .f .panel)) (a .f .panel .n) (a .terms .now) (a .f .level) (a .f .limit) (reached .steps + 1) (reached .count) (c .offer .result .len) offspring _ (a .out .now) sheet out' turn turn'
+        told-as (kitRules (a .f .panel)) (a .f .panel .n) (a .terms .now) (a .f .level) (a .f .limit) (reached .steps + 1) (reached .count) (c .offer .result .len) offspring _ (a .out .now) sheet out' turn turn'
         (offered-child .is go) offered-long (at-loop .loop .inv .0 .long) e f
 
 -- ---- the place where it was walked

@@ -7,7 +7,7 @@ use borrow.Author.Needs.{needs}
 use lib.ListN.{length}
 use Rattle.wiring.specs.Signals.{tabled}
 use borrow.Author.Tests.{not-true, not-false}
-use Rattle.walk.specs.Walk.{rulesOf}
+use Rattle.walk.specs.Walk.{kitRules}
 use Rattle.walk.specs.Turns.{Ready, PairsFollow, Splits}
 use Rattle.walk.proofs.walk.Laws.{nothing-follows, pairs-follow}
 use Rattle.walk.proofs.walk.Runner.{means-kept, split-member, split-ready, split-tells}
@@ -25,22 +25,22 @@ module _ (t : ℕ) (c : Taken t) where
 
   -- the pairs of a nonsquare follow
   module _ (on : c .take-step .result .split ≡ true) where
-    follows : PairsFollow (rulesOf (begun .args .f .panel)) (begun .args .f .panel .n) (begun .args .terms .now) (begun .args .f .level) (begun .args .f .limit) (begun .args .set .now)
+    follows : PairsFollow (kitRules (begun .args .f .panel)) (begun .args .f .panel .n) (begun .args .terms .now) (begun .args .f .level) (begun .args .f .limit) (begun .args .set .now)
         (begun .args .st) (begun .args .out .now) (c .take-step .result .m .e) (c .take-step .last .1 .0)
     follows =
         let a = begun .args in
         let j = c .take-step in
-        pairs-follow (rulesOf (a .f .panel)) (a .f .panel .n) (a .terms .now) (a .f .level) (a .f .limit) (a .set .now) (a .st) (a .out .now) (j .result) (j .last .1 .0) on (j .ensures)
+        pairs-follow (kitRules (a .f .panel)) (a .f .panel .n) (a .terms .now) (a .f .level) (a .f .limit) (a .set .now) (a .st) (a .out .now) (j .result) (j .last .1 .0) on (j .ensures)
 
     follows-ready : Ready (begun .args .f .panel .n) (begun .args .terms .now) (begun .args .f .level) (begun .args .set .now) (begun .args .st .count) (c .take-step .last .1 .0)
     follows-ready =
         let a = begun .args in
-        split-ready (rulesOf (a .f .panel)) (a .f .panel .n) (a .terms .now) (a .f .level) (a .f .limit) (a .set .now) (a .st) (a .out .now) (begun .pre .1 .0) _ _ follows
+        split-ready (kitRules (a .f .panel)) (a .f .panel .n) (a .terms .now) (a .f .level) (a .f .limit) (a .set .now) (a .st) (a .out .now) (begun .pre .1 .0) _ _ follows
 
     follows-splits : Splits (begun .args .f .panel .n) (begun .args .terms .now) (begun .args .f .level) (begun .args .set .now) (c .take-step .result .m .e)
     follows-splits =
         let a = begun .args in
-        split-member (rulesOf (a .f .panel)) (a .f .panel .n) (a .terms .now) (a .f .level) (a .f .limit) (a .set .now) (a .st) (a .out .now) (begun .pre .1 .0) _ _ follows
+        split-member (kitRules (a .f .panel)) (a .f .panel .n) (a .terms .now) (a .f .level) (a .f .limit) (a .set .now) (a .st) (a .out .now) (begun .pre .1 .0) _ _ follows
 
 -- ---- its needs
 take-step-requires : (t : ℕ) → opener-lts.Need-take-step-requires (opener-claims t) (opener-at t) opener.Post
@@ -58,7 +58,7 @@ returns t c =
     let at-take-step = c .before .before .before .before .before .before in
     let a = begun t at-take-step .args in
     let j = at-take-step .take-step in
-    nothing-follows (rulesOf (a .f .panel)) (a .f .panel .n) (a .terms .now) (a .f .level) (a .f .limit) (a .set .now) (a .st) (a .out .now) (j .result) (j .last .1 .0)
+    nothing-follows (kitRules (a .f .panel)) (a .f .panel .n) (a .terms .now) (a .f .level) (a .f .limit) (a .set .now) (a .st) (a .out .now) (j .result) (j .last .1 .0)
     (not-true _ (c .if1 .taken)) (j .ensures) d finds (omega arith) sh
 
 add-t15 : (t : ℕ) → opener-lts.Need-add-t15 (opener-claims t) (opener-at t) opener.Post
@@ -96,7 +96,7 @@ returns-2 t c =
     let s = begun t at-take-step in
     let a = s .args in
     let r = at-pairs .pairs in
-    split-tells (rulesOf (a .f .panel)) (a .f .panel .n) (a .terms .now) (a .f .level) (a .f .limit) (a .set .now) (a .st) (a .out .now) (s .pre .1 .0) _ _
+    split-tells (kitRules (a .f .panel)) (a .f .panel .n) (a .terms .now) (a .f .level) (a .f .limit) (a .set .now) (a .st) (a .out .now) (s .pre .1 .0) _ _
     (follows t at-take-step (not-false _ (at-if1 .if1 .left))) (r .result) (r .last .1 .0) (r .ensures) d finds h sh
 
 pub opener-meets : {M : Type 1} (t : ℕ) → opener-lts.Closed (opener-claims t) (opener-at t) opener.Post M

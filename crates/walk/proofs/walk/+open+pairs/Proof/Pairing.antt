@@ -9,7 +9,7 @@ use lib.Seq.{length-take-le}
 use Rattle.monomial.specs.Monomial.{one, width}
 use Rattle.wiring.specs.Signals.{listed}
 use Rattle.monomial.proofs.Tests.{is→T, is→nT}
-use Rattle.walk.specs.Walk.{rulesOf}
+use Rattle.walk.specs.Walk.{kitRules}
 use Rattle.walk.specs.declared.walk.Turn.the-variants.{Going, Spent, Full}
 use Rattle.walk.proofs.walk.Laws.{Running, running-start, running-showing, running-end, running-spent, running-shut, running-going, running-child-spent, running-child-full}
 use Rattle.walk.proofs.walk.Runner.{means-kept, fewer-left, gap-wide, gap-proper, child-ready}
@@ -23,8 +23,8 @@ loop-holds t c =
     let s = c .before .before .before .before in
     let a = s .args in
     let wide = gap-wide (a .f .panel .n) (a .terms .now) (a .f .level) (a .set .now) (a .m .e) (a .st .count) (a .out .now) (s .pre .1 .0) (s .pre .1 .1 .0) in (
-      subst (λ (w : ℕ). Running (rulesOf (a .f .panel)) (a .f .panel .n) (a .terms .now) (a .f .level) (a .f .limit) (a .set .now) (a .m .e) (a .st) (a .out .now) (one w) (a .st) (a .out .now)) wide
-          (running-start (rulesOf (a .f .panel)) (a .f .panel .n) (a .terms .now) (a .f .level) (a .f .limit) (a .set .now) (a .m .e) (a .st) (a .out .now)),
+      subst (λ (w : ℕ). Running (kitRules (a .f .panel)) (a .f .panel .n) (a .terms .now) (a .f .level) (a .f .limit) (a .set .now) (a .m .e) (a .st) (a .out .now) (one w) (a .st) (a .out .now)) wide
+          (running-start (kitRules (a .f .panel)) (a .f .panel .n) (a .terms .now) (a .f .level) (a .f .limit) (a .set .now) (a .m .e) (a .st) (a .out .now)),
       (refl, refl),
     )
 
@@ -46,11 +46,11 @@ returns t c =
     let a = s .args in
     let proper = gap-proper (a .f .panel .n) (a .terms .now) (a .f .level) (a .set .now) (a .m .e) (a .st .count) (a .out .now) (s .pre .1 .0) (s .pre .1 .1 .0) in
     let lead = is→T _ (sym (at-leads .leads .ensures) ∙ c .before .before .if1 .taken) in
-    running-spent (rulesOf (a .f .panel)) (a .f .panel .n) (a .terms .now) (a .f .level) (a .f .limit) (a .set .now) (a .m .e) (a .st) (a .out .now)
+    running-spent (kitRules (a .f .panel)) (a .f .panel .n) (a .terms .now) (a .f .level) (a .f .limit) (a .set .now) (a .m .e) (a .st) (a .out .now)
     (at-loop .loop .inv .0) proper lead (omega arith) d finds h sh
 
-add-t19 : (t : ℕ) → runner-lts.Need-add-t19 (runner-claims t) (runner-at t) runner.Post Inv-loop μ-loop
-add-t19 t c = search needs
+add-t20 : (t : ℕ) → runner-lts.Need-add-t20 (runner-claims t) (runner-at t) runner.Post Inv-loop μ-loop
+add-t20 t c = search needs
 
 slice-aggregate-offer : (t : ℕ) → runner-lts.Need-slice-aggregate-offer (runner-claims t) (runner-at t) runner.Post Inv-loop μ-loop
 slice-aggregate-offer t c = sym (c .before .before .before .before .before .loop .inv .1 .1)
@@ -86,10 +86,10 @@ open-requires t c κs =
     let a = s .args in
     let k = at-loop t o .loop in
     let go = c .before .before .before .before .if3 .taken in
-    let showing = running-showing (rulesOf (a .f .panel)) (a .f .panel .n) (a .terms .now) (a .f .level) (a .f .limit) (a .set .now) (a .m .e) (a .st) (a .out .now) (k .a .e) (k .cur)
+    let showing = running-showing (kitRules (a .f .panel)) (a .f .panel .n) (a .terms .now) (a .f .level) (a .f .limit) (a .set .now) (a .m .e) (a .st) (a .out .now) (k .a .e) (k .cur)
     (k .out) (k .inv .0) (s .pre .1 .0 .showing) in
     let ready = child-ready (a .f .panel .n) (a .terms .now) (a .f .level) (a .set .now) (a .m .e) (a .st .count) (a .out .now) (s .pre .1 .0) (s .pre .1 .1 .0)
-    (k .a .e) (k .inv .0 .divisor) (offered-lead t o) (rulesOf (a .f .panel)) (o .offer .result) (nursery t o) (offered-child t o) go (omega (arith, nursery-long t o)) (k .cur .count) (k .out) showing in
+    (k .a .e) (k .inv .0 .divisor) (offered-lead t o) (kitRules (a .f .panel)) (o .offer .result) (nursery t o) (offered-child t o) go (omega (arith, nursery-long t o)) (k .cur .count) (k .out) showing in
     let step : 2 * (a .f .level - length (listed (o .offer .result .len) (nursery t o))) + 1 < t = omega (arith, s .pre .0, offered-more t o go, offered-within t o go, offered-long t o go) in
     (step, (ready, means-kept _ _ _ _ (k .inv .1 .0) (s .pre .1 .1 .1)))
 
@@ -113,7 +113,7 @@ returns-2 t c =
     let s = begun t o in
     let a = s .args in
     let go = returned-go t w in
-    running-child-spent (rulesOf (a .f .panel)) (a .f .panel .n) (a .terms .now) (a .f .level) (a .f .limit) (a .set .now) (a .m .e) (a .st) (a .out .now)
+    running-child-spent (kitRules (a .f .panel)) (a .f .panel .n) (a .terms .now) (a .f .level) (a .f .limit) (a .set .now) (a .m .e) (a .st) (a .out .now)
     (at-loop t o .loop .inv .0) (offered-proper t o) (offered-lead t o) (o .offer .result .len) (offered-more t o go) (s .pre .1 .1 .0 .below)
     (offered-low t o) (offered-opens t o ∙ go) (w .«open» .last .1 .0) (returned-told t w Spent (c .enum-told .given .1)) d finds h sh
 
@@ -135,7 +135,7 @@ returns-3 t c =
     let a = s .args in
     let go = returned-go t w in
     let taken = c .before .s2 .given .0 .0 in
-    running-child-full (rulesOf (a .f .panel)) (a .f .panel .n) (a .terms .now) (a .f .level) (a .f .limit) (a .set .now) (a .m .e) (a .st) (a .out .now)
+    running-child-full (kitRules (a .f .panel)) (a .f .panel .n) (a .terms .now) (a .f .level) (a .f .limit) (a .set .now) (a .m .e) (a .st) (a .out .now)
     (at-loop t o .loop .inv .0) (offered-proper t o) (offered-lead t o) (o .offer .result .len) (offered-more t o go) (s .pre .1 .1 .0 .below)
     (offered-low t o) (offered-opens t o ∙ go) taken (w .«open» .last .1 .0) (returned-told t w (Full taken) (c .before .s2 .given .1)) d finds h sh
 
@@ -166,13 +166,13 @@ loop-again t c =
     let go = w .0 .taken in
     let told = offered-told t o go (w .5 .result) (Going (w .11 .given .0 .0)) (w .5 .last .1 .0) (w .11 .given .1) (w .5 .ensures) in
     rw (c .next-divisor .ensures, w .13, w .14, w .15) (
-      running-going (rulesOf (a .f .panel)) (a .f .panel .n) (a .terms .now) (a .f .level) (a .f .limit) (a .set .now) (a .m .e) (a .st) (a .out .now) (k .inv .0) (offered-proper t o) (offered-lead t o)
+      running-going (kitRules (a .f .panel)) (a .f .panel .n) (a .terms .now) (a .f .level) (a .f .limit) (a .set .now) (a .m .e) (a .st) (a .out .now) (k .inv .0) (offered-proper t o) (offered-lead t o)
           (r .len) (offered-more t o go) (s .pre .1 .1 .0 .below) (offered-low t o) (offered-opens t o ∙ go) (w .11 .given .0 .0) (w .5 .last .1 .0) (w .5 .kept .1 .0) told,
       (w .5 .kept .1 .1 .0 ∙ k .inv .1 .0, nursery-long t o),
     ))
     (λ w.
     rw (c .next-divisor .ensures, w .1, w .2, w .3) (
-      running-shut (rulesOf (a .f .panel)) (a .f .panel .n) (a .terms .now) (a .f .level) (a .f .limit) (a .set .now) (a .m .e) (a .st) (a .out .now) (k .inv .0) (offered-proper t o) (offered-lead t o)
+      running-shut (kitRules (a .f .panel)) (a .f .panel .n) (a .terms .now) (a .f .level) (a .f .limit) (a .set .now) (a .m .e) (a .st) (a .out .now) (k .inv .0) (offered-proper t o) (offered-lead t o)
           _ refl refl (offered-low t o) (offered-opens t o ∙ w .0 .left),
       (k .inv .1 .0, nursery-long t o),
     ))
@@ -189,7 +189,7 @@ returns-4 t c =
     λ d finds h sh.
     let start = c .before .before .before .before .before .before .before in
     let a = start .args in
-    running-end (rulesOf (a .f .panel)) (a .f .panel .n) (a .terms .now) (a .f .level) (a .f .limit) (a .set .now) (a .m .e) (a .st) (a .out .now) (c .before .before .loop .inv .0)
+    running-end (kitRules (a .f .panel)) (a .f .panel .n) (a .terms .now) (a .f .level) (a .f .limit) (a .set .now) (a .m .e) (a .st) (a .out .now) (c .before .before .loop .inv .0)
     (is→nT _ (sym (c .before .leads .ensures) ∙ c .if1 .left)) d finds h sh
 
 pub runner-meets : {M : Type 1} (t : ℕ) → runner-lts.Closed (runner-claims t) (runner-at t) runner.Post M
@@ -200,7 +200,7 @@ runner-meets t =
     (same-length t)
     (same-length-2 t)
     (returns t)
-    (add-t19 t)
+    (add-t20 t)
     (slice-aggregate-offer t)
     (over-requires t)
     (offer-requires t)
