@@ -1,7 +1,7 @@
 -- What a plan of clean records says of quadratic sets, over Definition 1 itself and by any rules: of the lists of monomials of any powers, in any
 -- order and with repeats, that hold the start and besides only what may be (`Counts`), no quadratic one has fewer members than the level reached;
 -- done lists every quadratic set of that size and no other. By document 01's rules every list counts (`bare-extends`),
--- by a panel's every one without signals (`free-counts`). Assumes nothing.
+-- by those of a kit every one that it can build (`buildable-counts`). Assumes nothing.
 use mathlib.Core.Path.{_≡_, refl, sym, subst}
 use mathlib.Core.List.{List, [], _∷_, List·Memᴰ·not-nil}
 use Prim.Native.Nat.{ℕ, zero, suc, _<_, _≤_}
@@ -186,7 +186,7 @@ module _ (r : Rules) (n : ℕ) (d e : Mono → Poly Mono) (same-on : (s : List M
   quadratic-back : (s : List Mono) → Counts r s → QuadraticList n e s → QuadraticList n d s
   quadratic-back s x = quadratic-same plain (signals width n s) e d (λ z h. sym (same-on s x z h))
 
-  pub none-smaller-by : (j : ℕ) → NoneSmaller r n d j → NoneSmaller r n e j
+  none-smaller-by : (j : ℕ) → NoneSmaller r n d j → NoneSmaller r n e j
   none-smaller-by j f s w x q = f s w x (quadratic-back s x q)
 
   pub smallest-by : (j : ℕ) (l : Finds) → Smallest r n d j l → Smallest r n e j l

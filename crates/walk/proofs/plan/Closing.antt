@@ -6,7 +6,7 @@ use mathlib.Core.List.{List, _++_}
 use Prim.Native.Nat.{ℕ, suc, _*_, _-_, _/_, _≤_}
 use native.Mathlib.Omega.{arith}
 use lib.ListN.{length, replicate}
-use Rattle.monomial.specs.Monomial.{Mono, width}
+use Rattle.monomial.specs.Monomial.{Mono}
 use Rattle.wiring.specs.Panel.{cards, setBytes}
 use Rattle.wiring.specs.Poly.{Poly}
 use Rattle.wiring.specs.Sockets.{fullPanel, mayBe}
@@ -14,9 +14,6 @@ use Rattle.wiring.specs.Terms.{records, system, CleanTerms}
 use Rattle.wiring.specs.Reply.{outcome, refused}
 use Rattle.wiring.specs.declared.panel.Panel.{Panel}
 use Rattle.wiring.specs.declared.reply.Reply.the-variants.{Done, Nothing, Full}
-use Rattle.wiring.specs.Claims.{beyond}
-use Rattle.wiring.proofs.terms.Exact.{clean-exact}
-use Rattle.wiring.proofs.terms.Laws.{clean-for}
 use Rattle.walk.specs.Walk.{Finds, Rules, Step, allowing, bare, counted, rulesOf, level, walked}
 use Rattle.walk.specs.Plan.{Ending, done, none, fullAt, plan, setsBytes, said, planned}
 use Rattle.walk.specs.Claims.{Pruned, Alike, NoMore, Accepted}
@@ -25,7 +22,7 @@ use Rattle.walk.proofs.Kit.{full-level, unmarked-open}
 use Rattle.walk.proofs.Alike.{alike-of, plan-alike, done-back, none-back}
 use Rattle.walk.proofs.Counting.{counted-alike}
 use Rattle.walk.proofs.children.Laws.{empty-walked}
-use Rattle.walk.proofs.plan.Exact.{planned-walk}
+use Rattle.walk.proofs.plan.Exact.{accepted-clean, planned-walk}
 use Rattle.walk.proofs.plan.Laws.{said-done, said-none, said-full}
 
 module _ (panel : Panel) (cap limit : ℕ) (terms : List ℕ) (a : Accepted panel cap limit terms) where
@@ -36,11 +33,8 @@ module _ (panel : Panel) (cap limit : ℕ) (terms : List ℕ) (a : Accepted pane
   abbrev open-rules : Rules
   open-rules = allowing (mayBe panel)
 
-  clean : CleanTerms terms
-  clean = clean-for panel width terms (a .range .ranged .high) (clean-exact panel (records terms) beyond .1 (a .flawless))
-
   pub plan-closing : Alike open-rules (rulesOf panel) (panel .n) fs cap
-  plan-closing = counted-alike open-rules (allowing-orderly (mayBe panel)) (panel .n) terms clean empty-walked cap (a .range .capped)
+  plan-closing = counted-alike open-rules (allowing-orderly (mayBe panel)) (panel .n) terms (accepted-clean panel cap limit terms a) empty-walked cap (a .range .capped)
 
   module _ (size : ℕ) where
     -- how planning ends, and the walk that closes nothing, under any limit
@@ -87,7 +81,7 @@ pub unmarked-closing : (n cap limit : ℕ) (terms : List ℕ) → Accepted (full
     → Alike bare (rulesOf (fullPanel n)) n (system (records terms)) cap
 unmarked-closing n cap limit terms a =
     let capped : cap ≤ cards = a .range .capped in
-    let six : CleanTerms terms = clean (fullPanel n) cap limit terms a in
+    let six : CleanTerms terms = accepted-clean (fullPanel n) cap limit terms a in
     let beside : Alike bare (counted bare) n (system (records terms)) cap =
     counted-alike bare (allowing-orderly (λ m. true)) n terms six empty-walked cap capped in
     alike-of bare (rulesOf (fullPanel n)) n (system (records terms)) cap

@@ -210,8 +210,8 @@ module _ (panel : Panel) (cap limit : ℕ) (terms : List ℕ) (a : Accepted pane
   clean-of : fault panel (records terms) ≡ Clean
   clean-of = clean-exact panel (records terms) beyond .1 (a .flawless)
 
-  clean-6 : CleanTerms terms
-  clean-6 = clean-for panel width terms (a .range .ranged .high) clean-of
+  pub accepted-clean : CleanTerms terms
+  accepted-clean = clean-for panel width terms (a .range .ranged .high) clean-of
 
   -- on V of it the derivative is that of what has one
   slope-built : (s : List Mono) → Buildable panel s → (z : Mono) → z ∈ signals width (panel .n) s → derivative plain system-of z ≡ derivativeIn panel terms z
@@ -225,14 +225,14 @@ module _ (panel : Panel) (cap limit : ℕ) (terms : List ℕ) (a : Accepted pane
   none-below : (j : ℕ) → j ≤ suc cap → Barren (rulesOf panel) (panel .n) (system (records terms)) j → NoneBelow panel terms j
   none-below j h f s w b q =
       let capped : cap ≤ cards = a .range .capped in
-      none-smaller-limit panel (panel .n) terms clean-6 j (omega arith) f s w (buildable-counts panel s b) (quadratic-built s b q)
+      none-smaller-limit panel (panel .n) terms accepted-clean j (omega arith) f s w (buildable-counts panel s b) (quadratic-built s b q)
 
   -- and each of j members is found at level j
   all-below : (j : ℕ) → j ≤ cap → Barren (rulesOf panel) (panel .n) (system (records terms)) j → (s : List Mono) → Wide s → Buildable panel s
       → QuadraticList (panel .n) (derivativeIn panel terms) s → length s ≡ j → arrangeBy same before s ∈ setsAt panel terms j
   all-below j h f s w b q =
       let capped : cap ≤ cards = a .range .capped in
-      all-limit panel (panel .n) terms clean-6 j (omega arith) f (omega arith) s w (buildable-counts panel s b) (quadratic-built s b q)
+      all-limit panel (panel .n) terms accepted-clean j (omega arith) f (omega arith) s w (buildable-counts panel s b) (quadratic-built s b q)
 
 -- ---- none, full and spent: no quadratic list that the kit can build has fewer members than the order
 module _ (panel : Panel) (cap limit : ℕ) (terms : List ℕ) (size o k : ℕ) (bytes : List ℕ) where
