@@ -1,17 +1,19 @@
 /*
- * The patch planner for C: planning, wiring and thinning. Link libplanner_c.a, which `rt staticlib planner_c` makes.
+ * The patch planner for C: planning, wiring, thinning, and reading a listing. Link libplanner_c.a, which
+ * `rt staticlib planner_c` makes.
  *
  * Numbers. A reply is five numbers, written to `five` in every case: code, order, count, steps, place. A number that
  * the table below does not name is 0.
  *
- * Bytes. Term records, set records and wiring records are runs of bytes without header or padding. No input is bad:
- * whatever breaks a rule gets a code.
+ * Bytes. Term records, set records, wiring records and texts are runs of bytes without header or padding, and a text
+ * without a zero at its end. No input is bad: whatever breaks a rule gets a code.
  *
- * Buffers. All memory is the caller's, and none of it is kept after the call. `terms` and `set` are only read. Every
- * byte of `out` is filled by every call: after SIRAGUMON_DONE by the answer and then zeros, after every other code by
- * zeros alone. `out` and `five` overlap nothing else that the call is given, and while it runs nobody else writes to
- * any of it. A length is in bytes and may be any number. Where it is 0 the pointer is not followed, and NULL will do.
- * `five` is never NULL.
+ * Buffers. All memory is the caller's, and none of it is kept after the call. What is const is only read. Every byte of
+ * what is lent for the answer, `out` or the `set` that a listing is read into, is filled by every call: after
+ * SIRAGUMON_DONE by the answer and then zeros, after every other code by zeros alone. It and `five` overlap nothing
+ * else that the call is given, and while it runs nobody else writes to any of it. A length is in bytes and may be any
+ * number. Where it is 0 the pointer is not followed, and NULL will do. What has no length is never NULL: `five`, and
+ * the `set` of a listing.
  *
  * Calls. There is no state behind them: they may run in any thread and at the same time. They take no heap, call
  * nothing but memcpy and memset, and always return. Stack, measured on x86-64 and rounded up: 6 KB for planning, 6 KB
@@ -39,18 +41,19 @@ enum siragumon_number {
 
 /*
  * The codes. The checks run in the order of the codes 1 and 2, then record by record 3 before 4, then planning, or 8,
- * 9, 6; the first that fails is the reply.
+ * 9, 6, or of a listing 10, 8, 11; the first that fails is the reply.
  */
 enum siragumon_code {
     /* plan: all smallest sets; order: size of a set, count of sets, steps.
        wire: the set is quadratic, and this is its list; order: size of the set, count of records.
        thin: all smallest quadratic subsets of the set; order: size of a subset, count of subsets, steps: all subsets
-       of the set, 2 to the power of its size. */
+       of the set, 2 to the power of its size.
+       read: the listing is right, and this is the set of its names; order: their number. */
     SIRAGUMON_DONE = 0,
     /* n, cap or limit out of range, a mark beyond xn, or a degree that no kit has. */
     SIRAGUMON_SETTING = 1,
     /* terms_len is no multiple of SIRAGUMON_TERM_BYTES or over SIRAGUMON_TERMS_BYTES; set_len is not
-       SIRAGUMON_SET_BYTES. */
+       SIRAGUMON_SET_BYTES; text_len is over SIRAGUMON_TEXT_MOST. */
     SIRAGUMON_LENGTH = 2,
     /* A field of a term record breaks its rule, as does the equation of a marked variable; place: the record, from
        1. */
@@ -66,11 +69,19 @@ enum siragumon_code {
     SIRAGUMON_FULL = 6,
     /* plan: the next step would pass the limit; order: the level of the step not taken, steps: the limit. */
     SIRAGUMON_SPENT = 7,
-    /* The set record breaks its rule, as does a monomial with a marked variable or above the kit's limit. */
+    /* The set record breaks its rule, as does a monomial with a marked variable or above the kit's limit.
+       read: the names form no set: one is a single variable, has an exponent over SIRAGUMON_SET_EXPONENT_MOST or a
+       marked variable, is above the kit's limit, or is the same as another. */
     SIRAGUMON_SET = 8,
-    /* The set is not quadratic; order: its size, place: number of the first signal whose derivative no products of two
-       signals make up. It is never a marked variable. */
-    SIRAGUMON_NOT_QUADRATIC = 9
+    /* wire, thin: the set is not quadratic; order: its size, place: number of the first signal whose derivative no
+       products of two signals make up. It is never a marked variable. */
+    SIRAGUMON_NOT_QUADRATIC = 9,
+    /* read: the text is no listing; place: the first byte, from 1, where no listing goes on, or text_len + 1 where the
+       text stops short. */
+    SIRAGUMON_UNREADABLE = 10,
+    /* read: a derivative line, multiplied out, is not the derivative; place: the first such line of the text, from
+       1. */
+    SIRAGUMON_FALSE_LINE = 11
 };
 
 /*
@@ -141,6 +152,9 @@ enum siragumon_code {
 #define SIRAGUMON_WIRES_MOST ((1 + SIRAGUMON_CARDS) * SIRAGUMON_TERMS_MOST)
 #define SIRAGUMON_WIRES_BYTES (SIRAGUMON_WIRES_MOST * SIRAGUMON_WIRE_BYTES)
 
+/* The most bytes of a listing. */
+#define SIRAGUMON_TEXT_MOST 4096
+
 /*
  * Plans: finds all smallest sets of new signals that make the system quadratic, up to `cap` of them (0 to
  * SIRAGUMON_CARDS), within `limit` steps (1 to SIRAGUMON_STEPS_MOST). They are the smallest among the sets that the kit
@@ -174,6 +188,20 @@ void siragumon_wire(uint64_t n, uint64_t marks, uint64_t degree, const uint8_t *
 void siragumon_thin(uint64_t n, uint64_t marks, uint64_t degree, const uint8_t *terms, size_t terms_len,
                     const uint8_t *set, size_t set_len, uint8_t *out, size_t out_len,
                     uint64_t five[SIRAGUMON_NUMBERS]);
+
+/*
+ * Reads a listing of the desktop tool, and says whether it is right for the system: whether its names form a set, and
+ * each of its derivative lines, multiplied out, is the derivative. A true line may use other pairs of signals than the
+ * wiring list, its terms in any order, and products more than once. docs/LISTING.md has the listing byte by byte: the
+ * variables are x1 to xn, the new names w0 to w5, and a coefficient is an integer of at most 1,000,000,000 either way.
+ *
+ * After SIRAGUMON_DONE `set` is a set record: the names' monomials ascending, in whatever order the text has them. The
+ * set is quadratic: wiring says SIRAGUMON_DONE or SIRAGUMON_FULL of it. SIRAGUMON_NOT_QUADRATIC is said neither here nor
+ * of that set.
+ */
+void siragumon_read_listing(uint64_t n, uint64_t marks, uint64_t degree, const uint8_t *terms, size_t terms_len,
+                            const uint8_t *text, size_t text_len, uint8_t set[SIRAGUMON_SET_BYTES],
+                            uint64_t five[SIRAGUMON_NUMBERS]);
 
 #ifdef __cplusplus
 }

@@ -1,5 +1,6 @@
-//! The front door: plans a patch from typed equations, thins a given set, or judges and wires it as it is. All of this
-//! is done by the proved program; here it is asked, and its answer said and drawn.
+//! The front door: plans a patch from typed equations, thins a given set, or judges and wires it as it is; prints a patch
+//! as the desktop tool's listing, and reads one. All of this is done by proved programs; here they are asked, and their
+//! answers said and drawn.
 
 mod algebra;
 mod asking;
@@ -28,6 +29,7 @@ use saying::watch::Watch;
 use saying::{export, report};
 use typed::given::Aim;
 use typed::options::Options;
+use typed::pasted::Pasted;
 use typed::settings::Settings;
 use typed::system::{Record, System};
 use typed::text::{Fault, Holds, Source};
@@ -65,25 +67,40 @@ fn run() -> u8 {
     let said = options.said.drain(..).map(|(kind, names)| Source::argument(Holds::Names(kind), names));
     let given = options.given.take().map(|(aim, set)| Source::argument(Holds::Set(aim), set));
     sources.extend(said.chain(given));
-    match parser::parse(&sources).and_then(|typed| System::of(&typed)) {
-        Ok(system) => answer(&sources, &system, &options),
-        Err(fault) => not_understood(&sources, &fault, &options),
+    let system = match parser::parse(&sources).and_then(|typed| System::of(&typed)) {
+        Ok(system) => system,
+        Err(fault) => return not_understood(&sources, &fault, &options),
+    };
+    let mut pasted = None;
+    if let Some(file) = &options.read {
+        match options::listing(file) {
+            Ok((name, bytes)) => {
+                let (listing, source) = Pasted::of(sources.len(), name, bytes);
+                sources.push(source);
+                pasted = Some(listing);
+            }
+            Err(why) => return not_understood(&sources, &Fault::nowhere(why), &options),
+        }
     }
+    answer(&sources, &system, pasted.as_ref(), &options)
 }
 
-fn answer(sources: &[Source], system: &System, options: &Options) -> u8 {
-    let answer = match ask(system, &options.settings) {
+fn answer(sources: &[Source], system: &System, pasted: Option<&Pasted>, options: &Options) -> u8 {
+    let answer = match ask(system, pasted, options) {
         Ok(answer) => answer,
         Err(why) if options.json => return print(FAILED, &export::error(sources, &Fault::nowhere(why))),
         Err(why) => return stop(FAILED, &format!("plan: {why}.\n")),
     };
-    let patch = Patch::of(system, &answer, options.settings.which);
+    // A listing that is read has its own wiring, and none is asked for.
+    let patch = Patch::of(system, &answer, options.settings.which).filter(|_| pasted.is_none());
     let mut report = Report {
         sources,
         system,
         settings: &options.settings,
         answer: &answer,
         patch: patch.as_ref(),
+        pasted,
+        as_listing: options.listing,
         drawn: Drawn::NotAsked,
     };
     if let Some(file) = &options.svg {
@@ -91,12 +108,21 @@ fn answer(sources: &[Source], system: &System, options: &Options) -> u8 {
     }
     let status = match answer.reply.code {
         _ if matches!(report.drawn, Drawn::Failed(..)) => FAILED,
-        DONE if patch.is_none() => REFUSED,
+        DONE if patch.is_none() && pasted.is_none() => REFUSED,
         DONE => LISTED,
         NONE | FULL | SPENT => NOT_LISTED,
         _ => REFUSED,
     };
-    print(status, &if options.json { export::answer(&report) } else { report.for_a_person() })
+    if options.json {
+        return print(status, &export::answer(&report));
+    }
+    let said = report.for_a_person();
+    if !options.listing {
+        return print(status, &said);
+    }
+    // A listing is for a file: where there is none, nothing is written there.
+    stop(status, &said);
+    print(status, answer.listing.as_deref().unwrap_or(""))
 }
 
 /// Writes the drawing. Where nothing is wired there is nothing to draw, and the file is left as it is.
@@ -112,9 +138,10 @@ fn draw(report: &Report, file: &str) -> Drawn {
     }
 }
 
-/// Asks what is asked of the given set; where there is none, for a plan. What fits no record is refused here, as the
-/// planner refuses a record.
-fn ask(system: &System, settings: &Settings) -> Result<Answer, String> {
+/// Asks what is asked of the given set or listing; where there is none, for a plan. What fits no record is refused here,
+/// as the planner refuses a record.
+fn ask(system: &System, pasted: Option<&Pasted>, options: &Options) -> Result<Answer, String> {
+    let settings = &options.settings;
     let records = match system.records() {
         Ok(records) => records,
         Err(place) => return Ok(Answer::refused(TERM, place)),
@@ -124,14 +151,21 @@ fn ask(system: &System, settings: &Settings) -> Result<Answer, String> {
     let terms = records.iter().flat_map(Record::bytes).collect();
     let degree = settings.degree.clone();
     let planner = Planner { runner, n: system.names.len(), marks: system.marks(), degree, terms };
-    let Some(given) = &system.given else {
-        return plan(&planner, settings, &Searched::of(system, settings));
-    };
-    match (given.set(), given.aim) {
-        (None, _) => Ok(Answer::refused(SET, 0)),
-        (Some(set), Aim::Thinning) => planner.thin(&set, settings.which),
-        (Some(set), Aim::Wiring) => planner.wire(&set),
+    if let Some(pasted) = pasted {
+        return planner.read(&pasted.bytes);
     }
+    let given = system.given.as_ref().map(|given| (given.set(), given.aim));
+    let mut answer = match given {
+        None => plan(&planner, settings, &Searched::of(system, settings)),
+        Some((None, _)) => Ok(Answer::refused(SET, 0)),
+        Some((Some(set), Aim::Thinning)) => planner.thin(&set, settings.which),
+        Some((Some(set), Aim::Wiring)) => planner.wire(&set),
+    }?;
+    let wired = settings.which.checked_sub(1).and_then(|at| answer.sets.get(usize::try_from(at).ok()?));
+    if let Some(set) = wired.filter(|_| options.listing) {
+        answer.listing = Some(planner.print(set, &answer.wires)?);
+    }
+    Ok(answer)
 }
 
 fn plan(planner: &Planner, settings: &Settings, searched: &Searched) -> Result<Answer, String> {

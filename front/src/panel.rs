@@ -28,6 +28,10 @@ pub const LEAST_DEGREE: u64 = 2;
 pub const MOST_DEGREE: u64 = 9;
 pub const FULL_DEGREE: u64 = VARIABLES as u64 * SET_POWER as u64;
 
+/// A listing of the desktop tool: its bytes, at most, and the largest coefficient that is written in one.
+pub const LISTING_BYTES: usize = 4_096;
+pub const LISTED_COEFFICIENT: u128 = 1_000_000_000;
+
 /// Steps of a search: at most, and where none are typed.
 pub const STEPS: u64 = 1_000_000_000;
 pub const USUAL_STEPS: u64 = 1_000_000;

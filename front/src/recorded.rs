@@ -1,7 +1,7 @@
-//! Recorded answers of the proved program, for tests.
+//! Recorded answers of the proved programs, for tests.
 
 use crate::algebra::Exponents;
-use crate::asking::answer::{planned, thinned, wired, Answer};
+use crate::asking::answer::{planned, printed, read, thinned, wired, Answer};
 use crate::panel::FULL_DEGREE;
 use crate::patch::Patch;
 use crate::typed::given::{self, Aim};
@@ -11,13 +11,21 @@ use crate::typed::system::{tests, Record, System};
 
 const RECORDED: &str = include_str!("../tests/recorded");
 
-/// What the program wrote. The call must be one that a case of front/tests/cases makes.
-fn written(system: &System, words: &str, input: &[u8]) -> String {
+/// The programs: `asked` and `listed`.
+const PROGRAMS: [&str; 2] = ["ask ", "list "];
+
+/// What a program wrote. The call must be one that a case of front/tests/cases makes.
+fn written_by(program: &str, system: &System, words: &str, input: &[u8]) -> String {
     let hex: String = input.iter().map(|byte| format!("{byte:02x}")).collect();
-    let call = format!("ask {} {} {words} [{hex}]", system.names.len(), system.marks());
+    let call = format!("{program}{} {} {words} [{hex}]", system.names.len(), system.marks());
     let mut lines = RECORDED.lines();
     assert!(lines.by_ref().any(|line| line == call), "not recorded: {call}");
-    lines.take_while(|line| !line.starts_with("ask ")).map(|line| format!("{line}\n")).collect()
+    let next = |line: &&str| PROGRAMS.iter().any(|program| line.starts_with(program));
+    lines.take_while(|line| !next(line)).map(|line| format!("{line}\n")).collect()
+}
+
+fn written(system: &System, words: &str, input: &[u8]) -> String {
+    written_by(PROGRAMS[0], system, words, input)
 }
 
 fn terms(system: &System) -> Vec<u8> {
@@ -49,6 +57,23 @@ pub fn thinning(system: &System, which: u64) -> Answer {
 pub fn wiring(system: &System) -> Answer {
     let (set, text) = of_set(system, "");
     wired(system.names.len(), &set, &text).unwrap()
+}
+
+/// What is said of a listing for a system.
+pub fn reading(system: &System, settings: &Settings, listing: &[u8]) -> Answer {
+    let terms = terms(system);
+    let words = format!("{} {}", settings.degree.digits(), terms.len());
+    let text = written_by(PROGRAMS[1], system, &words, &[&terms, listing].concat());
+    read(system.names.len(), system.marks(), listing, &text).unwrap()
+}
+
+/// A plan or a wiring, with the listing of its first set.
+pub fn with_listing(system: &System, answer: Answer) -> Answer {
+    let set = &answer.sets[0];
+    let input = [&given::record(set)[..], &terms(system)].concat();
+    let text = written_by(PROGRAMS[1], system, &FULL_DEGREE.to_string(), &input);
+    let listing = printed(system.names.len(), system.marks(), set, &answer.wires, &text).unwrap();
+    Answer { listing: Some(listing), ..answer }
 }
 
 const CROWDED: &str = include_str!("../tests/crowded.txt");

@@ -1,20 +1,22 @@
 //! Batches: cases side by side as bytes, and one line of answer for each.
 //!
-//! All numbers are low byte first. A case is a head of 48 bytes, then its
-//! terms, then its set:
+//! All numbers are low byte first. A case is a head of 56 bytes, then its
+//! terms, then what else is given: a set, or the text of a listing.
 //!
 //! | bytes | meaning |
 //! |---|---|
-//! | 0 | operation: 1 plan, 2 wire, 3 thin |
-//! | 1 | length of the set |
+//! | 0-1 | operation: 1 plan, 2 wire, 3 thin, 4 read a listing |
 //! | 2-3 | length of the terms, at most 600 |
-//! | 4-7 | length of the answer buffer, at most 65,536 |
+//! | 4-7 | length of what is given, at most 8,192 |
 //! | 8-15, 16-23, 24-31 | n, marks, degree |
 //! | 32-39, 40-47 | K, limit (planning's alone) |
+//! | 48-55 | length of the answer buffer, at most 65,536 (not reading's) |
+//!
+//! Reading lends no buffer. What its answer holds is the set, which comes back.
 
 use crate::degree::Degree;
 use crate::marks::Marks;
-use crate::operations::{plan_by, thin, wire};
+use crate::operations::{plan_by, read_listing, thin, wire};
 use crate::panel::FULL_DEGREE;
 use crate::reply::Reply;
 use crate::setting::Setting;
@@ -22,9 +24,8 @@ use crate::system::System;
 use crate::walk::Hopeless;
 use std::fmt::Write;
 
-/// Of a head, what stands before its numbers of 8 bytes.
-const LENGTHS_BYTES: usize = 8;
 const MOST_CASE_TERMS: usize = 600;
+pub const MOST_CASE_GIVEN: usize = 8_192;
 pub const MOST_CASE_BUFFER: usize = 65_536;
 
 /// The longest buffer whose bytes are written out one by one.
@@ -34,22 +35,29 @@ const MOST_SHOWN_BYTES: usize = 72;
 /// shows in the answer.
 pub const UNTOUCHED: u8 = 165;
 
-/// The three operations by their numbers in a batch.
+/// The four operations by their numbers in a batch.
 #[derive(Clone, Copy, PartialEq, Eq, Hash, Debug)]
 pub enum Operation {
     Plan = 1,
     Wire = 2,
     Thin = 3,
+    Read = 4,
 }
 
 impl Operation {
-    pub const ALL: [Operation; 3] = [Operation::Plan, Operation::Wire, Operation::Thin];
+    pub const ALL: [Operation; 4] = [
+        Operation::Plan,
+        Operation::Wire,
+        Operation::Thin,
+        Operation::Read,
+    ];
 
     pub fn name(self) -> &'static str {
         match self {
             Operation::Plan => "plan",
             Operation::Wire => "wire",
             Operation::Thin => "thin",
+            Operation::Read => "read",
         }
     }
 }
@@ -65,7 +73,8 @@ pub struct Case {
     pub limit: u64,
     pub buffer: usize,
     pub terms: Vec<u8>,
-    pub set: Vec<u8>,
+    /// The set of wiring and thinning, the text of reading.
+    pub given: Vec<u8>,
 }
 
 impl Case {
@@ -79,7 +88,7 @@ impl Case {
             limit,
             buffer,
             terms,
-            set: Vec::new(),
+            given: Vec::new(),
         }
     }
 
@@ -93,7 +102,7 @@ impl Case {
             limit: 0,
             buffer,
             terms,
-            set,
+            given: set,
         }
     }
 
@@ -101,6 +110,13 @@ impl Case {
         Case {
             operation: Operation::Thin,
             ..Case::wire(n, terms, set, buffer)
+        }
+    }
+
+    pub fn read(n: u64, terms: Vec<u8>, text: Vec<u8>) -> Case {
+        Case {
+            operation: Operation::Read,
+            ..Case::wire(n, terms, text, 0)
         }
     }
 
@@ -136,31 +152,37 @@ impl Case {
 
     /// Appends the case to a batch.
     pub fn write(&self, batch: &mut Vec<u8>) {
-        batch.push(self.operation as u8);
-        batch.push(self.set.len() as u8);
+        let buffer = self.buffer as u64;
+        batch.extend((self.operation as u16).to_le_bytes());
         batch.extend((self.terms.len() as u16).to_le_bytes());
-        batch.extend((self.buffer as u32).to_le_bytes());
-        for number in [self.n, self.marks, self.degree, self.cap, self.limit] {
+        batch.extend((self.given.len() as u32).to_le_bytes());
+        let settings = [self.n, self.marks, self.degree, self.cap, self.limit];
+        for number in settings.into_iter().chain([buffer]) {
             batch.extend(number.to_le_bytes());
         }
         batch.extend(&self.terms);
-        batch.extend(&self.set);
+        batch.extend(&self.given);
     }
 
-    /// The reply, and the buffer after the call.
+    /// The reply, and the buffer after the call, or the set that comes back.
     pub fn answer(&self) -> (Reply, Vec<u8>) {
         self.answer_by(Hopeless::Closed)
     }
 
     /// The same where planning does so with hopeless sets.
     pub fn answer_by(&self, hopeless: Hopeless) -> (Reply, Vec<u8>) {
-        let Case { terms, set, .. } = self;
+        let Case { terms, given, .. } = self;
         let setting = self.setting();
         let mut buffer = vec![UNTOUCHED; self.buffer];
         let reply = match self.operation {
             Operation::Plan => plan_by(hopeless, setting, self.cap, self.limit, terms, &mut buffer),
-            Operation::Wire => wire(setting, terms, set, &mut buffer),
-            Operation::Thin => thin(setting, terms, set, &mut buffer),
+            Operation::Wire => wire(setting, terms, given, &mut buffer),
+            Operation::Thin => thin(setting, terms, given, &mut buffer),
+            Operation::Read => {
+                let (reply, set) = read_listing(setting, terms, given);
+                buffer = set.to_vec();
+                reply
+            }
         };
         (reply, buffer)
     }
@@ -228,36 +250,42 @@ impl<'a> Cases<'a> {
         Ok(front)
     }
 
-    fn number(&mut self) -> Result<u64, Broken> {
-        let bytes = self.take(8)?;
+    /// A number of so many bytes.
+    fn number(&mut self, length: usize) -> Result<u64, Broken> {
+        let bytes = self.take(length)?;
         Ok(bytes
             .iter()
             .rev()
             .fold(0, |sum, &b| sum << 8 | u64::from(b)))
     }
 
+    /// A length of so many bytes that is not above the most.
+    fn length(&mut self, length: usize, most: usize) -> Result<usize, Broken> {
+        let number = self.number(length)?;
+        match number <= most as u64 {
+            true => Ok(number as usize),
+            false => Err(Broken),
+        }
+    }
+
     fn read(&mut self) -> Result<Case, Broken> {
-        let head = self.take(LENGTHS_BYTES)?;
+        let number = self.number(2)?;
         let operation = Operation::ALL
             .into_iter()
-            .find(|operation| *operation as u8 == head[0])
+            .find(|operation| *operation as u64 == number)
             .ok_or(Broken)?;
-        let set_length = usize::from(head[1]);
-        let terms_length = usize::from(u16::from_le_bytes([head[2], head[3]]));
-        let buffer = u32::from_le_bytes([head[4], head[5], head[6], head[7]]) as usize;
-        if terms_length > MOST_CASE_TERMS || buffer > MOST_CASE_BUFFER {
-            return Err(Broken);
-        }
+        let terms_length = self.length(2, MOST_CASE_TERMS)?;
+        let given_length = self.length(4, MOST_CASE_GIVEN)?;
         Ok(Case {
             operation,
-            n: self.number()?,
-            marks: self.number()?,
-            degree: self.number()?,
-            cap: self.number()?,
-            limit: self.number()?,
-            buffer,
+            n: self.number(8)?,
+            marks: self.number(8)?,
+            degree: self.number(8)?,
+            cap: self.number(8)?,
+            limit: self.number(8)?,
+            buffer: self.length(8, MOST_CASE_BUFFER)?,
             terms: self.take(terms_length)?.to_vec(),
-            set: self.take(set_length)?.to_vec(),
+            given: self.take(given_length)?.to_vec(),
         })
     }
 }
@@ -304,6 +332,8 @@ mod tests {
             Case::wire(4, vec![9], vec![8], 0).marked(Marks(1 << 63)),
             Case::plan(1, 2, 3, 4, vec![]).limited(Degree(u64::MAX)),
             Case::thin(5, vec![7], vec![6], 1).limited(Degree(2)),
+            Case::read(6, vec![4; 12], vec![3; 8_192]).marked(Marks(5)),
+            Case::read(2, vec![], vec![]).limited(Degree(9)),
         ]
     }
 
@@ -334,17 +364,18 @@ mod tests {
             limit: 0x0a09,
             buffer: 0x0001_0000,
             terms: vec![7; 0x0201],
-            set: vec![8; 36],
+            given: vec![8; 0x0102],
         }
         .write(&mut batch);
-        assert_eq!(batch[..8], [2, 36, 1, 2, 0, 0, 1, 0]);
+        assert_eq!(batch[..8], [2, 0, 1, 2, 2, 1, 0, 0]);
         assert_eq!(batch[8..16], [1, 2, 3, 4, 5, 6, 7, 8]);
         assert_eq!(batch[16..24], [12, 13, 0, 0, 0, 0, 0, 0]);
         assert_eq!(batch[24..32], [14, 15, 0, 0, 0, 0, 0, 0]);
         assert_eq!(batch[32..40], [2, 0, 0, 0, 0, 0, 0, 0]);
         assert_eq!(batch[40..48], [9, 10, 0, 0, 0, 0, 0, 0]);
-        assert_eq!(batch.len(), 48 + 0x0201 + 36);
-        assert_eq!(batch[48 + 0x0201], 8);
+        assert_eq!(batch[48..56], [0, 0, 1, 0, 0, 0, 0, 0]);
+        assert_eq!(batch.len(), 56 + 0x0201 + 0x0102);
+        assert_eq!(batch[56 + 0x0201 - 1..][..2], [7, 8]);
     }
 
     #[test]
@@ -383,19 +414,27 @@ mod tests {
     #[test]
     fn a_broken_case_ends_the_answers() {
         let good = write_batch(&[Case::wire(1, vec![], vec![0; SET_BYTES], 0)]);
-        let mut unknown = good.clone();
-        unknown[0] = Operation::ALL.len() as u8 + 1;
-        let mut none = good.clone();
-        none[0] = 0;
-        let mut long_terms = good.clone();
-        long_terms[2..4].copy_from_slice(&601_u16.to_le_bytes());
-        long_terms.extend([0; 601]);
-        let mut long_buffer = good.clone();
-        long_buffer[4..8].copy_from_slice(&65_537_u32.to_le_bytes());
-        let short_head = good[..47].to_vec();
+        let changed = |at: usize, bytes: &[u8]| {
+            let mut case = good.clone();
+            case[at..at + bytes.len()].copy_from_slice(bytes);
+            case.extend([0; 9_000]);
+            case
+        };
+        let unknown = Operation::ALL.len() as u8 + 1;
+        let broken = [
+            changed(0, &[unknown]),
+            changed(0, &[0]),
+            changed(1, &[1]),
+            changed(2, &601_u16.to_le_bytes()),
+            changed(4, &8_193_u32.to_le_bytes()),
+            changed(4, &(1_u32 << 31).to_le_bytes()),
+            changed(48, &65_537_u64.to_le_bytes()),
+            changed(48, &(1_u64 << 32).to_le_bytes()),
+        ];
+        let short_head = good[..55].to_vec();
         let short_set = good[..good.len() - 1].to_vec();
-        for broken in [unknown, none, long_terms, long_buffer] {
-            let batch = [good.clone(), broken, good.clone()].concat();
+        for broken in broken {
+            let batch = [good.clone(), broken].concat();
             assert_eq!(lines(&batch), ["0 0 0 0 0 -", BROKEN_LINE]);
         }
         for cut in [short_head, short_set] {

@@ -4,9 +4,10 @@
 use crate::batch::{Case, Operation};
 use crate::closing::lacks;
 use crate::degree::Degree;
+use crate::listing_cover;
 use crate::marks::Marks;
 use crate::monomial::Monomial;
-use crate::operations::{cap_is_in_range, limit_is_in_range};
+use crate::operations::{cap_is_in_range, limit_is_in_range, text_has_a_length};
 use crate::panel::{
     MOST_COEFFICIENT, MOST_EXPONENT, MOST_LIMIT, MOST_SET_EXPONENT, MOST_WIRES_BYTES, SET_BYTES,
     TERM_BYTES, WIRE_BYTES,
@@ -63,6 +64,7 @@ impl Cover {
             1 => self.setting(case),
             2 => self.length(case),
             3 | 4 => self.record(case, &reply),
+            _ if case.operation == Operation::Read => self.listing(case, &reply),
             8 => self.set_rule(case),
             9 => {
                 self.number(format!("{operation}: places of code 9"), reply.place);
@@ -150,9 +152,13 @@ impl Cover {
             let length = case.terms.len() as u64;
             self.number(format!("{operation}: lengths of terms refused"), length);
         }
-        if case.operation != Operation::Plan && case.set.len() != SET_BYTES {
-            let length = case.set.len() as u64;
-            self.number(format!("{operation}: lengths of sets refused"), length);
+        if !given_has_a_length(case) {
+            let given = match case.operation {
+                Operation::Read => "texts",
+                _ => "sets",
+            };
+            let length = case.given.len() as u64;
+            self.number(format!("{operation}: lengths of {given} refused"), length);
         }
     }
 
@@ -191,7 +197,7 @@ impl Cover {
     }
 
     fn set_rule(&mut self, case: &Case) {
-        let faults = set_faults(case.setting(), &case.set);
+        let faults = set_faults(case.setting(), &case.given);
         let [fault] = faults[..] else {
             self.count("code 8: several rules broken");
             return;
@@ -200,7 +206,7 @@ impl Cover {
         if fault == SetFault::DegreeAbove {
             self.above(case);
         }
-        for (j, monomial) in set_places(&case.set).iter().enumerate() {
+        for (j, monomial) in set_places(&case.given).iter().enumerate() {
             let Monomial(exponents) = monomial;
             if fault == SetFault::SingleVariable && monomial.is_variable() {
                 let variable = exponents.iter().position(|&e| e == 1).expect("a variable");
@@ -214,11 +220,32 @@ impl Cover {
         }
     }
 
+    /// Codes 0, 8, 10 and 11 of reading: what the text is an example of.
+    fn listing(&mut self, case: &Case, reply: &Reply) {
+        for fact in listing_cover::facts(case) {
+            self.count(format!("read: {fact}"));
+        }
+        match reply.code {
+            0 => {
+                self.number("read: sizes of sets", reply.order);
+                self.number("read: n of answers", case.n);
+            }
+            8 => {}
+            code => {
+                self.number(format!("read: places of code {code}"), reply.place);
+                self.number(
+                    format!("read, n {}: places of code {code}", case.n),
+                    reply.place,
+                );
+            }
+        }
+    }
+
     /// Where a set is above its limit, and by what.
     fn above(&mut self, case: &Case) {
         let limit = case.degree;
         let mut by_exponent = false;
-        for (j, monomial) in set_places(&case.set).iter().enumerate() {
+        for (j, monomial) in set_places(&case.given).iter().enumerate() {
             if monomial.degree() > limit {
                 self.number("code 8: places above the limit", j as u64 + 1);
                 let name = format!("code 8, limit {limit}: degrees above it");
@@ -237,6 +264,7 @@ impl Cover {
             Operation::Plan => self.planned(case, reply),
             Operation::Wire => self.wired(case, reply),
             Operation::Thin => self.thinned(case, reply),
+            Operation::Read => {}
         }
         self.number(format!("{}: n of answers", case.operation.name()), case.n);
     }
@@ -472,20 +500,29 @@ fn broken(record: &Fields, case: &Case) -> String {
     }
 }
 
-/// The system and the set (empty for planning) where both are good.
+/// Code 2 as far as it is about what is given beside the terms.
+fn given_has_a_length(case: &Case) -> bool {
+    match case.operation {
+        Operation::Plan => true,
+        Operation::Wire | Operation::Thin => case.given.len() == SET_BYTES,
+        Operation::Read => text_has_a_length(&case.given),
+    }
+}
+
+/// The system and the set (empty for planning and reading) where both are good.
 fn good_input(case: &Case) -> Option<(System, Set)> {
     let setting = case.setting();
     if !setting.is_in_range() || !terms_have_a_length(&case.terms) {
         return None;
     }
     let system = read_terms(setting, &case.terms).ok()?;
-    if case.operation == Operation::Plan {
-        return Some((system, Set::new()));
-    }
-    if case.set.len() != SET_BYTES {
+    if !given_has_a_length(case) {
         return None;
     }
-    Some((system, read_set(setting, &case.set).ok()?))
+    if [Operation::Plan, Operation::Read].contains(&case.operation) {
+        return Some((system, Set::new()));
+    }
+    Some((system, read_set(setting, &case.given).ok()?))
 }
 
 /// The codes of all refusals that the case would give, each rule by itself.
@@ -497,9 +534,8 @@ fn all_faults(case: &Case) -> BTreeSet<u64> {
     if !setting.is_in_range() || planning && !good_walk {
         codes.insert(1);
     }
-    let good_terms = terms_have_a_length(&case.terms);
-    let good_set = case.set.len() == SET_BYTES;
-    if !good_terms || !planning && !good_set {
+    let good_given = given_has_a_length(case);
+    if !terms_have_a_length(&case.terms) || !good_given {
         codes.insert(2);
     }
     if !setting.variables_are_in_range() {
@@ -509,7 +545,11 @@ fn all_faults(case: &Case) -> BTreeSet<u64> {
     if let Err(refusal) = read_terms(setting, &case.terms[..whole]) {
         codes.insert(refusal.code);
     }
-    if !planning && good_set && read_set(setting, &case.set).is_err() {
+    if case.operation == Operation::Read {
+        codes.extend(listing_cover::faults(case));
+        return codes;
+    }
+    if !planning && good_given && read_set(setting, &case.given).is_err() {
         codes.insert(8);
     }
     // A set above the limit is judged as the full kit would.

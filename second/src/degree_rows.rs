@@ -523,7 +523,7 @@ mod tests {
             assert!(group[..2].iter().all(|case| case.answer().0.code == 0));
             for (place, case) in group[2..].iter().enumerate() {
                 assert_eq!(numbers(case), [8, 0, 0, 0, 0]);
-                let degrees: Vec<u64> = crate::records::set_places(&case.set)
+                let degrees: Vec<u64> = crate::records::set_places(&case.given)
                     .iter()
                     .map(|m| m.degree())
                     .collect();

@@ -124,7 +124,7 @@ fn limits_that_are_misread() {
 
 /// The members of the given set.
 fn members(case: &Case) -> Vec<Monomial> {
-    let mut members = set_places(&case.set).to_vec();
+    let mut members = set_places(&case.given).to_vec();
     members.retain(|m| *m != Monomial::ONE);
     members
 }
@@ -181,14 +181,14 @@ fn full_kit_first(case: &Case, code: u64) -> Answer {
 
 /// The case with a set of some of its members.
 fn with_members(case: &Case, kept: impl Fn(&Monomial) -> bool) -> Case {
-    if case.operation == Operation::Plan || case.set.len() != SET_BYTES {
+    if case.operation == Operation::Plan || case.given.len() != SET_BYTES {
         return case.clone();
     }
-    let mut members = set_places(&case.set).to_vec();
+    let mut members = set_places(&case.given).to_vec();
     members.retain(kept);
     let set = write_places(&members).to_vec();
     Case {
-        set,
+        given: set,
         ..case.clone()
     }
 }

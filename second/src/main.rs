@@ -18,6 +18,16 @@ mod degree_rows;
 mod degree_ways;
 #[cfg(test)]
 mod degree_worked;
+mod listing;
+mod listing_cover;
+mod listing_maker;
+mod listing_rows;
+#[cfg(test)]
+mod listing_shape;
+#[cfg(test)]
+mod listing_ways;
+#[cfg(test)]
+mod listing_worked;
 mod maker;
 mod mark_maker;
 mod mark_rows;
@@ -30,9 +40,11 @@ mod monomial;
 mod no_room;
 mod notation;
 mod operations;
+mod page;
 mod panel;
 mod program;
 mod random;
+mod reading;
 mod records;
 mod reply;
 mod rows;

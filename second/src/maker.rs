@@ -11,6 +11,8 @@ use crate::closing_rows;
 use crate::damage::{break_set, break_term, Field, FIELDS, WAYS};
 use crate::degree_maker::JUNIOR;
 use crate::degree_rows;
+use crate::listing_maker::LISTINGS;
+use crate::listing_rows;
 use crate::mark_maker::MARKED;
 #[cfg(test)]
 use crate::mark_rows;
@@ -38,15 +40,24 @@ const STORED_COUNT: usize = 4_400;
 const STORED_MARKED: usize = 320;
 const STORED_CLOSING: usize = 400;
 const STORED_JUNIOR: usize = 300;
+const STORED_LISTINGS: usize = 300;
 
-/// The batch that is stored: fixed rows, then random cases, of the full kit, and
-/// after them those of the junior kit.
+/// The batch that is stored: fixed rows, then random cases, of the full kit, after
+/// them those of the junior kit, and those of reading at the end.
 pub fn stored() -> Vec<Case> {
     let mut cases = full_kit();
     cases.extend(first_unmarked(STORED_SEED, STORED_COUNT));
     cases.extend(first_marked(STORED_SEED, STORED_MARKED));
     cases.extend(first_closing(STORED_SEED, STORED_CLOSING));
     cases.extend(stored_junior());
+    cases.extend(stored_listings());
+    cases
+}
+
+/// Of the stored cases those of reading.
+pub fn stored_listings() -> Vec<Case> {
+    let mut cases = listing_rows::rows();
+    cases.extend(first_listings(STORED_SEED, STORED_LISTINGS));
     cases
 }
 
@@ -73,17 +84,27 @@ pub fn stored_closing() -> Vec<Case> {
     cases
 }
 
-/// Of each six cases the last is one of the junior kit.
-const JUNIOR_ROUND: usize = 6;
+/// Of each five cases the last is one of reading.
+const LISTING_ROUND: usize = 5;
 
 /// The first so many cases that a seed gives.
 pub fn batch(seed: u64, count: usize) -> Vec<Case> {
+    let listings = count / LISTING_ROUND;
+    let others = first_sets(seed, count - listings);
+    with_last(LISTING_ROUND, others, first_listings(seed, listings))
+}
+
+/// Of each six of the others the last is one of the junior kit.
+const JUNIOR_ROUND: usize = 6;
+
+/// The cases of planning, wiring and thinning.
+fn first_sets(seed: u64, count: usize) -> Vec<Case> {
     let junior = count / JUNIOR_ROUND;
     let others = first_full_kit(seed, count - junior);
     with_last(JUNIOR_ROUND, others, first_junior(seed, junior))
 }
 
-/// Of each eight of the others the last is one of the counting rule.
+/// Of each eight of the full kit the last is one of the counting rule.
 const CLOSING_ROUND: usize = 8;
 
 fn first_full_kit(seed: u64, count: usize) -> Vec<Case> {
@@ -148,6 +169,11 @@ fn first_closing(seed: u64, count: usize) -> Vec<Case> {
 /// The cases of the junior kit, with random numbers of their own.
 fn first_junior(seed: u64, count: usize) -> Vec<Case> {
     first_cases(!seed.rotate_left(48), &JUNIOR, count)
+}
+
+/// The cases of reading, with random numbers of their own.
+pub fn first_listings(seed: u64, count: usize) -> Vec<Case> {
+    first_cases(seed.rotate_left(16), &LISTINGS, count)
 }
 
 fn first_cases(seed: u64, mix: &'static Mix, count: usize) -> Vec<Case> {
@@ -847,9 +873,9 @@ impl Maker {
                 let place = self.random.below(CARDS);
                 break_set(&mut self.random, &mut members, n, place, way);
             }
-            case.set = write_places(&members).to_vec();
+            case.given = write_places(&members).to_vec();
             if self.random.chance(20) {
-                case.set.truncate(self.random.below(SET_BYTES));
+                case.given.truncate(self.random.below(SET_BYTES));
             }
         }
         self.cases.push(case);
@@ -880,8 +906,18 @@ mod tests {
 
     #[test]
     fn each_run_of_cases_has_its_own_places_and_changes_no_other() {
+        let (mut listings, mut sets) = (Vec::new(), Vec::new());
+        for (index, case) in batch(5, 616).into_iter().enumerate() {
+            match index % LISTING_ROUND {
+                4 => listings.push(case),
+                _ => sets.push(case),
+            }
+        }
+        let is_reading = |case: &Case| case.operation == Operation::Read;
+        assert!(listings.iter().all(is_reading) && !sets.iter().any(is_reading));
+        assert_eq!(listings, first_listings(5, 123));
         let (mut junior, mut full_kit) = (Vec::new(), Vec::new());
-        for (index, case) in batch(5, 493).into_iter().enumerate() {
+        for (index, case) in sets.into_iter().enumerate() {
             match index % JUNIOR_ROUND {
                 5 => junior.push(case),
                 _ => full_kit.push(case),
@@ -1107,7 +1143,7 @@ mod tests {
             "plan: K with code 5: 0-6 (7)".to_string(),
             "wire: places of code 9: 1-12 (12)".to_string(),
         ];
-        for operation in Operation::ALL.map(Operation::name) {
+        for operation in ["plan", "wire", "thin"] {
             lines.push(format!("{operation}: places of code 3: 1-32 (32)"));
             lines.push(format!("{operation}: n of answers: 1-6 (6)"));
         }
@@ -1231,6 +1267,74 @@ mod tests {
         ];
         for name in kinds {
             assert_count(&report, name, 3);
+        }
+    }
+
+    #[test]
+    fn what_is_stored_of_reading_covers_its_codes_and_places() {
+        let report = report_of(&stored_listings());
+        let lines = vec![
+            "read: degrees with code 0: 2-9 (8)".to_string(),
+            "read: degrees with code 8: 2-9 (8)".to_string(),
+            "read: n of answers: 1-6 (6)".to_string(),
+            "read: places of code 11: 3-20 (18)".to_string(),
+            "read: sizes of sets: 0-6 (7)".to_string(),
+            "read, n 1: places of code 11: 3-15 (13)".to_string(),
+            "read, n 6: places of code 11: 3-20 (18)".to_string(),
+        ];
+        assert_lines(&report, lines);
+        // The example of document 000 at every byte, and the longest text.
+        assert!(report.contains("\nread: places of code 10: 1-122 "));
+        assert!(report.contains(" 4096-4097 ("));
+        assert!(report.contains("read: lengths of texts refused: 4097 "));
+        let kinds = [
+            "checks: 1 before 10",
+            "checks: 1 before 2",
+            "checks: 1 before 3",
+            "checks: 1 before 8",
+            "checks: 2 before 10",
+            "checks: 2 before 11",
+            "checks: 2 before 3",
+            "checks: 2 before 4",
+            "checks: 2 before 8",
+            "checks: 3 before 10",
+            "checks: 3 before 8",
+            "checks: 4 before 10",
+            "checks: 4 before 8",
+            "checks: 8 before 11",
+            "read: false line: a monomial is missing",
+            "read: false line: a monomial too many",
+            "read: false line: another coefficient",
+            "read: false line: another monomial",
+            "read: false line: every sign is wrong",
+            "read: no set: degree above the limit",
+            "read: no set: equal neighbours",
+            "read: no set: exponent above 54",
+            "read: no set: monomial with a signal",
+            "read: no set: single variable",
+            "read: right: a constant",
+            "read: right: a lone 0",
+            "read: right: a square",
+            "read: right: a sum beyond 32 bits",
+            "read: right: as long as a text may be",
+            "read: right: like products",
+            "read: right: names out of order",
+            "read: right: no derivative line",
+            "read: right: products that cancel",
+            "read: right: the largest coefficient",
+            "read: unreadable in a derivative line: *",
+            "read: unreadable in a derivative line: a digit",
+            "read: unreadable in a derivative line: a letter",
+            "read: unreadable in a derivative line: the end",
+            "read: unreadable in a name line: a digit",
+            "read: unreadable in a name line: the end",
+            "read: unreadable in the heading: the end",
+        ];
+        for name in kinds {
+            assert_count(&report, name, 2);
+        }
+        for code in [0, 1, 2, 3, 4, 8, 10, 11] {
+            assert_count(&report, &format!("read: code {code} {}", NAMES[code]), 15);
         }
     }
 

@@ -415,7 +415,7 @@ fn places_with_marks() -> Vec<Case> {
     }
     // What has neither an equation nor a place in the set is marked.
     for (size, _, case) in places_of_code_9() {
-        let in_set = |i: usize| case.set.chunks(VARIABLES).any(|m| m[i - 1] > 0);
+        let in_set = |i: usize| case.given.chunks(VARIABLES).any(|m| m[i - 1] > 0);
         let fed = |i: usize| {
             case.terms
                 .chunks(TERM_BYTES)

@@ -52,10 +52,10 @@ fn unmarked_records(case: &Case) -> Vec<u8> {
 
 /// The members of the given set that have no marked variable.
 fn unmarked_members(case: &Case) -> Vec<u8> {
-    if case.set.len() != SET_BYTES {
-        return case.set.clone();
+    if case.given.len() != SET_BYTES {
+        return case.given.clone();
     }
-    let mut members = set_places(&case.set).to_vec();
+    let mut members = set_places(&case.given).to_vec();
     members.retain(|m| *m != Monomial::ONE && !Marks(case.marks).touch(*m));
     write_places(&members).to_vec()
 }
@@ -102,7 +102,7 @@ fn marks_that_are_misread() {
             with_marks(c, c.marks & !Marks::of(fed).0)
         }),
         ("members with a signal are passed over", |c| Case {
-            set: unmarked_members(c),
+            given: unmarked_members(c),
             ..c.clone()
         }),
     ];
@@ -137,7 +137,7 @@ fn read_with(case: &Case, records: Marks, set: Marks) -> Answer {
                 Operation::Plan => {
                     planned(Hopeless::Closed, &system, case.cap, case.limit, &mut answer)
                 }
-                _ => match read_set(with(set), &case.set) {
+                _ => match read_set(with(set), &case.given) {
                     Err(refusal) => refusal,
                     Ok(set) => wired(&system, &set, &mut answer),
                 },
@@ -154,7 +154,7 @@ fn refused_by_first(case: &Case, size: usize) -> Answer {
     if right.0.code != 8 {
         return right;
     }
-    let members = &set_places(&case.set)[..size];
+    let members = &set_places(&case.given)[..size];
     match members.iter().any(|m| Marks(case.marks).touch(*m)) {
         true => right,
         false => read_with(case, Marks(case.marks), Marks::NONE),

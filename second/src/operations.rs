@@ -1,8 +1,10 @@
-//! The three operations, with the checks in their sequence
-//! (document 01, What the box says; document 02, [1] to [4] and [6]).
+//! The four operations, with the checks in their sequence
+//! (document 01, What the box says; document 02, [1] to [4], [6] and [7]).
 
+use crate::listing::{read, Unreadable};
 use crate::monomial::Monomial;
-use crate::panel::{MOST_CAP, MOST_LIMIT, SET_BYTES, WIRE_BYTES};
+use crate::panel::{MOST_CAP, MOST_LIMIT, MOST_TEXT, SET_BYTES, WIRE_BYTES};
+use crate::reading::{first_false, named, set_of_names};
 use crate::records::{
     read_set, read_terms, terms_have_a_length, write_places, write_set, write_wire,
 };
@@ -169,6 +171,45 @@ pub fn thin(setting: Setting, terms: &[u8], set: &[u8], answer: &mut [u8]) -> Re
     Reply {
         count: thinned.subsets.len() as u64,
         ..reply
+    }
+}
+
+/// Code 2 as far as it is about the text of a listing.
+pub fn text_has_a_length(text: &[u8]) -> bool {
+    text.len() <= MOST_TEXT
+}
+
+/// Reading a listing. The set comes back by value, and is all zeros with every code
+/// but 0.
+pub fn read_listing(setting: Setting, terms: &[u8], text: &[u8]) -> (Reply, [u8; SET_BYTES]) {
+    match listed(setting, terms, text) {
+        Ok(set) => {
+            let reply = Reply {
+                order: set.len() as u64,
+                ..Reply::default()
+            };
+            (reply, write_set(&set))
+        }
+        Err(refusal) => (refusal, [0; SET_BYTES]),
+    }
+}
+
+/// The set of a listing in which all is right, or the refusal. Whether the set is
+/// quadratic is not asked: true lines say so.
+fn listed(setting: Setting, terms: &[u8], text: &[u8]) -> Result<Set, Reply> {
+    if !setting.is_in_range() {
+        return Err(Reply::bare(1));
+    }
+    if !terms_have_a_length(terms) || !text_has_a_length(text) {
+        return Err(Reply::bare(2));
+    }
+    let system = read_terms(setting, terms)?;
+    let listing = read(setting, text).map_err(|Unreadable(place)| Reply::at(10, place))?;
+    let names = named(&listing).ok_or(Reply::bare(8))?;
+    let set = set_of_names(setting, &names).ok_or(Reply::bare(8))?;
+    match first_false(&system, &names, &listing) {
+        Some(line) => Err(Reply::at(11, line)),
+        None => Ok(set),
     }
 }
 

@@ -51,6 +51,10 @@ pub const WIRE_BYTES: usize = WIRE_COEFFICIENT_AT + COEFFICIENT_BYTES;
 pub const MOST_WIRES: usize = (1 + CARDS) * MOST_TERMS;
 pub const MOST_WIRES_BYTES: usize = MOST_WIRES * WIRE_BYTES;
 
+// The desktop tool's listing: its length, and the coefficients that stand in it.
+pub const MOST_TEXT: usize = 4_096;
+pub const MOST_LISTED_COEFFICIENT: i128 = 1_000_000_000;
+
 // What the document's program plans with, and its worked rows where they name
 // nothing else.
 pub const USUAL_CAP: u64 = MOST_CAP;

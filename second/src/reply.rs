@@ -1,5 +1,5 @@
 //! What the box says: a code and the four numbers that may go with it
-//! (document 01, What the box says).
+//! (document 01, What the box says; document 02, [7]).
 
 use std::fmt;
 
@@ -13,8 +13,8 @@ pub struct Reply {
     pub place: u64,
 }
 
-/// The names of the codes, as the document's table gives them.
-pub const NAMES: [&str; 10] = [
+/// The names of the codes, as document 01's table and document 02, [7] give them.
+pub const NAMES: [&str; 12] = [
     "done",
     "setting",
     "length",
@@ -25,6 +25,8 @@ pub const NAMES: [&str; 10] = [
     "spent",
     "set",
     "not quadratic",
+    "unreadable",
+    "false line",
 ];
 
 impl Reply {
@@ -36,7 +38,7 @@ impl Reply {
         }
     }
 
-    /// A reply that points at a record: 3 and 4.
+    /// A reply that points at a record, a byte or a line: 3, 4, 10 and 11.
     pub fn at(code: u64, place: usize) -> Reply {
         Reply {
             code,

@@ -1,11 +1,12 @@
 //! The fixed rows: document 01's worked sums, both sides of each limit, every
 //! place of code 9, and larger systems from documents 000 and 001. Those of
 //! verdict and room together, those of thinning, those with marks, those of the
-//! counting rule and those of the junior kit come after them.
+//! counting rule, those of the junior kit and those of reading come after them.
 
 use crate::batch::{Case, MOST_CASE_BUFFER};
 use crate::closing_rows;
 use crate::degree_rows;
+use crate::listing_rows;
 use crate::mark_rows;
 use crate::monomial::Monomial;
 use crate::no_room::NoRoom;
@@ -43,6 +44,7 @@ pub const CANCELLING_SET: [&str; 4] = ["x3^2 x4", "x2 x3", "x1 x3", "x1 x2"];
 pub fn rows() -> Vec<Case> {
     let mut rows = full_kit();
     rows.extend(degree_rows::rows());
+    rows.extend(listing_rows::rows());
     rows
 }
 

@@ -14,8 +14,12 @@ pub fn block(number: usize, case: &Case) -> String {
     let (reply, buffer) = case.answer();
     let mut lines = vec![format!("case {number}: {}", heading(case))];
     lines.extend(system_lines(case));
-    if case.operation != Operation::Plan {
-        lines.push(format!("  set {}", set_text(&case.set)));
+    match case.operation {
+        Operation::Plan => {}
+        Operation::Wire | Operation::Thin => {
+            lines.push(format!("  set {}", set_text(&case.given)));
+        }
+        Operation::Read => lines.extend(text_lines(&case.given)),
     }
     lines.push(format!(
         "  code {} {}: {}",
@@ -40,14 +44,17 @@ fn heading(case: &Case) -> String {
     };
     let settings = match case.operation {
         Operation::Plan => format!(", K = {}, limit {}", case.cap, case.limit),
-        Operation::Wire | Operation::Thin => String::new(),
-    };
-    let room = match case.operation {
-        Operation::Wire => format!("{} records", case.buffer / WIRE_BYTES),
-        Operation::Plan | Operation::Thin => format!("{} sets", case.buffer / SET_BYTES),
+        Operation::Wire | Operation::Thin | Operation::Read => String::new(),
     };
     let buffer = case.buffer;
-    format!("{name}, n = {n}{marks}{degree}{settings}, buffer {buffer} bytes ({room})")
+    let bytes = match case.operation {
+        Operation::Wire => format!("buffer {buffer} bytes ({} records)", buffer / WIRE_BYTES),
+        Operation::Plan | Operation::Thin => {
+            format!("buffer {buffer} bytes ({} sets)", buffer / SET_BYTES)
+        }
+        Operation::Read => format!("text {} bytes", case.given.len()),
+    };
+    format!("{name}, n = {n}{marks}{degree}{settings}, {bytes}")
 }
 
 fn numbers(reply: &Reply) -> String {
@@ -95,6 +102,33 @@ fn system_lines(case: &Case) -> Vec<String> {
     lines
 }
 
+/// The lines of a text by their numbers, newlines and all that cannot be printed
+/// written as in a program.
+fn text_lines(text: &[u8]) -> Vec<String> {
+    let lines = text.split_inclusive(|&byte| byte == b'\n');
+    lines
+        .enumerate()
+        .map(|(index, line)| format!("  {} | {}", index + 1, written_out(line)))
+        .collect()
+}
+
+/// An apostrophe is no special byte here.
+fn written_out(bytes: &[u8]) -> String {
+    bytes.escape_ascii().to_string().replace("\\'", "'")
+}
+
+/// Where a text stops being readable: the line that it is in, up to there, and the
+/// byte itself.
+fn unreadable_line(text: &[u8], place: usize) -> String {
+    let before = &text[..place - 1];
+    let line = before.rsplit(|&byte| byte == b'\n').next().expect("a line");
+    let byte = match text.get(place - 1..place) {
+        Some(byte) => format!("'{}'", written_out(byte)),
+        None => "the end".to_string(),
+    };
+    format!("  after '{}' unreadable: {byte}", written_out(line))
+}
+
 /// The members of a set record, places left empty inside shown as 1.
 fn set_text(record: &[u8]) -> String {
     if record.len() != SET_BYTES {
@@ -116,6 +150,9 @@ pub fn listed(word: &str, buffer: &[u8], count: usize) -> Vec<String> {
 
 /// The sets or the wiring that the buffer holds.
 fn answer_lines(case: &Case, reply: &Reply, buffer: &[u8]) -> Vec<String> {
+    if reply.code == 10 {
+        return vec![unreadable_line(&case.given, reply.place as usize)];
+    }
     if reply.code != 0 {
         return Vec::new();
     }
@@ -123,6 +160,7 @@ fn answer_lines(case: &Case, reply: &Reply, buffer: &[u8]) -> Vec<String> {
     match case.operation {
         Operation::Plan => listed("found", buffer, count),
         Operation::Thin => listed("kept", buffer, count),
+        Operation::Read => listed("read", buffer, 1),
         Operation::Wire => read_wires(buffer)
             .iter()
             .map(|w| format!("  wire {} {} {} {}", w.left, w.a, w.b, w.coefficient))
@@ -221,6 +259,45 @@ case 3: thin, n = 1, buffer 37 bytes (1 sets)
         );
         let set = set_of(&["x1^2", "x1^4"]);
         assert_eq!(block(3, &Case::thin(1, input, set, 37)), expected);
+    }
+
+    #[test]
+    fn a_listing_is_shown() {
+        let input = write_terms(&terms("x1' = x1^3"));
+        let text = "Introduced variables:\nw0 = x1**2\n\nx1' = x1*w0\nw0' = 2*w0**2\n";
+        let shown = [
+            "  x1' = x1^3",
+            "  1 | Introduced variables:\\n",
+            "  2 | w0 = x1**2\\n",
+            "  3 | \\n",
+            "  4 | x1' = x1*w0\\n",
+        ]
+        .join("\n");
+        let zeros = "00".repeat(35);
+        let expected = format!(
+            "\
+case 9: read, n = 1, text 60 bytes
+{shown}
+  5 | w0' = 2*w0**2\\n
+  code 0 done: order 1, count 0, steps 0, place 0
+  read {{x1^2}}
+  line 0 1 0 0 0 02{zeros}
+"
+        );
+        let case = Case::read(1, input.clone(), text.as_bytes().to_vec());
+        assert_eq!(block(9, &case), expected);
+        let expected = format!(
+            "\
+case 9: read, n = 1, text 59 bytes
+{shown}
+  5 | w0' = 2*w0**2
+  code 10 unreadable: order 0, count 0, steps 0, place 60
+  after 'w0' = 2*w0**2' unreadable: the end
+  line 10 0 0 0 60 00{zeros}
+"
+        );
+        let case = Case::read(1, input, text.as_bytes()[..59].to_vec());
+        assert_eq!(block(9, &case), expected);
     }
 
     #[test]

@@ -119,15 +119,15 @@ pub fn fault_of_records(case: &Case) -> Option<Reply> {
 }
 
 pub fn fault_of_lengths(case: &Case) -> Option<Reply> {
-    let set = case.operation == Operation::Plan || case.set.len() == SET_BYTES;
+    let set = case.operation == Operation::Plan || case.given.len() == SET_BYTES;
     let good = terms_have_a_length(&case.terms) && set || !n_is_in_range(case.n);
     (!good).then(|| Reply::bare(2))
 }
 
 pub fn fault_of_set(case: &Case) -> Option<Reply> {
-    let given = case.operation != Operation::Plan && case.set.len() == SET_BYTES;
+    let given = case.operation != Operation::Plan && case.given.len() == SET_BYTES;
     let good = case.setting().variables_are_in_range() && given;
-    let read = good.then(|| read_set(case.setting(), &case.set))?;
+    let read = good.then(|| read_set(case.setting(), &case.given))?;
     read.err()
 }
 

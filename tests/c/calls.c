@@ -1,6 +1,6 @@
 /*
- * Calls planning, wiring and thinning as C sees them. Each case runs on junk between guard bytes, and compares the five
- * numbers and every byte of the buffer. Ends with status 1 where one differs.
+ * Calls planning, wiring, thinning and reading as C sees them. Each case runs on junk between guard bytes, and compares
+ * the five numbers and every byte of the buffer. Ends with status 1 where one differs.
  */
 #include "planner.h"
 
@@ -63,7 +63,7 @@ static int holds(struct lent *l, const uint8_t *is, size_t len) {
 
 static int unchanged(struct lent *l, const uint8_t *from) { return holds(l, from, l->len); }
 
-static struct lent terms, set, out;
+static struct lent terms, set, text, out;
 
 /* The five numbers, between two that are not the call's. */
 static uint64_t row[1 + SIRAGUMON_NUMBERS + 1];
@@ -93,9 +93,11 @@ static void expect_row(const char *name, const uint64_t *five) {
 #define TERM(equation, a, b, c, coefficient) equation, 0, a, b, c, 0, 0, 0, COEFFICIENT(coefficient)
 #define BYTES(a) a, sizeof a
 #define NO_BYTES 0, 0
+#define TEXT(s) (const uint8_t *)(s), sizeof(s) - 1
 #define FIVE(code, order, count, steps, place) \
     (const uint64_t[]) { code, order, count, steps, place }
 
+static const uint8_t constant[] = {TERM(1, 0, 0, 0, 5)};
 static const uint8_t x1[] = {TERM(1, 1, 0, 0, 1)};
 static const uint8_t x2[] = {TERM(1, 2, 0, 0, 1)};
 static const uint8_t x3[] = {TERM(1, 3, 0, 0, 1)};
@@ -298,6 +300,27 @@ static void thin(const char *name, uint64_t n, uint64_t marks, uint64_t degree, 
     }
 }
 
+/* Reads a text. Where it is done, wiring takes the set that came back, whatever the room, and never as not quadratic. */
+static void read_text(const char *name, uint64_t n, uint64_t marks, uint64_t degree, const uint8_t *system, size_t len, const uint8_t *listing,
+                      size_t listing_len, const uint64_t *five, const uint8_t *is, size_t is_len) {
+    cases++;
+    lend(&terms, system, len);
+    lend(&text, listing, listing_len);
+    lend(&set, 0, SIRAGUMON_SET_BYTES);
+    lend_row();
+    siragumon_read_listing(n, marks, degree, bytes(&terms), len, bytes(&text), listing_len, bytes(&set), row + 1);
+    expect_row(name, five);
+    expect(holds(&set, is, is_len), name, "another set");
+    expect(guarded(&set) && guarded(&terms) && guarded(&text), name, "wrote beside the set");
+    expect(unchanged(&terms, system) && unchanged(&text, listing), name, "changed what it read");
+    if (five[SIRAGUMON_CODE] != SIRAGUMON_DONE) return;
+    cases += 2;
+    lend(&out, 0, SIRAGUMON_WIRES_BYTES);
+    siragumon_wire(n, marks, degree, system, len, bytes(&set), SIRAGUMON_SET_BYTES, bytes(&out), out.len, row + 1);
+    expect(row[1 + SIRAGUMON_CODE] == SIRAGUMON_DONE && row[1 + SIRAGUMON_ORDER] == five[SIRAGUMON_ORDER], name, "its set is not wired");
+    expect(is_quadratic(n, marks, degree, system, len, bytes(&set)), name, "its set is not quadratic");
+}
+
 /* A refusal of the two that take a set, whatever is lent: the numbers, and a buffer of zeros. */
 static void refused(const char *name, uint64_t n, uint64_t marks, uint64_t degree, const uint8_t *system, size_t len, const uint8_t *record,
                     size_t record_len, const uint64_t *five) {
@@ -306,11 +329,12 @@ static void refused(const char *name, uint64_t n, uint64_t marks, uint64_t degre
     thin(name, n, marks, degree, system, len, record, record_len, 101, five, NO_BYTES);
 }
 
-/* A refusal of all three. */
+/* A refusal of all four, of reading before it reads what is no listing. */
 static void all_refuse(const char *name, uint64_t n, uint64_t marks, uint64_t degree, const uint8_t *system, size_t len, const uint8_t *record,
                        size_t record_len, const uint64_t *five) {
     plan(name, n, marks, degree, CAP, LIMIT, system, len, 101, five, NO_BYTES);
     refused(name, n, marks, degree, system, len, record, record_len, five);
+    read_text(name, n, marks, degree, system, len, TEXT("?"), five, NO_BYTES);
 }
 
 /* Document 01's sums worked by hand. */
@@ -746,6 +770,480 @@ static void all_degrees(void) {
     }
 }
 
+/* ---- listings of the desktop tool */
+
+#define HEADING "Introduced variables:\n"
+#define SQUARES HEADING "w0 = x1**2\nw1 = x2**2\n\n"
+
+/* document 000's, in its lines */
+#define X1 "x1' = x1*w0 + w1\n"
+#define X2 "x2' = x1 + x2\n"
+#define W0 "w0' = 2*x1*w1 + 2*w0**2\n"
+#define W1 "w1' = 2*x1*x2 + 2*w1\n"
+static const char of_two[] = SQUARES X1 X2 W0 W1;
+
+/* A listing as it is shown here, with a bar before the byte where it is not readable on. */
+static struct {
+    uint8_t bytes[SIRAGUMON_TEXT_MOST];
+    size_t len, place;
+} shown;
+
+static void show(const char *listing) {
+    shown.len = shown.place = 0;
+    for (; *listing; listing++) {
+        if (*listing == '|')
+            shown.place = shown.len + 1;
+        else
+            shown.bytes[shown.len++] = (uint8_t)*listing;
+    }
+}
+
+static void right(const char *name, uint64_t n, uint64_t marks, uint64_t degree, const uint8_t *system, size_t len, const char *listing,
+                  uint64_t order, const uint8_t *record) {
+    show(listing);
+    read_text(name, n, marks, degree, system, len, shown.bytes, shown.len, FIVE(0, order, 0, 0, 0), record, SIRAGUMON_SET_BYTES);
+}
+
+static void no_set(const char *name, uint64_t n, uint64_t marks, uint64_t degree, const uint8_t *system, size_t len, const char *listing) {
+    show(listing);
+    read_text(name, n, marks, degree, system, len, shown.bytes, shown.len, FIVE(8, 0, 0, 0, 0), NO_BYTES);
+}
+
+static void false_line(const char *name, uint64_t n, uint64_t marks, const uint8_t *system, size_t len, const char *listing, uint64_t line) {
+    show(listing);
+    read_text(name, n, marks, FULL_KIT, system, len, shown.bytes, shown.len, FIVE(11, 0, 0, 0, line), NO_BYTES);
+}
+
+/* The place is the same whatever follows its byte, and where the text stops short of it. */
+static void unreadable(const char *name, uint64_t n, uint64_t marks, const char *listing) {
+    show(listing);
+    const uint64_t *five = FIVE(10, 0, 0, 0, shown.place);
+    read_text(name, n, marks, FULL_KIT, NO_BYTES, shown.bytes, shown.len, five, NO_BYTES);
+    for (size_t len = shown.place - 1; len <= shown.place && len < shown.len; len++)
+        read_text(name, n, marks, FULL_KIT, NO_BYTES, shown.bytes, len, five, NO_BYTES);
+}
+
+static void right_listings(void) {
+    right("document 000", 2, NO_MARKS, FULL_KIT, BYTES(two), of_two, 2, set_squares);
+    right("document 000, degree 2", 2, NO_MARKS, 2, BYTES(two), of_two, 2, set_squares);
+    right("document 000, its names turned", 2, NO_MARKS, FULL_KIT, BYTES(two),
+          HEADING "w0 = x2**2\nw1 = x1**2\n\nx1' = x1*w1 + w0\nx2' = x1 + x2\nw0' = 2*x1*x2 + 2*w0\nw1' = 2*x1*w0 + 2*w1**2\n", 2, set_squares);
+    right("document 000, terms in any order", 2, NO_MARKS, FULL_KIT, BYTES(two),
+          SQUARES "x1' = w1 + w0*x1\nx2' = x2 + x1\nw0' = 2*w0*w0 + 2*w1*x1\nw1' = w1 + 2*x2*x1 + x2**2\n", 2, set_squares);
+
+    /* x1^4 is x1*w1 in the wiring list and w0**2 here */
+    right("other pairs", 1, NO_MARKS, FULL_KIT, BYTES(x4_x3),
+          HEADING "w0 = x1**2\nw1 = x1**3\n\nx1' = w1 + w0**2\nw0' = 2*w0**2 + 2*w0*w1\nw1' = 3*w0*w1 + 3*w1**2\n", 2, both_sets);
+    right("products more than once", 1, NO_MARKS, FULL_KIT, BYTES(x4_x3),
+          HEADING "w0 = x1**2\nw1 = x1**3\n\n"
+                  "x1' = -w1 + x1*w1 + 2*x1*w0\nw0' = w0**2 + 5*w0*w1 + x1*w1 - 3*w1*w0\nw1' = 7*w1**2 + 3*w0*w1 - 4*w1*w1\n",
+          2, both_sets);
+    right("names by products", 1, NO_MARKS, FULL_KIT, BYTES(x4_x3),
+          HEADING "w0 = x1*x1**2\nw1 = x1**1*x1*x1**1*x1\n\nx1' = w0 + w1\nw0' = 3*x1*w1 + 3*w0**2\nw1' = 4*w0**2 + 4*w0*w1\n", 2,
+          both_sets + SIRAGUMON_SET_BYTES);
+    right("two that cancel", 2, NO_MARKS, FULL_KIT, BYTES(cancelling), HEADING "w0 = x2*x1\n\nx1' = x1*w0\nx2' = -x2*w0\nw0' = 0\n", 1, set_x1x2);
+    right("two that cancel, both written", 2, NO_MARKS, FULL_KIT, BYTES(cancelling),
+          HEADING "w0 = x1*x2\n\nx1' = x1*w0\nx2' = -w0*x2\nw0' = w0**2 - w0**2\n", 1, set_x1x2);
+    right("a knob", 2, NO_MARKS, FULL_KIT, BYTES(unfed), HEADING "w0 = x1*x2\n\nx1' = x1*w0\nx2' = 0\nw0' = w0**2\n", 1, set_x1x2);
+    right("no new names", 1, NO_MARKS, FULL_KIT, BYTES(x2), HEADING "\nx1' = x1**2\n", 0, empty);
+    right("no new names, a product", 1, NO_MARKS, FULL_KIT, BYTES(x2), HEADING "\nx1' = 1*x1*x1\n", 0, empty);
+    right("a constant", 1, NO_MARKS, FULL_KIT, BYTES(constant), HEADING "\nx1' = 5\n", 0, empty);
+    right("a constant, in parts", 1, NO_MARKS, FULL_KIT, BYTES(constant), HEADING "\nx1' = -1 + 2*x1 + 6 - x1 - x1\n", 0, empty);
+
+    /* a derivative that is zero */
+    right("0", 1, NO_MARKS, FULL_KIT, NO_BYTES, HEADING "\nx1' = 0\n", 0, empty);
+    right("x1 - x1", 1, NO_MARKS, FULL_KIT, NO_BYTES, HEADING "\nx1' = x1 - x1\n", 0, empty);
+    right("-x1 + x1", 1, NO_MARKS, FULL_KIT, NO_BYTES, HEADING "\nx1' = -x1 + x1\n", 0, empty);
+    right("3 - 2 - 1", 1, NO_MARKS, FULL_KIT, NO_BYTES, HEADING "\nx1' = 3 - 2 - 1\n", 0, empty);
+    right("x1**2 - w0", 1, NO_MARKS, FULL_KIT, NO_BYTES, HEADING "w0 = x1**2\n\nx1' = x1**2 - w0\nw0' = x1*w0 - w0*x1\n", 1, set_x2);
+
+    /* the highest numbers */
+    right("1,000,000,000", 1, NO_MARKS, FULL_KIT, BYTES(x1), HEADING "\nx1' = 1000000000*x1 - 999999999*x1\n", 0, empty);
+    right("coefficient 1,000,000", 1, NO_MARKS, FULL_KIT, BYTES(coefficient_in), HEADING "\nx1' = 1000000*x1\n", 0, empty);
+    right("x^54", 1, NO_MARKS, FULL_KIT, BYTES(x1), HEADING "w0 = x1**54\n\nx1' = x1\nw0' = 54*w0\n", 1, power_in);
+    right("x^27 x^27", 1, NO_MARKS, FULL_KIT, BYTES(x1), HEADING "w0 = x1**27*x1**27\n\nx1' = x1\nw0' = 54*w0\n", 1, power_in);
+    right("the highest powers", 6, NO_MARKS, FULL_KIT, NO_BYTES,
+          HEADING "w0 = x6**54*x5**54*x4**54*x3**54*x2**54*x1**54\n\nx1' = 0\nx2' = 0\nx3' = 0\nx4' = 0\nx5' = 0\nx6' = 0\nw0' = 0\n", 1, highest);
+    right("six cubes", 6, NO_MARKS, FULL_KIT, BYTES(cubes),
+          HEADING "w0 = x1**2\nw1 = x2**2\nw2 = x3**2\nw3 = x4**2\nw4 = x5**2\nw5 = x6**2\n\n"
+                  "x1' = x1*w0\nx2' = x2*w1\nx3' = x3*w2\nx4' = x4*w3\nx5' = x5*w4\nx6' = x6*w5\n"
+                  "w0' = 2*w0**2\nw1' = 2*w1**2\nw2' = 2*w2**2\nw3' = 2*w3**2\nw4' = 2*w4**2\nw5' = 2*w5**2\n",
+          6, squares);
+
+    /* A signal fed from outside has no line of its own, and may stand in any other. */
+    right("Example 5.3", 3, MARK(3), FULL_KIT, BYTES(example_5_3), HEADING "w0 = x1**2\n\nx1' = x1 + x1*x3\nx2' = w0*x3\nw0' = 2*w0 + 2*w0*x3\n", 1,
+          set_x2);
+    right("x1'=x1^3+u x1", 2, MARK(2), FULL_KIT, BYTES(x3_ux), HEADING "w0 = x1*x1\n\nx1' = x2*x1 + x1*w0\nw0' = 2*w0*x2 + 2*w0**2\n", 1, set_x2);
+    right("a signal squared", 2, MARK(2), FULL_KIT, NO_BYTES, HEADING "\nx1' = x2**2 - x2*x2\n", 0, empty);
+    right("signals alone", 3, MARK(1) | MARK(2) | MARK(3), FULL_KIT, NO_BYTES, HEADING "\n", 0, empty);
+    right("the first is a signal", 2, MARK(1), FULL_KIT, NO_BYTES, HEADING "\nx2' = 0\n", 0, empty);
+}
+
+/* Readable, and the names form no set: so no line is looked at. */
+static void no_sets(void) {
+    /* over 54: some are 2 in 8, 16, 32 or 64 bits */
+    static const char *const powers[] = {
+        "x1**55", "x1**28*x1**27", "x1**54*x1", "x1**256", "x1**258", "x1**200*x1**58", "x1**65538", "x1**4294967298", "x1**4294967297*x1",
+        "x1**18446744073709551618", "x1**18446744073709551615*x1**3", "x1**10000000000000000000000000000000000000002",
+    };
+    for (size_t i = 0; i < sizeof powers / sizeof *powers; i++) {
+        uint8_t listing[200];
+        size_t len = 0;
+        const char *parts[] = {HEADING "w0 = ", powers[i], "\n\nx1' = 0\nw0' = 0\n"};
+        for (size_t j = 0; j < 3; j++)
+            for (const char *p = parts[j]; *p; p++) listing[len++] = (uint8_t)*p;
+        read_text(powers[i], 1, NO_MARKS, FULL_KIT, NO_BYTES, listing, len, FIVE(8, 0, 0, 0, 0), NO_BYTES);
+    }
+    no_set("a single variable", 1, NO_MARKS, FULL_KIT, NO_BYTES, HEADING "w0 = x1\n\nx1' = 0\nw0' = 0\n");
+    no_set("a single variable, to the power of 1", 1, NO_MARKS, FULL_KIT, NO_BYTES, HEADING "w0 = x1**1\n\nx1' = 0\nw0' = 0\n");
+    no_set("one name twice", 1, NO_MARKS, FULL_KIT, NO_BYTES, HEADING "w0 = x1**2\nw1 = x1**2\n\nx1' = 0\nw0' = 0\nw1' = 0\n");
+    no_set("one name twice, in other words", 2, NO_MARKS, FULL_KIT, NO_BYTES,
+           HEADING "w0 = x1*x2**2\nw1 = x1**2\nw2 = x2*x1*x2\n\nx1' = 0\nx2' = 0\nw0' = 0\nw1' = 0\nw2' = 0\n");
+    no_set("a signal", 2, MARK(2), FULL_KIT, BYTES(x3_ux), HEADING "w0 = x1**2\nw1 = x1*x2\n\nx1' = x1*w0 + w1\nw0' = 2*w0**2 + 2*x1*w1\nw1' = 0\n");
+    no_set("a signal alone", 1, MARK(1), FULL_KIT, NO_BYTES, HEADING "w0 = x1**2\n\nw0' = 0\n");
+    no_set("x^4, degree 3", 1, NO_MARKS, 3, BYTES(x5), HEADING "w0 = x1**4\n\nx1' = x1*w0\nw0' = 4*w0**2\n");
+    right("x^4, degree 4", 1, NO_MARKS, 4, BYTES(x5), HEADING "w0 = x1**4\n\nx1' = x1*w0\nw0' = 4*w0**2\n", 1, set_x4);
+    no_set("x1^2 x2^2, degree 3", 2, NO_MARKS, 3, NO_BYTES, HEADING "w0 = x1**2*x2**2\n\nx1' = 0\nx2' = 0\nw0' = 0\n");
+    no_set("the names before the lines", 1, NO_MARKS, FULL_KIT, BYTES(x3), HEADING "w0 = x1**55\n\nx1' = 1\nw0' = 1\n");
+}
+
+static void false_lines(void) {
+    false_line("a coefficient in line 5", 2, NO_MARKS, BYTES(two), SQUARES "x1' = 2*x1*w0 + w1\n" X2 W0 W1, 5);
+    false_line("another name in line 5", 2, NO_MARKS, BYTES(two), SQUARES "x1' = x1*w1 + w1\n" X2 W0 W1, 5);
+    false_line("a sign in line 6", 2, NO_MARKS, BYTES(two), SQUARES X1 "x2' = x1 - x2\n" W0 W1, 6);
+    false_line("a coefficient in line 7", 2, NO_MARKS, BYTES(two), SQUARES X1 X2 "w0' = 2*x1*w1 + 3*w0**2\n" W1, 7);
+    false_line("another square in line 7", 2, NO_MARKS, BYTES(two), SQUARES X1 X2 "w0' = 2*x1*w1 + 2*w1**2\n" W1, 7);
+    false_line("a term less in line 8", 2, NO_MARKS, BYTES(two), SQUARES X1 X2 W0 "w1' = 2*x1*x2\n", 8);
+    false_line("a term more in line 8", 2, NO_MARKS, BYTES(two), SQUARES X1 X2 W0 "w1' = 2*x1*x2 + 2*w1 + 1\n", 8);
+    false_line("0 in lines 6 and 8", 2, NO_MARKS, BYTES(two), SQUARES X1 "x2' = 0\n" W0 "w1' = 0\n", 6);
+    false_line("a constant", 1, NO_MARKS, BYTES(constant), HEADING "\nx1' = 5*x1\n", 3);
+    false_line("no constant", 1, NO_MARKS, BYTES(x1), HEADING "\nx1' = 1\n", 3);
+    false_line("x1 where nothing feeds it", 1, NO_MARKS, NO_BYTES, HEADING "\nx1' = x1\n", 3);
+    false_line("w0 - x1", 1, NO_MARKS, NO_BYTES, HEADING "w0 = x1**2\n\nx1' = w0 - x1\nw0' = 0\n", 4);
+    false_line("x^3 for x'=x^4", 1, NO_MARKS, BYTES(x4), HEADING "w0 = x1**2\n\nx1' = x1*w0\nw0' = 2*w0**2\n", 4);
+    /* its set is not quadratic, so one line is false */
+    false_line("one signal too few", 1, NO_MARKS, BYTES(x4), HEADING "w0 = x1**2\n\nx1' = w0**2\nw0' = 2*w0**2\n", 5);
+
+    /* sums that are 1, 1 and 0 in 32 bits */
+#define MUCH "1000000000*x1"
+    false_line("2^32 + 1", 1, NO_MARKS, BYTES(x1), HEADING "\nx1' = " MUCH " + " MUCH " + " MUCH " + " MUCH " + 294967297*x1\n", 3);
+    false_line("-2^32 + 1", 1, NO_MARKS, BYTES(x1), HEADING "\nx1' = -" MUCH " - " MUCH " - " MUCH " - " MUCH " - 294967295*x1\n", 3);
+    false_line("2^32", 1, NO_MARKS, NO_BYTES, HEADING "\nx1' = " MUCH " + " MUCH " + " MUCH " + " MUCH " + 294967296*x1\n", 3);
+    right("2^32 + 1 and back", 1, NO_MARKS, FULL_KIT, BYTES(x1),
+          HEADING "\nx1' = " MUCH " + " MUCH " + " MUCH " + " MUCH " + 294967297*x1 - " MUCH " - " MUCH " - " MUCH " - " MUCH " - 294967296*x1\n", 0,
+          empty);
+
+    /* lines of the text, and not numbers of signals */
+    false_line("the last of six and six", 6, NO_MARKS, BYTES(cubes),
+               HEADING "w0 = x1**2\nw1 = x2**2\nw2 = x3**2\nw3 = x4**2\nw4 = x5**2\nw5 = x6**2\n\n"
+                       "x1' = x1*w0\nx2' = x2*w1\nx3' = x3*w2\nx4' = x4*w3\nx5' = x5*w4\nx6' = x6*w5\n"
+                       "w0' = 2*w0**2\nw1' = 2*w1**2\nw2' = 2*w2**2\nw3' = 2*w3**2\nw4' = 2*w4**2\nw5' = 2*w4**2\n",
+               20);
+    false_line("behind a signal", 3, MARK(2), NO_BYTES, HEADING "\nx1' = 0\nx3' = x2\n", 4);
+    false_line("the first is a signal", 2, MARK(1), NO_BYTES, HEADING "w0 = x2**2\n\nx2' = 0\nw0' = x1\n", 5);
+}
+
+static void unreadable_texts(void) {
+    unreadable("no text", 1, NO_MARKS, "|");
+    unreadable("a mark of byte order", 1, NO_MARKS, "|\xef\xbb\xbf" HEADING "\nx1' = 0\n");
+    unreadable("no heading", 1, NO_MARKS, "|w0 = x1**2\n\nx1' = 0\nw0' = 0\n");
+    unreadable("a small letter", 1, NO_MARKS, "|introduced variables:\n\nx1' = 0\n");
+    unreadable("a heading in other words", 1, NO_MARKS, "Introduced variables|\n\nx1' = 0\n");
+    unreadable("a line end of two bytes", 1, NO_MARKS, "Introduced variables:|\r\n\r\nx1' = 0\r\n");
+
+    /* names */
+    unreadable("x0", 2, NO_MARKS, HEADING "w0 = x|0**2\n\nx1' = 0\nx2' = 0\nw0' = 0\n");
+    unreadable("x3 of two", 2, NO_MARKS, HEADING "w0 = x|3**2\n\nx1' = 0\nx2' = 0\nw0' = 0\n");
+    unreadable("x7 of six", 6, NO_MARKS, HEADING "w0 = x|7**2\n");
+    unreadable("x12", 6, NO_MARKS, HEADING "w0 = x1|2**2\n");
+    unreadable("w1 before w0", 1, NO_MARKS, HEADING "w|1 = x1**2\n");
+    unreadable("w0 twice", 1, NO_MARKS, HEADING "w0 = x1**2\nw|0 = x1**3\n");
+    unreadable("w2 behind w0", 1, NO_MARKS, HEADING "w0 = x1**2\nw|2 = x1**3\n");
+    unreadable("a seventh name", 6, NO_MARKS,
+               HEADING "w0 = x1**2\nw1 = x2**2\nw2 = x3**2\nw3 = x4**2\nw4 = x5**2\nw5 = x6**2\n|w6 = x1*x2\n\nx1' = 0\n");
+    unreadable("a name of a name", 1, NO_MARKS, HEADING "w0 = x1**2\nw1 = |w0*x1\n");
+    unreadable("w0 = 1", 1, NO_MARKS, HEADING "w0 = |1\n");
+    unreadable("w0 = 2*x1", 1, NO_MARKS, HEADING "w0 = |2*x1\n");
+    unreadable("an exponent of 0", 1, NO_MARKS, HEADING "w0 = x1**|0\n");
+    unreadable("a zero before an exponent", 1, NO_MARKS, HEADING "w0 = x1**|02\n");
+    unreadable("a negative exponent", 1, NO_MARKS, HEADING "w0 = x1**|-2\n");
+    unreadable("a caret", 1, NO_MARKS, HEADING "w0 = x1|^2\n");
+    unreadable("three stars", 1, NO_MARKS, HEADING "w0 = x1**|*2\n");
+    unreadable("a star at the end", 1, NO_MARKS, HEADING "w0 = x1**2*|\n");
+    unreadable("a sum", 1, NO_MARKS, HEADING "w0 = x1**2| + x1\n");
+    unreadable("a space before the line end", 1, NO_MARKS, HEADING "w0 = x1**2| \n\n");
+    unreadable("no spaces", 1, NO_MARKS, HEADING "w0|=x1**2\n");
+    unreadable("a tab", 1, NO_MARKS, HEADING "w0 =|\tx1**2\n");
+    unreadable("no blank line", 1, NO_MARKS, HEADING "w0 = x1**2\n|x1' = 0\nw0' = 0\n");
+    unreadable("two blank lines", 1, NO_MARKS, HEADING "w0 = x1**2\n\n|\nx1' = 0\nw0' = 0\n");
+
+    /* which lines stand there */
+    unreadable("the second line first", 2, NO_MARKS, HEADING "\nx|2' = 0\nx1' = 0\n");
+    unreadable("a line twice", 2, NO_MARKS, HEADING "\nx1' = 0\nx|1' = 0\n");
+    unreadable("a new name's line too soon", 2, NO_MARKS, HEADING "w0 = x1**2\n\nx1' = 0\n|w0' = 0\nx2' = 0\n");
+    unreadable("new names' lines turned", 1, NO_MARKS, HEADING "w0 = x1**2\nw1 = x1**3\n\nx1' = 0\nw|1' = 0\nw0' = 0\n");
+    unreadable("no line of a variable", 2, NO_MARKS, HEADING "\nx1' = 0\n|");
+    unreadable("no line of a new name", 1, NO_MARKS, HEADING "w0 = x1**2\n\nx1' = 0\n|");
+    unreadable("no lines", 1, NO_MARKS, HEADING "\n|");
+    unreadable("a signal's line", 2, MARK(1), HEADING "\nx|1' = 0\nx2' = 0\n");
+    unreadable("a signal's line between others", 3, MARK(2), HEADING "\nx1' = 0\nx|2' = 0\nx3' = 0\n");
+    unreadable("no prime", 1, NO_MARKS, HEADING "\nx1| = 0\n");
+    unreadable("no line end at the last", 1, NO_MARKS, HEADING "\nx1' = 0|");
+
+    /* terms */
+    unreadable("a third name", 2, NO_MARKS, HEADING "\nx1' = 2*x1*x2|*x1\nx2' = 0\n");
+    unreadable("a third name behind a square", 2, NO_MARKS, HEADING "\nx1' = x1**2|*x2\nx2' = 0\n");
+    unreadable("a square behind a name", 2, NO_MARKS, HEADING "\nx1' = x2*x1|**2\nx2' = 0\n");
+    unreadable("a cube", 1, NO_MARKS, HEADING "\nx1' = x1**|3\n");
+    unreadable("an exponent of 1", 1, NO_MARKS, HEADING "\nx1' = x1**|1\n");
+    unreadable("an exponent of 22", 1, NO_MARKS, HEADING "\nx1' = x1**2|2\n");
+    unreadable("1,000,000,001", 1, NO_MARKS, HEADING "\nx1' = 100000000|1*x1\n");
+    unreadable("-1,000,000,001", 1, NO_MARKS, HEADING "\nx1' = -100000000|1*x1\n");
+    unreadable("1,000,000,001 behind a sign", 1, NO_MARKS, HEADING "\nx1' = x1 - 100000000|1\n");
+    unreadable("10,000,000,000", 1, NO_MARKS, HEADING "\nx1' = 1000000000|0*x1\n");
+    unreadable("9,999,999,999", 1, NO_MARKS, HEADING "\nx1' = 999999999|9*x1\n");
+    unreadable("2^32 + 1", 1, NO_MARKS, HEADING "\nx1' = 429496729|7*x1\n");
+    unreadable("2^64 + 1", 1, NO_MARKS, HEADING "\nx1' = 184467440|73709551617*x1\n");
+    unreadable("a coefficient of 0", 1, NO_MARKS, HEADING "\nx1' = 0|*x1\n");
+    unreadable("a zero before a coefficient", 1, NO_MARKS, HEADING "\nx1' = 0|1*x1\n");
+    unreadable("-0", 1, NO_MARKS, HEADING "\nx1' = -|0\n");
+    unreadable("a lone 0 behind a sign", 1, NO_MARKS, HEADING "\nx1' = x1 + |0\n");
+    unreadable("0 and more", 1, NO_MARKS, HEADING "\nx1' = 0| + x1\n");
+    unreadable("a plus first", 1, NO_MARKS, HEADING "\nx1' = |+x1\n");
+    unreadable("a minus and a space", 1, NO_MARKS, HEADING "\nx1' = -| x1\n");
+    unreadable("two signs", 1, NO_MARKS, HEADING "\nx1' = x1 + |-x1\n");
+    unreadable("no spaces at a sign", 1, NO_MARKS, HEADING "\nx1' = x1|+x1\n");
+    unreadable("two spaces", 1, NO_MARKS, HEADING "\nx1' = x1 | + x1\n");
+    unreadable("a space before the line end of a term", 1, NO_MARKS, HEADING "\nx1' = x1 |\n");
+    unreadable("nothing behind a sign", 1, NO_MARKS, HEADING "\nx1' = x1 +|\n");
+    unreadable("nothing", 1, NO_MARKS, HEADING "\nx1' = |\n");
+    unreadable("a fraction", 1, NO_MARKS, HEADING "\nx1' = 1|/2*x1\n");
+    unreadable("a decimal point", 1, NO_MARKS, HEADING "\nx1' = 1|.5*x1\n");
+    unreadable("two coefficients", 1, NO_MARKS, HEADING "\nx1' = 2*|3*x1\n");
+    unreadable("a coefficient behind its name", 1, NO_MARKS, HEADING "\nx1' = x1*|2\n");
+    unreadable("a bracket", 1, NO_MARKS, HEADING "\nx1' = |(x1)\n");
+    unreadable("x2 of one", 1, NO_MARKS, HEADING "\nx1' = x|2\n");
+    unreadable("w1 of one", 1, NO_MARKS, HEADING "w0 = x1**2\n\nx1' = w|1\nw0' = 0\n");
+    unreadable("w0 of none", 1, NO_MARKS, HEADING "\nx1' = |w0\n");
+    unreadable("w0 of none, a factor", 1, NO_MARKS, HEADING "\nx1' = x1*|w0\n");
+    unreadable("another letter", 1, NO_MARKS, HEADING "\nx1' = |y1\n");
+
+    /* The text decides before what it says. */
+    unreadable("a text that stops short, and names that form no set", 1, NO_MARKS, HEADING "w0 = x1**55\n\nx1' = 0\n|");
+    unreadable("a text that stops short, and a false line", 1, NO_MARKS, HEADING "w0 = x1**2\n\nx1' = 1\nw0' = |");
+
+    /* behind the last line */
+    static const char beyond[] = "\n w0x\r";
+    for (size_t i = 0; i < sizeof beyond; i++) {
+        show(of_two);
+        shown.bytes[shown.len++] = (uint8_t)beyond[i];
+        read_text("a byte behind the last line", 2, NO_MARKS, FULL_KIT, BYTES(two), shown.bytes, shown.len, FIVE(10, 0, 0, 0, sizeof of_two),
+                  NO_BYTES);
+    }
+    read_text("a byte behind signals alone", 1, MARK(1), FULL_KIT, NO_BYTES, TEXT(HEADING "\n\n"), FIVE(10, 0, 0, 0, sizeof HEADING + 1), NO_BYTES);
+}
+
+/* Reads what was made of document 000's listing, for its system. */
+static void read_shown(const char *name, size_t len, const uint64_t *five, const uint8_t *is, size_t is_len) {
+    read_text(name, 2, NO_MARKS, FULL_KIT, BYTES(two), shown.bytes, len, five, is, is_len);
+}
+
+/* Each text that it begins with stops short. */
+static void cut(void) {
+    show(of_two);
+    for (size_t len = 0; len < shown.len; len++) read_shown("document 000, cut", len, FIVE(10, 0, 0, 0, len + 1), NO_BYTES);
+}
+
+/* Each line of it, with a letter below each byte for the bytes that could stand there after those before it, and one for
+   the bytes with which the whole text is readable. A dot is for the byte itself alone. */
+static const struct {
+    const char *line, *could, *readable;
+} lines[] = {
+    {HEADING, "......................", "......................"},
+    {"w0 = x1**2\n", "n.....vpqed", "......v.qe."},
+    {"w1 = x2**2\n", "n.....vpqed", "......v.qe."},
+    {"\n", "n", "."},
+    {X1, "......rvabkzs.tka", "......fv..k.s.tk."},
+    {X2, "......rvas.tva", "......fv.s.hv."},
+    {W0, "......rcmvabkzs.tcmkab.z", "......e.mv.mk.s.e..k.q.."},
+    {W1, "......rcmvabvzs.tcmka", "......e.mv.qv.s.e.mk."},
+};
+
+static const char *const letters[] = {
+    ['n'] = "w\n",            /* begins the line of a name, or is the blank line */
+    ['v'] = "12",             /* a variable's number */
+    ['k'] = "01",             /* a new name's number */
+    ['p'] = "*\n",            /* behind a variable of a name's line */
+    ['q'] = "*x",             /* behind its star; the whole is readable: a square, or a product with x2 */
+    ['e'] = "123456789",      /* the first digit of a number */
+    ['d'] = "0123456789*\n",  /* behind a digit of an exponent */
+    ['r'] = "0-123456789xw",  /* begins a right side */
+    ['f'] = "-123456789xw",   /* the same before a 1: a number or a name */
+    ['t'] = "123456789xw",    /* begins a term behind a sign */
+    ['h'] = "123456789x",     /* the same before a 2 */
+    ['s'] = "+-",             /* a sign */
+    ['c'] = "0123456789* \n", /* behind a digit of a coefficient */
+    ['m'] = "xw",             /* a name behind a coefficient, or before a 1 */
+    ['a'] = "* \n",           /* behind the first name of a term */
+    ['b'] = "*xw",            /* behind its star */
+    ['z'] = " \n",            /* behind the second name of a term */
+};
+
+static int is_of(char letter, char itself, uint8_t byte) {
+    if (letter == '.') return byte == (uint8_t)itself;
+    for (const char *p = letters[(unsigned char)letter]; *p; p++)
+        if (byte == (uint8_t)*p) return 1;
+    return 0;
+}
+
+/* A byte could stand there, and the text is not readable to its end: the place is behind it, and what is behind the place
+   changes nothing. Where the last line ends by it, the text before the place is readable. */
+static void followed(size_t at, int ends) {
+    cases++;
+    siragumon_read_listing(2, NO_MARKS, FULL_KIT, BYTES(two), shown.bytes, shown.len, bytes(&set), row + 1);
+    size_t place = (size_t)row[1 + SIRAGUMON_PLACE];
+    const uint64_t *five = FIVE(10, 0, 0, 0, place);
+    expect(at + 1 < place && place <= shown.len + 1 && (!ends || place == at + 2), "what follows another byte", "another place");
+    read_shown("what follows another byte", shown.len, five, NO_BYTES);
+    if (place > shown.len) return;
+    read_shown("what follows another byte, cut behind it", place, five, NO_BYTES);
+    read_shown("what follows another byte, cut before it", place - 1, ends ? FIVE(11, 0, 0, 0, 8) : five, NO_BYTES);
+}
+
+/* The byte at a place of a line, both from 0, is another, and the text is readable. */
+static void misread(size_t line, size_t place, uint8_t byte) {
+    if (line >= 4)
+        read_shown("a changed line", shown.len, FIVE(11, 0, 0, 0, line + 1), NO_BYTES);
+    else if (line == 2 && byte == 'x')
+        read_shown("w1 = x2*x2", shown.len, FIVE(0, 2, 0, 0, 0), BYTES(set_squares));
+    else if (lines[line].readable[place] == 'v')
+        read_shown("one square twice", shown.len, FIVE(8, 0, 0, 0, 0), NO_BYTES);
+    else if (byte == '1')
+        read_shown("a single variable", shown.len, FIVE(8, 0, 0, 0, 0), NO_BYTES);
+    else
+        read_shown("a changed name", shown.len, FIVE(11, 0, 0, 0, 5), NO_BYTES);
+}
+
+/* Each byte of it in turn is another: each that a listing may have, and some that none has, 0 among them. */
+static void changed(void) {
+    static const char others[] = "\n '*+-0123456789:=Iswx?W\t\r\x80\xf7\xff";
+    size_t at = 0;
+    for (size_t i = 0; i < sizeof lines / sizeof *lines; i++) {
+        for (size_t j = 0; lines[i].line[j]; j++, at++) {
+            char was = lines[i].line[j], could = lines[i].could[j], readable = lines[i].readable[j];
+            expect(is_of(could, was, (uint8_t)was) && is_of(readable, was, (uint8_t)was), "a letter for each byte", "it is not among its own");
+            for (size_t k = 0; k < sizeof others; k++) {
+                uint8_t byte = (uint8_t)others[k];
+                if (byte == (uint8_t)was) continue;
+                show(of_two);
+                shown.bytes[at] = byte;
+                if (!is_of(could, was, byte))
+                    read_shown("a byte that cannot stand there", shown.len, FIVE(10, 0, 0, 0, at + 1), NO_BYTES);
+                else if (!is_of(readable, was, byte))
+                    followed(at, i == 7 && byte == '\n');
+                else
+                    misread(i, j, byte);
+            }
+        }
+    }
+}
+
+static void texts_refused(void) {
+    const uint8_t *listing = (const uint8_t *)of_two;
+    size_t len = sizeof of_two - 1;
+    read_text("n 0", 0, NO_MARKS, FULL_KIT, BYTES(two), listing, len, FIVE(1, 0, 0, 0, 0), NO_BYTES);
+    read_text("n above the variables", SIRAGUMON_VARIABLES + 1, NO_MARKS, FULL_KIT, BYTES(two), listing, len, FIVE(1, 0, 0, 0, 0), NO_BYTES);
+    read_text("n of 64 bits", UINT64_MAX, NO_MARKS, FULL_KIT, BYTES(two), listing, len, FIVE(1, 0, 0, 0, 0), NO_BYTES);
+    read_text("n that is 2 in its low half", ((uint64_t)1 << 32) + 2, NO_MARKS, FULL_KIT, BYTES(two), listing, len, FIVE(1, 0, 0, 0, 0), NO_BYTES);
+    read_text("a mark beyond xn", 2, MARK(3), FULL_KIT, BYTES(two), listing, len, FIVE(1, 0, 0, 0, 0), NO_BYTES);
+    read_text("no kit's limit", 2, NO_MARKS, 10, BYTES(two), listing, len, FIVE(1, 0, 0, 0, 0), NO_BYTES);
+    read_text("13 bytes", 2, NO_MARKS, FULL_KIT, two, SIRAGUMON_TERM_BYTES + 1, listing, len, FIVE(2, 0, 0, 0, 0), NO_BYTES);
+    read_text("33 records", 6, NO_MARKS, FULL_KIT, BYTES(many), listing, len, FIVE(2, 0, 0, 0, 0), NO_BYTES);
+    read_text("x2 of 1", 1, NO_MARKS, FULL_KIT, BYTES(two), listing, len, FIVE(3, 0, 0, 0, 2), NO_BYTES);
+    read_text("a signal's record", 2, MARK(2), FULL_KIT, BYTES(two), listing, len, FIVE(3, 0, 0, 0, 3), NO_BYTES);
+    read_text("x'=x twice", 2, NO_MARKS, FULL_KIT, BYTES(twice), listing, len, FIVE(4, 0, 0, 0, 2), NO_BYTES);
+    read_text("a term before a later twice", 2, NO_MARKS, FULL_KIT, BYTES(out_then_twice), listing, len, FIVE(3, 0, 0, 0, 2), NO_BYTES);
+    read_text("twice before a later term", 2, NO_MARKS, FULL_KIT, BYTES(twice_then_out), listing, len, FIVE(4, 0, 0, 0, 2), NO_BYTES);
+
+    /* The first that fails is the reply: before the text, whatever it is, and its length before the terms. */
+    static const size_t lens[] = {0, 1, SIRAGUMON_TEXT_MOST};
+    for (size_t i = 0; i < sizeof lens / sizeof *lens; i++) {
+        lend(&out, 0, ROOM);
+        read_text("n before the text", 0, NO_MARKS, FULL_KIT, BYTES(two), bytes(&out), lens[i], FIVE(1, 0, 0, 0, 0), NO_BYTES);
+        read_text("the terms' length before the text", 2, NO_MARKS, FULL_KIT, two, SIRAGUMON_TERM_BYTES - 1, bytes(&out), lens[i], FIVE(2, 0, 0, 0, 0),
+                  NO_BYTES);
+        read_text("a term before the text", 1, NO_MARKS, FULL_KIT, BYTES(exponent_out), bytes(&out), lens[i], FIVE(3, 0, 0, 0, 1), NO_BYTES);
+        read_text("twice before the text", 1, NO_MARKS, FULL_KIT, BYTES(twice), bytes(&out), lens[i], FIVE(4, 0, 0, 0, 2), NO_BYTES);
+        read_text("junk", 1, NO_MARKS, FULL_KIT, BYTES(x1), bytes(&out), lens[i], FIVE(10, 0, 0, 0, 1), NO_BYTES);
+    }
+    static const size_t too_long[] = {SIRAGUMON_TEXT_MOST + 1, 2 * SIRAGUMON_TEXT_MOST, ROOM};
+    for (size_t i = 0; i < sizeof too_long / sizeof *too_long; i++) {
+        lend(&out, 0, ROOM);
+        read_text("n before the text's length", 0, NO_MARKS, FULL_KIT, BYTES(two), bytes(&out), too_long[i], FIVE(1, 0, 0, 0, 0), NO_BYTES);
+        read_text("both lengths", 2, NO_MARKS, FULL_KIT, two, SIRAGUMON_TERM_BYTES - 1, bytes(&out), too_long[i], FIVE(2, 0, 0, 0, 0), NO_BYTES);
+        read_text("the text's length", 2, NO_MARKS, FULL_KIT, BYTES(two), bytes(&out), too_long[i], FIVE(2, 0, 0, 0, 0), NO_BYTES);
+        read_text("the text's length before a term", 1, NO_MARKS, FULL_KIT, BYTES(exponent_out), bytes(&out), too_long[i], FIVE(2, 0, 0, 0, 0),
+                  NO_BYTES);
+        read_text("the text's length before twice", 1, NO_MARKS, FULL_KIT, BYTES(twice), bytes(&out), too_long[i], FIVE(2, 0, 0, 0, 0), NO_BYTES);
+    }
+}
+
+/* The longest listing, and one byte more: x1 plus and minus x1 again and again, which is x1. */
+static void longest(void) {
+    static uint8_t listing[SIRAGUMON_TEXT_MOST + 1];
+    size_t len = 0;
+    const char *begin = HEADING "\nx1' = 1*x1 - 1*x1 + x1";
+    while (*begin) listing[len++] = (uint8_t)*begin++;
+    while (len + 1 < SIRAGUMON_TEXT_MOST)
+        for (const char *p = " - x1 + x1"; *p; p++) listing[len++] = (uint8_t)*p;
+    listing[len++] = '\n';
+    listing[len++] = '\n';
+    expect(len == sizeof listing, "the longest", "another length");
+
+    len = SIRAGUMON_TEXT_MOST;
+    read_text("4,096 bytes", 1, NO_MARKS, FULL_KIT, BYTES(x1), listing, len, FIVE(0, 0, 0, 0, 0), BYTES(empty));
+    read_text("4,096 bytes, false", 1, NO_MARKS, FULL_KIT, NO_BYTES, listing, len, FIVE(11, 0, 0, 0, 3), NO_BYTES);
+    read_text("4,097 bytes", 1, NO_MARKS, FULL_KIT, BYTES(x1), listing, len + 1, FIVE(2, 0, 0, 0, 0), NO_BYTES);
+    read_text("4,095 bytes", 1, NO_MARKS, FULL_KIT, BYTES(x1), listing, len - 1, FIVE(10, 0, 0, 0, len), NO_BYTES);
+    listing[len - 1] = '1';
+    read_text("4,096 bytes, the last unreadable", 1, NO_MARKS, FULL_KIT, BYTES(x1), listing, len, FIVE(10, 0, 0, 0, len), NO_BYTES);
+    listing[len - 1] = ' ';
+    read_text("4,096 bytes that stop short", 1, NO_MARKS, FULL_KIT, BYTES(x1), listing, len, FIVE(10, 0, 0, 0, len + 1), NO_BYTES);
+
+    /* one name of the longest exponent */
+    static const char end[] = "\n\nx1' = 0\nw0' = 0\n";
+    len = 0;
+    for (const char *p = HEADING "w0 = x1**"; *p; p++) listing[len++] = (uint8_t)*p;
+    while (len < SIRAGUMON_TEXT_MOST - (sizeof end - 1)) listing[len++] = '9';
+    for (const char *p = end; *p; p++) listing[len++] = (uint8_t)*p;
+    read_text("4,096 bytes, one exponent", 1, NO_MARKS, FULL_KIT, NO_BYTES, listing, len, FIVE(8, 0, 0, 0, 0), NO_BYTES);
+}
+
+/* Where the length is 0, NULL will do. */
+static void null_texts(void) {
+    cases += 4;
+    lend(&set, 0, SIRAGUMON_SET_BYTES);
+    lend_row();
+    siragumon_read_listing(1, NO_MARKS, FULL_KIT, NULL, 0, NULL, 0, bytes(&set), row + 1);
+    expect_row("NULL terms and text", FIVE(10, 0, 0, 0, 1));
+    expect(holds(&set, NO_BYTES) && guarded(&set), "NULL terms and text", "another set");
+    lend(&set, 0, SIRAGUMON_SET_BYTES);
+    lend_row();
+    siragumon_read_listing(2, NO_MARKS, FULL_KIT, two, sizeof two, NULL, 0, bytes(&set), row + 1);
+    expect_row("NULL text", FIVE(10, 0, 0, 0, 1));
+    expect(holds(&set, NO_BYTES) && guarded(&set), "NULL text", "another set");
+    lend(&set, 0, SIRAGUMON_SET_BYTES);
+    lend_row();
+    siragumon_read_listing(1, NO_MARKS, FULL_KIT, NULL, 0, TEXT(HEADING "w0 = x1**2\n\nx1' = 0\nw0' = 0\n"), bytes(&set), row + 1);
+    expect_row("NULL terms", FIVE(0, 1, 0, 0, 0));
+    expect(holds(&set, BYTES(set_x2)) && guarded(&set), "NULL terms", "another set");
+    lend(&set, 0, SIRAGUMON_SET_BYTES);
+    lend_row();
+    siragumon_read_listing(0, NO_MARKS, FULL_KIT, NULL, 0, NULL, 0, bytes(&set), row + 1);
+    expect_row("NULL terms and text, n 0", FIVE(1, 0, 0, 0, 0));
+    expect(holds(&set, NO_BYTES) && guarded(&set), "NULL terms and text, n 0", "another set");
+}
+
 /* Each equation in turn gets all variables but the last, and x1^2: each system of them is quadratic as it is. */
 static void fill_many(void) {
     for (int i = 0; i < MANY; i++) {
@@ -787,6 +1285,15 @@ int main(void) {
     junior();
     junior_refused();
     all_degrees();
+    right_listings();
+    no_sets();
+    false_lines();
+    unreadable_texts();
+    cut();
+    changed();
+    texts_refused();
+    longest();
+    null_texts();
     printf("%d calls, %d failures\n", cases, failures);
     return failures == 0 ? 0 : 1;
 }

@@ -7,18 +7,18 @@ use lib.ListN.{getD}
 use Rattle.compare.specs.declared.head.Head.{Head}
 
 abbrev pub headBytes : ℕ
-headBytes = 48
+headBytes = 56
 
 -- the operations are numbered from 1
 abbrev pub operations : ℕ
-operations = 3
+operations = 4
 
--- the longest set, terms and buffer that are answered
-abbrev pub longestSet : ℕ
-longestSet = 255
-
+-- the longest terms, set or text, and buffer that are answered
 abbrev pub longestTerms : ℕ
 longestTerms = 600
+
+abbrev pub longestGiven : ℕ
+longestGiven = 8192
 
 abbrev pub longestBuffer : ℕ
 longestBuffer = 65536
@@ -34,17 +34,17 @@ eight l at = four l at + 4294967296 * four l (at + 4)
 
 unfoldable pub headOf : List ℕ → Head
 headOf bytes = record {
-  operation = getD bytes 0 0;
-  set = getD bytes 1 0;
+  operation = two bytes 0;
   terms = two bytes 2;
-  size = four bytes 4;
+  given = four bytes 4;
   n = eight bytes 8;
   marks = eight bytes 16;
   degree = eight bytes 24;
   cap = eight bytes 32;
   limit = eight bytes 40;
+  size = eight bytes 48;
 }
 
 -- a known operation, and lengths within the limits
 unfoldable pub right : Head → Bool
-right h = leb 1 (h .operation) && leb (h .operation) operations && leb (h .set) longestSet && leb (h .terms) longestTerms && leb (h .size) longestBuffer
+right h = leb 1 (h .operation) && leb (h .operation) operations && leb (h .terms) longestTerms && leb (h .given) longestGiven && leb (h .size) longestBuffer

@@ -1,5 +1,6 @@
 // The answer to one case: its line, and the buffer as the operation leaves it.
 use super::head::Head;
+use desktop::read;
 use lines::case;
 use lines::lengths::LINE_BYTES;
 use thin::thin as thinning;
@@ -27,11 +28,11 @@ fn fill(buffer: &mut [u8])
 pub(crate) fn answer_case(
     h: Head,
     terms: &[u8],
-    set: &[u8],
+    given: &[u8],
     buffer: &mut [u8],
     line: &mut [u8; LINE_BYTES],
 ) -> usize
-    ensures { λ r. ⌜ Answers (caseOf h (now (terms .entry)) (now (set .entry)) (length (now (buffer .entry))))
+    ensures { λ r. ⌜ Answers (caseOf h (now (terms .entry)) (now (given .entry)) (length (now (buffer .entry))))
         r (now (line .entry)) (now (line .exit)) (now (buffer .exit)) ⌝ }
 {
     fill(buffer);
@@ -41,9 +42,15 @@ pub(crate) fn answer_case(
         return case::case_line(reply::numbers(planned), buffer, line);
     }
     if operation == 2 {
-        let wired = answers::wire(h.n, h.marks, h.degree, terms, set, buffer);
+        let wired = answers::wire(h.n, h.marks, h.degree, terms, given, buffer);
         return case::case_line(reply::numbers(wired), buffer, line);
     }
-    let thinned = thinning::thin(h.n, h.marks, h.degree, terms, set, buffer);
-    case::case_line(reply::numbers(thinned), buffer, line)
+    if operation == 3 {
+        let thinned = thinning::thin(h.n, h.marks, h.degree, terms, given, buffer);
+        return case::case_line(reply::numbers(thinned), buffer, line);
+    }
+    let heard = read::read_listing(h.n, h.marks, h.degree, terms, given);
+    let set = heard.set;
+    let said = heard.reply;
+    case::case_line(reply::numbers(said), &set, line)
 }

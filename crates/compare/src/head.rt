@@ -1,31 +1,31 @@
-// The head of a case: 48 bytes, each number low byte first.
+// The head of a case: 56 bytes, each number low byte first.
 use lines::text;
 ghost use mathlib.Core.Path.{_≡_};
 ghost use Prim.Native.Nat.{_+_, _≤_, _<_};
 ghost use Rattle.compare.specs.Head.{headBytes, two, four, eight, headOf, right};
 
-pub(crate) const HEAD_BYTES: usize = 48;
+pub(crate) const HEAD_BYTES: usize = 56;
 
 // The operations are numbered from 1.
-const OPERATIONS: u64 = 3;
+const OPERATIONS: u64 = 4;
 
-// The longest set, terms and buffer that are answered.
-const LONGEST_SET: usize = 255;
-
+// The longest terms, set or text, and buffer that are answered.
 const LONGEST_TERMS: usize = 600;
+
+const LONGEST_GIVEN: usize = 8192;
 
 const LONGEST_BUFFER: usize = 65536;
 
 pub struct Head {
     pub operation: u64,
-    pub set: usize,
     pub terms: usize,
-    pub size: usize,
+    pub given: usize,
     pub n: u64,
     pub marks: u64,
     pub degree: u64,
     pub cap: u64,
     pub limit: u64,
+    pub size: usize,
 }
 
 fn two_at(b: &[u8; HEAD_BYTES], at: usize) -> u64
@@ -53,15 +53,15 @@ pub(crate) fn read(b: &[u8; HEAD_BYTES]) -> Head
     ensures { λ r. ⌜ r ≡ headOf (now (b .entry)) ⌝ }
 {
     Head {
-        operation: text::wide(b[0]),
-        set: text::wide(b[1]) as usize,
+        operation: two_at(b, 0),
         terms: two_at(b, 2) as usize,
-        size: four_at(b, 4) as usize,
+        given: four_at(b, 4) as usize,
         n: eight_at(b, 8),
         marks: eight_at(b, 16),
         degree: eight_at(b, 24),
         cap: eight_at(b, 32),
         limit: eight_at(b, 40),
+        size: eight_at(b, 48) as usize,
     }
 }
 
@@ -75,10 +75,10 @@ pub(crate) fn is_right(h: Head) -> bool
     if OPERATIONS < h.operation {
         return false;
     }
-    if LONGEST_SET < h.set {
+    if LONGEST_TERMS < h.terms {
         return false;
     }
-    if LONGEST_TERMS < h.terms {
+    if LONGEST_GIVEN < h.given {
         return false;
     }
     h.size <= LONGEST_BUFFER

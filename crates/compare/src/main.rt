@@ -1,8 +1,8 @@
 // Answers a batch of cases from standard input, one line for each, so that another program's answers can be held against them.
 //
-// A case is a head of 48 bytes, then term records, then a set record. The head: operation (1 plan, 2 wire, 3 thin), length of the set (one byte),
-// of the terms (two), of the answer buffer (four), then n, marks, degree, cap and limit (eight each); low
-// byte first.
+// A case is a head of 56 bytes, then term records, then a set record, or the text of a listing. The head: operation (1 plan, 2 wire, 3 thin, 4 read a
+// listing; two bytes), length of the terms (two), of what is given behind them (four), then n, marks, degree, cap, limit and the length of the answer
+// buffer (eight each); low byte first.
 mod answer;
 mod head;
 
@@ -26,15 +26,15 @@ fn fetch(buffer: &mut [u8], n: usize) -> bool
 }
 
 // Reads what follows the head, and answers.
-fn answer_rest(h: Head, terms: &mut [u8], set: &mut [u8], buffer: &mut [u8]) -> bool
-    requires { ⌜ (h .terms ≤ length (now terms)) × ((h .set ≤ length (now set)) × (h .size ≤ length (now buffer))) ⌝ }
+fn answer_rest(h: Head, terms: &mut [u8], given: &mut [u8], buffer: &mut [u8]) -> bool
+    requires { ⌜ (h .terms ≤ length (now terms)) × ((h .given ≤ length (now given)) × (h .size ≤ length (now buffer))) ⌝ }
 {
     let terms_length = h.terms;
     if !fetch(terms, terms_length) {
         return broken();
     }
-    let set_length = h.set;
-    if !fetch(set, set_length) {
+    let given_length = h.given;
+    if !fetch(given, given_length) {
         return broken();
     }
     let size = h.size;
@@ -42,7 +42,7 @@ fn answer_rest(h: Head, terms: &mut [u8], set: &mut [u8], buffer: &mut [u8]) -> 
     let end = answer::answer_case(
         h,
         &terms[0..terms_length],
-        &set[0..set_length],
+        &given[0..given_length],
         &mut buffer[0..size],
         &mut line,
     );
@@ -56,9 +56,9 @@ fn answer_head(h: Head) -> bool {
         return broken();
     }
     let mut terms = io::buffer();
-    let mut set = io::buffer();
+    let mut given = io::large_buffer();
     let mut buffer = io::large_buffer();
-    answer_rest(h, &mut terms, &mut set, &mut buffer)
+    answer_rest(h, &mut terms, &mut given, &mut buffer)
 }
 
 // Reads and answers the next case; false at the end of the input and after a broken case.

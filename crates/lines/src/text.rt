@@ -15,7 +15,7 @@ pub fn wide(x: u8) -> u64
 }
 
 // Bytes as they are.
-pub(crate) fn put_text(s: &[u8], line: &mut [u8], at: usize) -> usize
+pub fn put_text(s: &[u8], line: &mut [u8], at: usize) -> usize
     requires { ⌜ at + length (now s) ≤ length (now line) ⌝ }
     ensures { λ r. ⌜ Added (now (s .entry)) at r (now (line .entry)) (now (line .exit)) ⌝ }
 {
@@ -28,7 +28,7 @@ pub(crate) fn put_text(s: &[u8], line: &mut [u8], at: usize) -> usize
 }
 
 // A number in decimal.
-pub(crate) fn put_number(n: u64, line: &mut [u8], at: usize) -> usize
+pub fn put_number(n: u64, line: &mut [u8], at: usize) -> usize
     requires { ⌜ at + numberBytes ≤ length (now line) ⌝ }
     ensures { λ r. ⌜ Added (decimal n) at r (now (line .entry)) (now (line .exit)) × (r ≤ at + 20) ⌝ }
 {
@@ -51,7 +51,7 @@ pub(crate) fn put_signed(c: i32, line: &mut [u8], at: usize) -> usize
 }
 
 // What stands before piece number i: nothing before the first.
-pub(crate) fn put_lead(i: usize, between: u8, line: &mut [u8], at: usize) -> usize
+pub fn put_lead(i: usize, between: u8, line: &mut [u8], at: usize) -> usize
     requires { ⌜ at + 1 ≤ length (now line) ⌝ }
     ensures { λ r. ⌜ Added (lead i between) at r (now (line .entry)) (now (line .exit)) × (r ≤ at + 1) ⌝ }
 {

@@ -8,8 +8,12 @@ use Rattle.wiring.specs.Reply.{numbers, inOrder}
 use Rattle.wiring.specs.Terms.{records, system}
 use Rattle.wiring.specs.declared.panel.Panel.{Panel}
 use Rattle.wiring.specs.declared.reply.Reply.{Reply}
-use Rattle.wiring.specs.declared.reply.Reply.the-variants.{Done, Setting, Length, Term, Twice, Nothing, Full, Spent, BadSet, NotQuadratic}
-use Rattle.wiring.specs.Claims.{WireSays, Patch}
+use Rattle.wiring.specs.declared.reply.Reply.the-variants.{Done, Setting, Length, Term, Twice, Nothing, Full, Spent, BadSet, NotQuadratic, Unreadable, FalseLine}
+use Rattle.wiring.specs.Answers.{verdict}
+use Rattle.wiring.specs.Sets.{setRecord}
+use Rattle.wiring.specs.Claims.{WireSays, Patch, WellFormed}
+use Rattle.roster.specs.Roster.{arranged}
+use Rattle.desktop.specs.Claims.{namesIn, ReadSays}
 use Rattle.walk.specs.Walk.{rulesOf}
 use Rattle.walk.specs.Claims.{Lacks, Fills, Spends, Accepted, PlanSays, NoneBelow, Planned}
 use Rattle.thin.specs.Claims.{ThinSays, Thinned, Overfull}
@@ -41,6 +45,8 @@ module _ (panel : Panel) (cap limit : ℕ) (terms : List ℕ) (size : ℕ) where
   PlanMeans (Twice p) bytes = PlanSays panel cap limit terms size (Twice p) × (bytes ≡ replicate size 0)
   PlanMeans BadSet bytes = ⊥
   PlanMeans (NotQuadratic o p) bytes = ⊥
+  PlanMeans (Unreadable p) bytes = ⊥
+  PlanMeans (FalseLine p) bytes = ⊥
 
 -- wiring: done writes a correct list; every other reply leaves zeros
 module _ (panel : Panel) (terms set : List ℕ) (size : ℕ) where
@@ -55,6 +61,8 @@ module _ (panel : Panel) (terms set : List ℕ) (size : ℕ) where
   WireMeans (NotQuadratic o p) bytes = WireSays panel terms set size (NotQuadratic o p) × (bytes ≡ replicate size 0)
   WireMeans (Nothing o k) bytes = ⊥
   WireMeans (Spent o k) bytes = ⊥
+  WireMeans (Unreadable p) bytes = ⊥
+  WireMeans (FalseLine p) bytes = ⊥
 
 -- thinning: done lists all smallest quadratic subsets of the given set, and full says that they are more than there is room for
 module _ (panel : Panel) (terms set : List ℕ) (size : ℕ) where
@@ -69,3 +77,28 @@ module _ (panel : Panel) (terms set : List ℕ) (size : ℕ) where
   ThinMeans (NotQuadratic o p) bytes = ThinSays panel terms set size (NotQuadratic o p) × (bytes ≡ replicate size 0)
   ThinMeans (Nothing o k) bytes = ⊥
   ThinMeans (Spent o k) bytes = ⊥
+  ThinMeans (Unreadable p) bytes = ⊥
+  ThinMeans (FalseLine p) bytes = ⊥
+
+-- reading: done gives the record of the set of a listing that is right, whatever else it says; every other reply leaves zeros
+module _ (panel : Panel) (terms text : List ℕ) where
+  -- the record is one that wiring takes, and it is quadratic
+  pub record Listed (order : ℕ) (bytes : List ℕ) : Type 0 where
+    pub right : ReadSays panel terms text (Done order 0 0)
+    pub is : bytes ≡ setRecord (arranged (namesIn panel text))
+    pub formed : WellFormed panel terms bytes
+    pub quadratic : verdict panel terms bytes ≡ Done order 0 0
+
+  abbrev pub ReadMeans : Reply → List ℕ → Type 0
+  ReadMeans (Done o c k) bytes = (c ≡ 0) × (k ≡ 0) × Listed o bytes
+  ReadMeans Setting bytes = ReadSays panel terms text Setting × (bytes ≡ replicate setBytes 0)
+  ReadMeans Length bytes = ReadSays panel terms text Length × (bytes ≡ replicate setBytes 0)
+  ReadMeans (Term p) bytes = ReadSays panel terms text (Term p) × (bytes ≡ replicate setBytes 0)
+  ReadMeans (Twice p) bytes = ReadSays panel terms text (Twice p) × (bytes ≡ replicate setBytes 0)
+  ReadMeans (Unreadable p) bytes = ReadSays panel terms text (Unreadable p) × (bytes ≡ replicate setBytes 0)
+  ReadMeans BadSet bytes = ReadSays panel terms text BadSet × (bytes ≡ replicate setBytes 0)
+  ReadMeans (FalseLine p) bytes = ReadSays panel terms text (FalseLine p) × (bytes ≡ replicate setBytes 0)
+  ReadMeans (NotQuadratic o p) bytes = ⊥
+  ReadMeans (Nothing o k) bytes = ⊥
+  ReadMeans (Full o k) bytes = ⊥
+  ReadMeans (Spent o k) bytes = ⊥

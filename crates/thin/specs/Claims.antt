@@ -17,7 +17,7 @@ use Rattle.wiring.specs.Sets.{setOf}
 use Rattle.wiring.specs.Claims.{Recordable, derivativeIn, VerdictSays, QuadraticIn}
 use Rattle.wiring.specs.declared.panel.Panel.{Panel}
 use Rattle.wiring.specs.declared.reply.Reply.{Reply}
-use Rattle.wiring.specs.declared.reply.Reply.the-variants.{Done, Setting, Length, Term, Twice, Nothing, Full, Spent, BadSet, NotQuadratic}
+use Rattle.wiring.specs.declared.reply.Reply.the-variants.{Done, Setting, Length, Term, Twice, Nothing, Full, Spent, BadSet, NotQuadratic, Unreadable, FalseLine}
 use Rattle.walk.specs.Walk.{Finds}
 use Rattle.walk.specs.Plan.{setsBytes}
 use Rattle.walk.specs.Claims.{QuadraticList, Laid}
@@ -66,6 +66,8 @@ ThinSays panel terms set size BadSet = VerdictSays panel terms set BadSet
 ThinSays panel terms set size (NotQuadratic o p) = VerdictSays panel terms set (NotQuadratic o p)
 ThinSays panel terms set size (Nothing o k) = ⊥
 ThinSays panel terms set size (Spent o k) = ⊥
+ThinSays panel terms set size (Unreadable p) = ⊥
+ThinSays panel terms set size (FalseLine p) = ⊥
 
 -- and what it leaves in the buffer: the subsets and then zeros; or only zeros
 abbrev pub thinLeaves : Panel → List ℕ → List ℕ → ℕ → Reply → List ℕ

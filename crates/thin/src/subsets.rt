@@ -1,29 +1,22 @@
 // The subsets of a set, each sifted once: every signal in turn is kept or dropped.
-use monomial::Monomial;
-use monomial::width::WIDTH;
+use roster::roster as sets;
 use wiring::answers;
 use wiring::buffer;
-use wiring::panel::CARDS;
 use wiring::panel::SET_BYTES;
 use wiring::reply::Reply;
 use wiring::sets::Set;
 ghost use mathlib.Core.Path.{_≡_};
 ghost use mathlib.Core.List.{[], _∷_, _++_};
-ghost use Prim.Native.Nat.{_+_, _≤_, _<_};
+ghost use Prim.Native.Nat.{_≤_};
 ghost use lib.ListN.{length};
 ghost use Rattle.wiring.specs.Panel.{cards};
 ghost use Rattle.wiring.specs.Reply.{numbers};
 ghost use Rattle.wiring.specs.Terms.{records, system};
-ghost use Rattle.wiring.specs.Sets.{monomialsOf, setRecord};
+ghost use Rattle.wiring.specs.Sets.{monomialsOf};
 ghost use Rattle.wiring.specs.Answers.{judged, told, wires, Judgeable};
 ghost use Rattle.wiring.specs.Claims.{Wide};
 ghost use Rattle.walk.specs.Walk.{Finds};
 ghost use Rattle.thin.specs.Subsets.{isQuadratic, Begun, Sifting, Bounded, undecided, Deciding};
-
-// The bytes of a set record.
-pub struct Record {
-    pub b: [u8; SET_BYTES],
-}
 
 // What the subsets that were sifted come to: the least size of a quadratic one, how many of them have it, and how many subsets were sifted: the steps.
 pub struct Best {
@@ -52,33 +45,14 @@ fn is_quadratic(n: usize, terms: &[u8], set: Set) -> bool
     }
 }
 
-// The record of a set.
-fn record_of(set: Set) -> Record
-    requires { ⌜ (length (monomialsOf set) ≤ cards) × Wide (monomialsOf set) ⌝ }
-    ensures { λ r. ⌜ r .b ≡ setRecord (monomialsOf set) ⌝ }
-{
-    let len = set.len;
-    let mut b = [0u8; SET_BYTES];
-    let mut i: usize = 0;
-    while i < CARDS {
-        if len <= i {
-            return Record { b };
-        }
-        let m = set.m[i];
-        m.write(&mut b, WIDTH * i);
-        i += 1;
-    }
-    Record { b }
-}
-
 // Writes a set behind the first `count` of the list, where there is room. Without room it is only counted: a smaller set may yet begin the list anew.
 fn join(out: &mut [u8], count: usize, set: Set)
-    requires { ⌜ (length (monomialsOf set) ≤ cards) × Wide (monomialsOf set) ⌝ }
+    requires { ⌜ (set .len ≤ cards) × Wide (monomialsOf set) ⌝ }
     ensures { λ _. ⌜ ((l : Finds) → count ≡ length l → Begun l (now (out .entry)) → Begun (l ++ (monomialsOf set ∷ [])) (now (out .exit))) ⌝ }
 {
     if count < out.len() / SET_BYTES {
-        let r = record_of(set);
-        buffer::put(out, SET_BYTES * count, &r.b);
+        let r = sets::record_of(set);
+        buffer::put(out, SET_BYTES * count, &r.record);
     }
 }
 
@@ -122,18 +96,6 @@ fn sift(n: usize, terms: &[u8], set: Set, out: &mut [u8], best: Best) -> Best
     }
 }
 
-// The set with m behind its last signal.
-fn with_last(set: Set, m: Monomial) -> Set
-    requires { ⌜ set .len < cards ⌝ }
-    ensures { λ r. ⌜ (monomialsOf r ≡ monomialsOf set ++ (m .e ∷ [])) × (r .len ≡ set .len + 1) ⌝ }
-{
-    let at = set.len;
-    let mut next = set;
-    next.m[at] = m;
-    next.len = at + 1;
-    next
-}
-
 // Decides the signals of the given set from `at` on: each is kept, then dropped. So the subsets of one size come ascending.
 pub(crate) fn decide(
     n: usize,
@@ -151,6 +113,6 @@ pub(crate) fn decide(
         return sift(n, terms, kept, out, best);
     }
     let m = given.m[at];
-    let with = decide(n, terms, given, at + 1, with_last(kept, m), out, best);
+    let with = decide(n, terms, given, at + 1, sets::with_last(kept, m), out, best);
     decide(n, terms, given, at + 1, kept, out, with)
 }

@@ -22,7 +22,7 @@ use Rattle.wiring.specs.Answers.{missing}
 use Rattle.wiring.specs.Claims.{Wide, base, Measured, Breaks, Repeats, Flawless, beyond, Buildable, Ranged, Recordable, LeftLinked, derivativeIn}
 use Rattle.wiring.specs.declared.panel.Panel.{Panel}
 use Rattle.wiring.specs.declared.reply.Reply.{Reply}
-use Rattle.wiring.specs.declared.reply.Reply.the-variants.{Done, Setting, Length, Term, Twice, Nothing, Full, Spent, BadSet, NotQuadratic}
+use Rattle.wiring.specs.declared.reply.Reply.the-variants.{Done, Setting, Length, Term, Twice, Nothing, Full, Spent, BadSet, NotQuadratic, Unreadable, FalseLine}
 use Rattle.walk.specs.Walk.{Finds, Rules, rulesOf, child, opens, ends, Taken, Step, found, other, level, walked, opened, Run, ended, spent, full}
 use Rattle.walk.specs.Plan.{Ending, done, none, fullAt, spentAt, plan, setsBytes}
 use Rattle.walk.specs.Turns.{Walked}
@@ -279,6 +279,8 @@ PlanSays panel cap limit terms size (Full o k) = Accepted panel cap limit terms 
 PlanSays panel cap limit terms size (Spent o k) = Accepted panel cap limit terms × Spends (rulesOf panel) (panel .n) (system (records terms)) limit (size / setBytes) cap o k
 PlanSays panel cap limit terms size BadSet = ⊥
 PlanSays panel cap limit terms size (NotQuadratic o p) = ⊥
+PlanSays panel cap limit terms size (Unreadable p) = ⊥
+PlanSays panel cap limit terms size (FalseLine p) = ⊥
 
 -- and what it leaves in the buffer: the sets and then zeros; or only zeros
 abbrev pub planLeaves : Panel → List ℕ → ℕ → Reply → List ℕ

@@ -27,7 +27,7 @@ use Rattle.wiring.specs.Wires.{Wire, signal, wireList}
 use Rattle.wiring.specs.Answers.{wires}
 use Rattle.wiring.specs.declared.panel.Panel.{Panel}
 use Rattle.wiring.specs.declared.reply.Reply.{Reply}
-use Rattle.wiring.specs.declared.reply.Reply.the-variants.{Done, Setting, Length, Term, Twice, Nothing, Full, Spent, BadSet, NotQuadratic}
+use Rattle.wiring.specs.declared.reply.Reply.the-variants.{Done, Setting, Length, Term, Twice, Nothing, Full, Spent, BadSet, NotQuadratic, Unreadable, FalseLine}
 
 -- ---- term records
 -- a length that records can have
@@ -208,6 +208,8 @@ VerdictSays panel terms set (Done o c k) =
 VerdictSays panel terms set (Nothing o k) = ⊥
 VerdictSays panel terms set (Full o k) = ⊥
 VerdictSays panel terms set (Spent o k) = ⊥
+VerdictSays panel terms set (Unreadable p) = ⊥
+VerdictSays panel terms set (FalseLine p) = ⊥
 
 -- ---- the wiring list
 -- the product of the two signals of a record, and the record as a product of members of v
@@ -275,6 +277,8 @@ WireSays panel terms set size BadSet = VerdictSays panel terms set BadSet
 WireSays panel terms set size (NotQuadratic o p) = VerdictSays panel terms set (NotQuadratic o p)
 WireSays panel terms set size (Nothing o k) = ⊥
 WireSays panel terms set size (Spent o k) = ⊥
+WireSays panel terms set size (Unreadable p) = ⊥
+WireSays panel terms set size (FalseLine p) = ⊥
 
 -- and what it leaves in the buffer: the list, then zeros, or only zeros
 abbrev pub wireLeaves : Panel → List ℕ → List ℕ → ℕ → Reply → List ℕ

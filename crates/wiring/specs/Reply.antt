@@ -4,7 +4,7 @@ use mathlib.Core.List.{List, [], _∷_}
 use Prim.Native.Nat.{ℕ}
 use lib.ListN.{replicate}
 use Rattle.wiring.specs.declared.reply.Reply.{Reply}
-use Rattle.wiring.specs.declared.reply.Reply.the-variants.{Done, Setting, Length, Term, Twice, Nothing, Full, Spent, BadSet, NotQuadratic}
+use Rattle.wiring.specs.declared.reply.Reply.the-variants.{Done, Setting, Length, Term, Twice, Nothing, Full, Spent, BadSet, NotQuadratic, Unreadable, FalseLine}
 
 pub record Numbers : Type 0 where
   pub code : ℕ
@@ -16,7 +16,7 @@ pub record Numbers : Type 0 where
 abbrev pub five : ℕ → ℕ → ℕ → ℕ → ℕ → Numbers
 five code order count steps place = record { code = code; order = order; count = count; steps = steps; place = place }
 
--- document 01's number and values for every case
+-- the number and values of documents 01 and 02 for every case
 abbrev pub numbers : Reply → Numbers
 numbers (Done order count steps) = five 0 order count steps 0
 numbers Setting = five 1 0 0 0 0
@@ -28,6 +28,8 @@ numbers (Full order steps) = five 6 order 0 steps 0
 numbers (Spent order steps) = five 7 order 0 steps 0
 numbers BadSet = five 8 0 0 0 0
 numbers (NotQuadratic order place) = five 9 order 0 0 place
+numbers (Unreadable place) = five 10 0 0 0 place
+numbers (FalseLine place) = five 11 0 0 0 place
 
 abbrev pub inOrder : Numbers → List ℕ
 inOrder x = x .code ∷ x .order ∷ x .count ∷ x .steps ∷ x .place ∷ []

@@ -37,7 +37,7 @@ pub(crate) fn image(terms: &[u8], t: usize, z: Monomial) -> Monomial
 }
 
 // The total coefficient of m in the derivative of z.
-pub(crate) fn total(terms: &[u8], z: Monomial, m: Monomial) -> i32
+pub fn total(terms: &[u8], z: Monomial, m: Monomial) -> i32
     requires { ⌜ CleanTerms (now terms) × AtMost setExponent (z .e) ⌝ }
     ensures { λ r. ⌜ r ≡ coeff plain (derivative plain (system (records (now (terms .entry)))) (z .e)) (m .e) ⌝ }
 {

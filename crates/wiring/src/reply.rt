@@ -13,6 +13,8 @@ pub enum Reply {
     Spent { order: u64, steps: u64 },
     BadSet,
     NotQuadratic { order: u64, place: u64 },
+    Unreadable { place: u64 },
+    FalseLine { place: u64 },
 }
 
 // Code, order, count, steps and place of a reply.
@@ -34,5 +36,7 @@ pub fn numbers(r: Reply) -> [u64; 5]
         Reply::Spent { order, steps } => [7, order, 0, steps, 0],
         Reply::BadSet => [8, 0, 0, 0, 0],
         Reply::NotQuadratic { order, place } => [9, order, 0, 0, place],
+        Reply::Unreadable { place } => [10, 0, 0, 0, place],
+        Reply::FalseLine { place } => [11, 0, 0, 0, place],
     }
 }

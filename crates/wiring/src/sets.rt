@@ -50,7 +50,7 @@ fn is_constant(m: Monomial) -> bool
     false
 }
 
-fn monomial_right(panel: Panel, m: Monomial) -> bool
+pub fn monomial_right(panel: Panel, m: Monomial) -> bool
     ensures { λ r. ⌜ r ≡ monomialRight panel (m .e) ⌝ }
 {
     if is_constant(m) {

@@ -49,7 +49,7 @@ pub enum Pass {
 }
 
 // The pair of smallest a, then smallest b, whose product is m, where there is one. Most signals do not divide m.
-fn pair_of(v: Signals, m: Monomial) -> Pair
+pub fn pair_of(v: Signals, m: Monomial) -> Pair
     requires { ⌜ (v .len ≤ mostSignals) × Fitting setExponent (signalsOf v) ⌝ }
     ensures { λ r. ⌜ FirstPair (signalsOf v) (m .e) r ⌝ }
 {
@@ -133,7 +133,7 @@ fn lacks_pair_at(terms: &[u8], t: usize, v: Signals, z: Monomial, last: Pick) ->
 
 // Whether the derivative of z has a monomial behind the last one that no two signals multiply to. Where nothing is written any more, their order
 // does not matter.
-fn lacks_pair(terms: &[u8], v: Signals, z: Monomial, last: Pick) -> bool
+pub fn lacks_pair(terms: &[u8], v: Signals, z: Monomial, last: Pick) -> bool
     requires { ⌜ CleanTerms (now terms) × ((v .len ≤ mostSignals) × (Fitting setExponent (signalsOf v) × AtMost setExponent (z .e))) ⌝ }
     ensures { λ r. ⌜ r ≡ some (keep (unmetBeyond (signalsOf v) last) (support plain (derivative plain (system (records (now (terms .entry)))) (z .e)))) ⌝ }
 {

@@ -2,6 +2,8 @@
 
 use crate::algebra::Exponents;
 use crate::panel::CARDS;
+use crate::typed::listing::{self, Listing};
+use crate::typed::system::exponents;
 
 /// The five numbers of a reply (document 01, What the box says).
 #[derive(Debug, Clone, Copy, PartialEq, Default)]
@@ -23,15 +25,32 @@ pub const FULL: u64 = 6;
 pub const SPENT: u64 = 7;
 pub const SET: u64 = 8;
 pub const NOT_QUADRATIC: u64 = 9;
+pub const UNREADABLE: u64 = 10;
+pub const FALSE: u64 = 11;
 
-/// The codes that planning gives, and those that thinning and wiring give of a set.
+/// The codes that planning gives, those that thinning and wiring give of a set, and those that reading gives of a
+/// listing.
 pub const OF_PLANNING: [u64; 8] = [DONE, SETTING, LENGTH, TERM, TWICE, NONE, FULL, SPENT];
 pub const OF_A_SET: [u64; 8] = [DONE, SETTING, LENGTH, TERM, TWICE, FULL, SET, NOT_QUADRATIC];
+pub const OF_READING: [u64; 8] = [DONE, SETTING, LENGTH, TERM, TWICE, SET, UNREADABLE, FALSE];
 
 impl Reply {
     /// The name of the code.
     pub fn name(&self) -> Option<&'static str> {
-        let names = ["done", "setting", "length", "term", "twice", "none", "full", "spent", "set", "not quadratic"];
+        let names = [
+            "done",
+            "setting",
+            "length",
+            "term",
+            "twice",
+            "none",
+            "full",
+            "spent",
+            "set",
+            "not quadratic",
+            "unreadable",
+            "false",
+        ];
         names.get(usize::try_from(self.code).ok()?).copied()
     }
 }
@@ -48,10 +67,12 @@ pub struct Wire {
 #[derive(Debug, Clone, PartialEq, Default)]
 pub struct Answer {
     pub reply: Reply,
-    /// The sets in their order, each ascending; of a wiring the given one.
+    /// The sets in their order, each ascending; of a wiring the given one, and of a listing its own.
     pub sets: Vec<Vec<Exponents>>,
     /// The wiring of the set that was asked for.
     pub wires: Vec<Wire>,
+    /// The same as a listing, where that was asked for.
+    pub listing: Option<String>,
 }
 
 impl Answer {
@@ -96,7 +117,61 @@ pub fn wired(n: usize, given: &[Exponents], text: &str) -> Result<Answer, String
         return Err(format!("wiring takes no steps, and not {}", reply.steps));
     }
     let sets = if reply.code == DONE { vec![given.to_vec()] } else { Vec::new() };
-    Ok(Answer { reply, sets, wires: wires(&lines, n + given.len())? })
+    Ok(Answer { reply, sets, wires: wires(&lines, n + given.len())?, ..Answer::default() })
+}
+
+/// Reads what the program wrote of a listing. A set that is not that of its names is no answer about it, nor is a place
+/// that it does not have.
+pub fn read(n: usize, marks: u64, pasted: &[u8], text: &str) -> Result<Answer, String> {
+    let (reply, lines) = begun(&OF_READING, text)?;
+    let held = |place: u64, most: usize| 0 < place && place <= most as u64;
+    match reply.code {
+        DONE => {
+            let [line] = lines[..] else {
+                return Err("not one set".into());
+            };
+            let set = set(line, reply.order)?;
+            let names = listing::read(pasted, n, marks).ok().and_then(|listing| names(&listing));
+            if names != Some(set.clone()) {
+                return Err("the set is not that of the listing".into());
+            }
+            if (reply.count, reply.steps, reply.place) != (0, 0, 0) {
+                return Err("reading counts nothing, takes no steps and has no place after done".into());
+            }
+            Ok(Answer { reply, sets: vec![set], ..Answer::default() })
+        }
+        UNREADABLE if !held(reply.place, pasted.len() + 1) => Err(format!("there is no byte {}", reply.place)),
+        FALSE if !held(reply.place, pasted.split(|&byte| byte == b'\n').count()) => {
+            Err(format!("there is no line {}", reply.place))
+        }
+        _ => Ok(Answer { reply, ..Answer::default() }),
+    }
+}
+
+/// What the names of a listing are, ascending; nothing where they fit no record.
+fn names(listing: &Listing) -> Option<Vec<Exponents>> {
+    let mut names: Vec<Exponents> = listing.names.iter().map(exponents).collect::<Option<_>>()?;
+    names.sort_unstable();
+    Some(names)
+}
+
+/// Reads the listing that the program printed of a set that it had wired. One that does not say what the wiring says is
+/// none of it.
+pub fn printed(n: usize, marks: u64, wired: &[Exponents], wires: &[Wire], text: &str) -> Result<String, String> {
+    let (first, listing) = text.split_once('\n').ok_or("its first line has no end")?;
+    let reply = reply(first, &[DONE])?;
+    let expected = Reply { order: wired.len() as u64, count: wires.len() as u64, ..Reply::default() };
+    if reply != expected {
+        return Err(format!("no reply about the set that was wired: {first:?}"));
+    }
+    let read = listing::read(listing.as_bytes(), n, marks).map_err(|place| format!("no listing at byte {place}"))?;
+    let said = read.lines.iter().flat_map(|line| line.terms.iter().map(|term| (line.left, term)));
+    let said = said.map(|(left, term)| (left, term.a, term.b, term.coefficient));
+    let held = wires.iter().map(|wire| (wire.left, wire.a, wire.b, i64::from(wire.coefficient)));
+    if !read.names.iter().map(exponents).eq(wired.iter().copied().map(Some)) || !said.eq(held) {
+        return Err("the listing does not say what the wiring says".into());
+    }
+    Ok(listing.into())
 }
 
 /// The reply, and the lines after it: only code 0 has any.
@@ -129,7 +204,7 @@ fn listed(n: usize, reply: Reply, lines: &[&str]) -> Result<Answer, String> {
     let count = usize::try_from(reply.count).ok().filter(|&count| count <= lines.len()).ok_or("a set is missing")?;
     let (sets, rest) = lines.split_at(count);
     let sets = sets.iter().map(|line| set(line, reply.order)).collect::<Result<_, _>>()?;
-    Ok(Answer { reply, sets, wires: wires(rest, n + reply.order as usize)? })
+    Ok(Answer { reply, sets, wires: wires(rest, n + reply.order as usize)?, ..Answer::default() })
 }
 
 fn reply(line: &str, codes: &[u64]) -> Result<Reply, String> {
@@ -324,5 +399,90 @@ pub mod tests {
         ] {
             assert!(planned(1, text).is_err(), "{text:?}");
         }
+    }
+
+    use crate::typed::listing::tests::EXAMPLE as LISTING;
+
+    /// What becomes of an answer about document 000's listing.
+    fn read_of(text: &str) -> Result<Answer, String> {
+        read(2, 0, LISTING.as_bytes(), text)
+    }
+
+    #[test]
+    fn a_listing_that_is_right_gives_its_set() {
+        let answer = read_of("0 2 0 0 0\n0.2.0.0.0.0 2.0.0.0.0.0\n").unwrap();
+        assert_eq!(answer.sets, [[[0, 2, 0, 0, 0, 0], [2, 0, 0, 0, 0, 0]]]);
+        assert_eq!((answer.reply.order, answer.wires.len(), answer.listing), (2, 0, None));
+        let empty = read(1, 0, b"Introduced variables:\n\nx1' = x1\n", "0 0 0 0 0\n\n").unwrap();
+        assert_eq!(empty.sets, [Vec::<Exponents>::new()]);
+    }
+
+    #[test]
+    fn a_refused_listing_has_a_place_in_it() {
+        let last = LISTING.len() as u64 + 1;
+        for (code, place, name) in
+            [(8, 0, "set"), (10, 1, "unreadable"), (10, last, "unreadable"), (11, 8, "false"), (2, 0, "length")]
+        {
+            let answer = read_of(&format!("{code} 0 0 0 {place}\n")).unwrap();
+            assert_eq!((answer.reply.name(), answer.reply.place, answer.sets.len()), (Some(name), place, 0));
+        }
+        for (code, place) in [(10, 0), (10, last + 1), (11, 0), (11, 99)] {
+            assert!(read_of(&format!("{code} 0 0 0 {place}\n")).unwrap_err().contains("there is no"));
+        }
+    }
+
+    #[test]
+    fn half_an_answer_about_a_listing_is_none() {
+        for (text, said) in [
+            ("0 2 0 0 0\n", "not one set"),
+            ("0 2 0 0 0\n0.2.0.0.0.0 2.0.0.0.0.0", "no end"),
+            ("0 2 0 0 0\n0.2.0.0.0.0 2.0.0.0.0.0\n\n", "not one set"),
+            ("0 2 0 0 0\n2.0.0.0.0.0 0.2.0.0.0.0\n", "not that of the listing"),
+            ("0 2 0 0 0\n0.2.0.0.0.0 3.0.0.0.0.0\n", "not that of the listing"),
+            ("0 1 0 0 0\n0.2.0.0.0.0\n", "not that of the listing"),
+            ("0 1 0 0 0\n0.2.0.0.0.0 2.0.0.0.0.0\n", "no set of 1"),
+            ("0 2 1 0 0\n0.2.0.0.0.0 2.0.0.0.0.0\n", "counts nothing"),
+            ("8 0 0 0 0\n\n", "a line too many"),
+            ("9 2 0 0 1\n", "no reply"),
+            ("5 0 0 0 0\n", "no reply"),
+            ("12 0 0 0 0\n", "no reply"),
+            ("", "no end"),
+        ] {
+            let fault = read_of(text).unwrap_err();
+            assert!(fault.contains(said), "{text:?}: {fault}");
+        }
+        let yes = "0 0 0 0 0\n\n";
+        assert!(read(1, 0, b"", yes).unwrap_err().contains("not that of the listing"), "it is not readable");
+    }
+
+    /// What is printed of document 000's set for x1' = x1^3 + x2^2, x2' = x1 + x2, and its wiring.
+    const PRINTED: &str = "0 2 8 0 0\nIntroduced variables:\nw0 = x2**2\nw1 = x1**2\n\nx1' = w0 + x1*w1\n\
+                           x2' = x2 + x1\nw0' = 2*w0 + 2*x1*x2\nw1' = 2*x1*w0 + 2*w1**2\n";
+    const ITS_WIRING: &str = "0 2 8 0 0\n1 0 3 1\n1 1 4 1\n2 0 2 1\n2 0 1 1\n3 0 3 2\n3 1 2 2\n4 1 3 2\n4 4 4 2\n";
+
+    #[test]
+    fn a_printed_listing_says_what_the_wiring_says() {
+        let set = [[0, 2, 0, 0, 0, 0], [2, 0, 0, 0, 0, 0]];
+        let wires = wired(2, &set, ITS_WIRING).unwrap().wires;
+        let printed = |text: &str| printed(2, 0, &set, &wires, text);
+        assert_eq!(printed(PRINTED).unwrap(), PRINTED.split_once('\n').unwrap().1);
+        for (right, wrong, said) in [
+            ("0 2 8 0 0", "0 1 8 0 0", "no reply about"),
+            ("0 2 8 0 0", "0 2 7 0 0", "no reply about"),
+            ("0 2 8 0 0", "9 2 0 0 1", "no reply"),
+            ("0 2 8 0 0\n", "0 2 8 0 0", "no reply"),
+            ("Intro", "intro", "no listing at byte 1"),
+            ("2*w1**2\n", "2*w1**2", "no listing at byte"),
+            ("x2**2", "x2**3", "not say what the wiring"),
+            ("2*w0 + 2*x1*x2", "2*x1*x2 + 2*w0", "not say what the wiring"),
+            ("2*w0 + 2*x1*x2", "2*w0 + 2*x2*x1", "not say what the wiring"),
+            ("2*w0 + 2*x1*x2", "2*w0 - 2*x1*x2", "not say what the wiring"),
+            ("x1' = w0 + x1*w1", "x1' = w0", "not say what the wiring"),
+        ] {
+            let text = PRINTED.replacen(right, wrong, 1);
+            assert_ne!(text, PRINTED);
+            assert!(printed(&text).unwrap_err().contains(said), "{wrong}: {:?}", printed(&text));
+        }
+        assert!(printed("").is_err() && printed("8 0 0 0 0\n").is_err());
     }
 }

@@ -7,12 +7,16 @@ use std::thread;
 use std::time::Duration;
 
 use crate::algebra::{degree, Exponents};
-use crate::asking::answer::{self, Answer};
+use crate::asking::answer::{self, Answer, Wire};
 use crate::typed::given;
 use crate::typed::settings::{Count, Settings};
 
 /// The variable that names the script which runs a proved program by its name. The command `plan` sets it.
 pub const RUNNER: &str = "SIRAGUMON_RUNNER";
+
+/// The programs: the one that plans, thins and wires, and the one that prints listings and reads them.
+const ASKED: &str = "asked";
+const LISTED: &str = "listed";
 
 pub struct Planner {
     pub runner: String,
@@ -28,20 +32,34 @@ impl Planner {
     pub fn ask(&self, settings: &Settings, tick: impl FnMut()) -> Result<Answer, String> {
         let Settings { cards, steps, sets, which, .. } = settings;
         let which = which.to_string();
-        let text = self.run(&[cards.digits(), steps.digits(), sets.digits(), &which], &self.terms, tick)?;
+        let text = self.run(ASKED, &[cards.digits(), steps.digits(), sets.digits(), &which], &self.terms, tick)?;
         answer::planned(self.n, &text).and_then(|answer| self.keeps_rules(answer)).map_err(unreadable)
     }
 
     /// Asks for the smallest subsets of a set that will do, and for the wiring of subset `which`.
     pub fn thin(&self, set: &[Exponents], which: u64) -> Result<Answer, String> {
-        let text = self.run_on_set(&[&which.to_string()], set)?;
+        let text = self.run_on_set(ASKED, &[&which.to_string()], set)?;
         answer::thinned(self.n, set, &text).and_then(|answer| self.keeps_rules(answer)).map_err(unreadable)
     }
 
     /// Asks whether a set will do as it is, and for its wiring.
     pub fn wire(&self, set: &[Exponents]) -> Result<Answer, String> {
-        let text = self.run_on_set(&[], set)?;
+        let text = self.run_on_set(ASKED, &[], set)?;
         answer::wired(self.n, set, &text).and_then(|answer| self.keeps_rules(answer)).map_err(unreadable)
+    }
+
+    /// Asks for the listing of a set with that wiring.
+    pub fn print(&self, set: &[Exponents], wires: &[Wire]) -> Result<String, String> {
+        let text = self.run_on_set(LISTED, &[], set)?;
+        answer::printed(self.n, self.marks, set, wires, &text).map_err(unreadable)
+    }
+
+    /// Asks whether a listing is right.
+    pub fn read(&self, listing: &[u8]) -> Result<Answer, String> {
+        let input = [&self.terms, listing].concat();
+        let text = self.run(LISTED, &[&self.terms.len().to_string()], &input, || ())?;
+        let answer = answer::read(self.n, self.marks, listing, &text);
+        answer.and_then(|answer| self.keeps_rules(answer)).map_err(unreadable)
     }
 
     /// An answer that holds a signal from outside in a new one, or wires one, is none. Nor is one that has a new signal
@@ -61,16 +79,16 @@ impl Planner {
     }
 
     /// The record of a set goes before the terms. A set has so few subsets that it is over at once.
-    fn run_on_set(&self, arguments: &[&str], set: &[Exponents]) -> Result<String, String> {
+    fn run_on_set(&self, program: &str, arguments: &[&str], set: &[Exponents]) -> Result<String, String> {
         let input = [&given::record(set)[..], &self.terms].concat();
-        self.run(arguments, &input, || ())
+        self.run(program, arguments, &input, || ())
     }
 
-    /// Runs the program. Its first words are those of the system and the kit; the others are given.
-    fn run(&self, arguments: &[&str], input: &[u8], mut tick: impl FnMut()) -> Result<String, String> {
+    /// Runs a program. Its first words are those of the system and the kit; the others are given.
+    fn run(&self, program: &str, arguments: &[&str], input: &[u8], mut tick: impl FnMut()) -> Result<String, String> {
         let system = [self.n.to_string(), self.marks.to_string(), self.degree.digits().to_string()];
         let mut command = Command::new(&self.runner);
-        command.arg("asked").args(system).args(arguments).stdin(Stdio::piped()).stdout(Stdio::piped());
+        command.arg(program).args(system).args(arguments).stdin(Stdio::piped()).stdout(Stdio::piped());
         leash(&mut command);
         let mut child = command.spawn().map_err(|why| format!("{} cannot be run: {why}", self.runner))?;
         // The program stops reading once it knows that there are too many terms, so a failed write says nothing.
@@ -130,12 +148,14 @@ mod tests {
     use super::*;
     use crate::panel::{FULL_DEGREE, TERM_BYTES};
 
-    /// Why there is neither a plan nor a thinned or a wired set.
-    fn faults(runner: &str) -> [String; 3] {
+    /// Why there is neither a plan nor a thinned or a wired set, and why no listing is read or printed.
+    fn faults(runner: &str) -> [String; 5] {
         let terms = vec![0; TERM_BYTES * 9000];
         let planner = Planner { runner: runner.into(), n: 1, marks: 0, degree: FULL_DEGREE.into(), terms };
         let set = [[2, 0, 0, 0, 0, 0]];
-        let answers = [planner.ask(&Settings::default(), || ()), planner.thin(&set, 1), planner.wire(&set)];
+        let planned = planner.ask(&Settings::default(), || ());
+        let printed = planner.print(&set, &[]).map(|_| Answer::default());
+        let answers = [planned, planner.thin(&set, 1), planner.wire(&set), planner.read(b""), printed];
         answers.map(|answer| answer.unwrap_err())
     }
 

@@ -1,11 +1,13 @@
 //! The whole answer, for other programs: JSON.
 
 use crate::algebra::Exponents;
+use crate::asking::answer::{FALSE, UNREADABLE};
 use crate::patch::Patch;
 use crate::saying::json::Json;
 use crate::saying::report::Report;
-use crate::saying::{given, wired};
+use crate::saying::{given, read, wired};
 use crate::typed::given::{Aim, Given};
+use crate::typed::pasted::Pasted;
 use crate::typed::settings::Count;
 use crate::typed::system::{Record, System};
 use crate::typed::text::{place, Fault, Source, Span};
@@ -25,13 +27,20 @@ pub fn answer(report: &Report) -> String {
         ("place", whole(reply.place)),
         ("words", said.words.replace('\n', " ").into()),
         ("places", Json::List(places.collect())),
-        ("notes", Json::list(report.notes().into_iter().chain(report.no_such_set()))),
+        ("notes", Json::list(report.notes().into_iter().chain(report.no_such_set()).chain(report.long_listing()))),
         ("settings", settings(report)),
         ("system", system(report)),
     ];
-    match &report.system.given {
-        None => fields.push(("sets", sets(report))),
-        Some(set) => fields.extend(about_set(report, set)),
+    match (report.pasted, &report.system.given) {
+        (Some(pasted), _) => {
+            fields.extend(about_listing(report, pasted));
+            return Json::Object(fields).written();
+        }
+        (_, None) => fields.push(("sets", sets(report))),
+        (_, Some(set)) => fields.extend(about_set(report, set)),
+    }
+    if report.as_listing {
+        fields.push(("listing", report.answer.listing.as_deref().map_or(Json::Null, Json::from)));
     }
     fields.extend([
         ("wiring", report.patch.map_or(Json::Null, |patch| wiring(report, patch))),
@@ -52,13 +61,15 @@ fn whole(number: u64) -> Json {
 
 fn operation(report: &Report) -> &'static str {
     match report.system.aim() {
+        None if report.pasted.is_some() => "reading",
         None => "planning",
         Some(Aim::Thinning) => "thinning",
         Some(Aim::Wiring) => "wiring",
     }
 }
 
-/// Those that were sent, for the full kit too. Of a given set all that is asked is judged, and no search is limited.
+/// Those that were sent, for the full kit too. Of a given set or listing all that is asked is judged, and no search is
+/// limited.
 fn settings(report: &Report) -> Json {
     let count = |c: &Count| c.value().map_or(Json::from(c.digits()), whole);
     let mut fields = vec![
@@ -66,7 +77,7 @@ fn settings(report: &Report) -> Json {
         ("marks", whole(report.system.marks())),
         ("degree", count(&report.settings.degree)),
     ];
-    if report.system.given.is_none() {
+    if report.system.given.is_none() && report.pasted.is_none() {
         fields.extend([
             ("cards", count(&report.settings.cards)),
             ("steps", count(&report.settings.steps)),
@@ -124,6 +135,37 @@ fn about_set(report: &Report, set: &Given) -> Vec<(&'static str, Json)> {
         ]),
     }
     fields
+}
+
+/// The file of a listing; the byte that the place of an unreadable one is, and where it stands; why a line is false; and
+/// the set of a listing that is right.
+fn about_listing(report: &Report, pasted: &Pasted) -> Vec<(&'static str, Json)> {
+    let reply = &report.answer.reply;
+    let place = reply.place as usize;
+    let stands = (reply.code == UNREADABLE).then(|| {
+        let (line, byte) = pasted.line_of(place);
+        Json::Object(vec![
+            ("line", whole(line as u64)),
+            ("byte", whole(byte as u64)),
+            ("value", pasted.byte(place).map_or(Json::Null, |value| Json::Number(value.into()))),
+        ])
+    });
+    let difference = (reply.code == FALSE).then(|| read::difference(place, pasted, report.system)).flatten();
+    let reason = difference.map(|difference| {
+        Json::Object(vec![
+            ("of", difference.of.into()),
+            ("exponents", exponents(&difference.product)),
+            ("listed", Json::Number(difference.listed)),
+            ("derivative", Json::Number(difference.derivative)),
+        ])
+    });
+    let set = report.answer.sets.first().map(|set| Json::Object(signals(report, set)));
+    vec![
+        ("file", pasted.file.as_str().into()),
+        ("stands", stands.unwrap_or(Json::Null)),
+        ("reason", reason.unwrap_or(Json::Null)),
+        ("set", set.unwrap_or(Json::Null)),
+    ]
 }
 
 /// The signal that cannot be wired, and the term of its derivative that no two signals multiply to.

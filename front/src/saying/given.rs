@@ -34,7 +34,7 @@ fn refused(given: &Given, settings: &Settings, system: &System, sources: &[Sourc
     }
     for (i, signal) in given.signals.iter().enumerate() {
         let earlier = given.signals[..i].iter().find(|other| other.powers == signal.powers);
-        let broken = rule::broken_signal(signal, system, settings.junior())
+        let broken = rule::broken_signal(&signal.powers, system, settings.junior())
             .or_else(|| earlier.map(|_| "the set has this product already; leave one out".into()));
         if let Some(broken) = broken {
             let text = short(text_of(sources, signal.span));

@@ -1,17 +1,20 @@
 //! The words of `--help`.
 
 use crate::panel::{
-    CARDS, FULL_DEGREE, LEAST_DEGREE, MOST_DEGREE, SETS, STEPS, TERMS, USUAL_SETS, USUAL_STEPS, VARIABLES,
+    CARDS, FULL_DEGREE, LEAST_DEGREE, LISTING_BYTES, MOST_DEGREE, SETS, STEPS, TERMS, USUAL_SETS, USUAL_STEPS,
+    VARIABLES,
 };
 use crate::saying::numbers::grouped;
 
 pub fn help() -> String {
     let (steps, usual_steps) = (grouped(STEPS), grouped(USUAL_STEPS));
     let (sets, usual_sets) = (grouped(SETS), grouped(USUAL_SETS));
+    let listing = grouped(LISTING_BYTES as u64);
     format!(
         "\
 Plans a patch: finds all smallest sets of new signals that make a polynomial system quadratic, and wires one. Or thins
-a given set: tells which of its signals can go. Or tells whether a given set will do as it is, and wires it.
+a given set: tells which of its signals can go. Or tells whether a given set will do as it is, and wires it. Or tells
+whether a listing of the desktop tool is right, and prints a patch as such a listing.
 
   ./plan \"x' = x^4 + x^3\"
   ./plan \"x' = x^2*y\" \"y' = -x*y^2\" --svg patch.svg
@@ -19,6 +22,8 @@ a given set: tells which of its signals can go. Or tells whether a given set wil
   ./plan \"x' = x^4 + x^3\" --thin \"x^2, x^3, x^4\"
   ./plan \"x' = x^4 + x^3\" --given \"x^3, x^4\"
   ./plan \"theta' = omega, omega' = -k*theta^3 + push\" --knob k --signal push
+  ./plan \"x' = x^4 + x^3\" --listing >listing.txt
+  ./plan \"x' = x^4 + x^3\" --read listing.txt
 
 An argument with = in it is one equation or several, separated by commas, semicolons or lines; any other is the name
 of a file that holds them (- is standard input). In a file, # hides the rest of its line.
@@ -39,6 +44,8 @@ to x{VARIABLES} are knobs without being said to be; any other name is pointed at
   --degree D     total degree of a new signal, at most, on a junior kit: {LEAST_DEGREE} to {MOST_DEGREE} ({FULL_DEGREE}, the full kit)
   --knob NAMES   says that names without equations are knobs; commas stand between names
   --signal NAMES says that names are signals fed from outside
+  --read FILE    tells whether the listing in a file is right for the equations (- is standard input)
+  --listing      prints the patch of that set as a listing, and the words on standard error
   --svg FILE     draws the patch of that set
   --json         writes all of it for other programs
   --file FILE    reads equations from a file, whatever its name
@@ -61,9 +68,17 @@ alone; --cards, --steps and --sets do not go with it.
 With --given that one set is judged, and nothing is said of others: it is wired, or a term is named that no two signals
 multiply to; --cards, --steps, --sets and --set do not go with it.
 
-Exit status: 0 all smallest sets, or subsets of the given set, are listed, or the given set is wired; 1 none up to
---cards, or stopped by --steps or --sets; 2 the input was refused or not understood, or the given set will not do;
-3 something could not be built, run or written.
+With --read a listing of up to {listing} bytes is held to the equations. It is right where its new names form a set, each
+derivative line, multiplied out, is the true derivative, and each term there has at most two names; where it is not, the
+byte or the line is pointed at. x1 to x{VARIABLES} are there the numbers of the names. Nothing is said of other sets, and nothing
+is wired or drawn: --cards, --steps, --sets, --set, --thin, --given, --listing and --svg do not go with it.
+
+With --listing standard output has the listing of the set that is wired and nothing else, and nothing at all where none
+is wired; --json has it as \"listing\". docs/LISTING.md has the grammar of both, byte by byte.
+
+Exit status: 0 all smallest sets, or subsets of the given set, are listed, or the given set is wired, or the listing is
+right; 1 none up to --cards, or stopped by --steps or --sets; 2 the input was refused or not understood, or the given
+set will not do, or the listing is not right; 3 something could not be built, run or written.
 "
     )
 }
@@ -77,7 +92,18 @@ mod tests {
         let help = help();
         let about: Vec<&str> = help.split("\n\n").filter(|part| part.contains("With --given")).collect();
         let lines = help.lines().filter(|line| line.contains("--given"));
-        assert_eq!((about.len(), lines.clone().count()), (1, 3));
+        assert_eq!((about.len(), lines.clone().count()), (1, 4));
+        for said in lines.chain(about) {
+            assert!(!said.contains("smallest"), "{said}");
+        }
+    }
+
+    #[test]
+    fn smallest_is_not_said_of_a_listing() {
+        let help = help();
+        let about: Vec<&str> = help.split("\n\n").filter(|part| part.starts_with("With --read")).collect();
+        let lines = help.lines().filter(|line| line.contains("--read") || line.contains("--listing"));
+        assert_eq!((about.len(), lines.clone().count()), (1, 7));
         for said in lines.chain(about) {
             assert!(!said.contains("smallest"), "{said}");
         }

@@ -5,6 +5,7 @@ pub mod given;
 pub mod help;
 pub mod json;
 pub mod numbers;
+pub mod read;
 pub mod report;
 pub mod rule;
 pub mod searched;

@@ -1,12 +1,15 @@
 //! The whole answer, for a person.
 
 use crate::asking::answer::{Answer, DONE, SET, TWICE};
+use crate::panel::LISTING_BYTES;
 use crate::patch::Patch;
 use crate::saying::numbers::{counted, grouped};
+use crate::saying::read;
 use crate::saying::searched::Searched;
 use crate::saying::words::{said, Said};
 use crate::typed::given::Aim;
 use crate::typed::names::Kind;
+use crate::typed::pasted::Pasted;
 use crate::typed::settings::Settings;
 use crate::typed::system::System;
 use crate::typed::text::{point, Fault, Source};
@@ -17,6 +20,10 @@ pub struct Report<'a> {
     pub settings: &'a Settings,
     pub answer: &'a Answer,
     pub patch: Option<&'a Patch>,
+    /// The listing that was to be read; nothing where none was given.
+    pub pasted: Option<&'a Pasted>,
+    /// Whether the wired set was to be printed as a listing.
+    pub as_listing: bool,
     pub drawn: Drawn,
 }
 
@@ -41,12 +48,17 @@ impl Drawn {
 
 impl Report<'_> {
     pub fn said(&self) -> Said {
-        said(&self.answer.reply, self.settings, self.system, self.sources)
+        let (reply, settings, system, sources) = (&self.answer.reply, self.settings, self.system, self.sources);
+        match self.pasted {
+            Some(pasted) => read::said(reply, pasted, settings, system, sources),
+            None => said(reply, settings, system, sources),
+        }
     }
 
-    /// What is listed; nothing where the given set was only wired.
+    /// What is listed; nothing where the given set was only wired, or a listing read.
     pub fn thing(&self) -> Option<&'static str> {
         match self.system.aim() {
+            None if self.pasted.is_some() => None,
             None => Some("set"),
             Some(Aim::Thinning) => Some("subset"),
             Some(Aim::Wiring) => None,
@@ -69,6 +81,7 @@ impl Report<'_> {
             let names = self.system.namings.join(", ");
             notes.push(format!("{names}: taken as variables of their own; the lines that name them are not used."));
         }
+        notes.extend(read::mapping(self.system).filter(|_| self.pasted.is_some() || self.answer.listing.is_some()));
         notes
     }
 
@@ -142,18 +155,44 @@ impl Report<'_> {
         missing.then(|| format!("There is no {thing} {which}: the list has {}.", counted(count, thing)))
     }
 
-    /// After code 1 to 4 there is no system that was planned, and after 8 no set that was judged.
+    /// After code 1 to 4 there is no system that was planned, and after 8 no set that was judged; the system of a listing
+    /// was taken then.
     fn was_taken(&self) -> bool {
         let code = self.answer.reply.code;
-        code == DONE || TWICE < code && code != SET
+        code == DONE || TWICE < code && (code != SET || self.pasted.is_some())
     }
 
+    /// All of it; of a listing that is printed what stands before it.
     pub fn for_a_person(&self) -> String {
-        let mut out = self.taken() + &self.answered() + &self.list() + &self.wired();
-        for words in [self.further(), self.drawn.words()].into_iter().flatten() {
+        let mut out = self.taken() + &self.answered() + &self.list();
+        if !self.as_listing {
+            out += &self.wired();
+        }
+        let last = [self.further(), self.drawn.words(), self.long_listing(), self.above_listing()];
+        for words in last.into_iter().flatten() {
             out += &format!("\n{words}\n");
         }
         out
+    }
+
+    /// Of which set the listing is that is printed.
+    fn above_listing(&self) -> Option<String> {
+        self.answer.listing.as_ref()?;
+        let which = self.settings.which;
+        let set = match (self.answer.reply.order, self.system.aim()) {
+            (0, _) => "The system".into(),
+            (_, None) => format!("Set {which}"),
+            (_, Some(Aim::Thinning)) => format!("Subset {which}"),
+            (_, Some(Aim::Wiring)) => "The given set".into(),
+        };
+        Some(format!("{set} as a listing:"))
+    }
+
+    /// What is printed may be longer than what is read.
+    pub fn long_listing(&self) -> Option<String> {
+        let length = self.answer.listing.as_ref()?.len();
+        let (has, most) = (grouped(length as u64), grouped(LISTING_BYTES as u64));
+        (LISTING_BYTES < length).then(|| format!("The listing has {has} bytes, and --read takes up to {most}."))
     }
 
     /// The system and the set as they were read; nothing where they were refused.
@@ -162,7 +201,8 @@ impl Report<'_> {
             return String::new();
         }
         let given = self.given_text().map(|text| format!("given set: {text}"));
-        let lines = self.equations().into_iter().chain(self.kinds()).chain(self.kit()).chain(given);
+        let listing = self.pasted.map(|pasted| format!("listing: {}", pasted.file));
+        let lines = self.equations().into_iter().chain(self.kinds()).chain(self.kit()).chain(given).chain(listing);
         let read = lines.map(|line| format!("  {line}\n"));
         let notes = self.notes().into_iter().map(|note| format!("{note}\n"));
         read.chain(notes).chain(std::iter::once("\n".into())).collect()
@@ -181,8 +221,11 @@ impl Report<'_> {
         out
     }
 
-    /// The sets that were asked for. Of the empty one the words have told.
+    /// The sets that were asked for, or that of a listing. Of the empty one the words of a plan have told.
     fn list(&self) -> String {
+        if self.pasted.is_some() {
+            return self.set_of_listing().map_or(String::new(), |set| format!("  set of the new names: {set}\n"));
+        }
         let Some(thing) = self.thing().filter(|_| 0 < self.answer.reply.order) else {
             return String::new();
         };
@@ -194,6 +237,14 @@ impl Report<'_> {
             format!("  {thing} {}: {}{spare}\n", number + 1, self.set(number).join(", "))
         };
         (0..self.answer.sets.len()).map(line).collect()
+    }
+
+    /// The set of a listing that is right.
+    fn set_of_listing(&self) -> Option<String> {
+        self.pasted.filter(|_| !self.answer.sets.is_empty()).map(|_| match self.set(0)[..] {
+            [] => "empty".into(),
+            ref set => set.join(", "),
+        })
     }
 
     /// The patch as equations.
@@ -211,11 +262,16 @@ impl Report<'_> {
         std::iter::once(format!("\n{heading}\n")).chain(equations).collect()
     }
 
-    /// How to wire another set, or why this one is not there.
+    /// How to wire another set, or that of a listing, or why this one is not there.
     fn further(&self) -> Option<String> {
-        let (count, thing) = (self.answer.sets.len(), self.thing()?);
+        let count = self.answer.sets.len();
+        if self.pasted.is_some() {
+            return (0 < count).then(|| format!("--given {:?} wires that set.", self.set(0).join(", ")));
+        }
+        let thing = self.thing()?;
+        let does = if self.as_listing { "prints" } else { "wires" };
         let anew = if self.system.given.is_some() { "judges them" } else { "searches" };
-        let others = || format!("--set N wires another {thing}, 1 to {count}; it {anew} anew.");
+        let others = || format!("--set N {does} another {thing}, 1 to {count}; it {anew} anew.");
         self.no_such_set().or_else(|| (1 < count).then(others))
     }
 }
@@ -241,9 +297,10 @@ pub fn not_understood(sources: &[Source], fault: &Fault) -> String {
 #[cfg(test)]
 mod tests {
     use super::*;
-    use crate::asking::answer::{planned, wired, Reply, FULL, NOT_QUADRATIC, OF_A_SET};
+    use crate::asking::answer::{planned, wired, Reply, FULL, NOT_QUADRATIC, OF_A_SET, OF_READING};
     use crate::recorded;
     use crate::saying::export;
+    use crate::typed::listing::tests::EXAMPLE as LISTING;
     use crate::typed::system::tests::{given, system, typed, typed_with_set, with_set};
 
     /// What is said of an answer about a system, where set `which` is asked to be wired.
@@ -265,8 +322,8 @@ mod tests {
         said: impl FnOnce(&Report) -> T,
     ) -> T {
         let patch = Patch::of(system, answer, settings.which);
-        let drawn = Drawn::NotAsked;
-        said(&Report { sources, system, settings, answer, patch: patch.as_ref(), drawn })
+        let (pasted, as_listing, drawn) = (None, answer.listing.is_some(), Drawn::NotAsked);
+        said(&Report { sources, system, settings, answer, patch: patch.as_ref(), pasted, as_listing, drawn })
     }
 
     /// What is printed for a text and an answer, and whether set `which` is wired.
@@ -473,5 +530,81 @@ mod tests {
         let [printed, json, _] = said_of_wiring("x' = x", "", &full);
         assert!(printed.contains("longer than there is room for") && !printed.contains("Wired:"), "{printed}");
         assert!(json.contains("\"wiring\": null"), "{json}");
+    }
+
+    #[test]
+    fn a_listing_is_printed_below_the_words() {
+        let (text, set) = recorded::WIRED[0];
+        let planned = planned(1, crate::asking::answer::tests::EXAMPLE).unwrap();
+        let answer = recorded::with_listing(&system(text), planned);
+        let listing = "Introduced variables:\nw0 = x1**2\nw1 = x1**3\n\nx1' = w1 + x1*w1\nw0' = 2*x1*w1 + 2*w0*w1\n\
+                       w1' = 3*w0*w1 + 3*w1**2\n";
+        assert_eq!(answer.listing.as_deref(), Some(listing));
+        let words = printed(text, &answer, 1);
+        assert!(words.starts_with(&format!("  {text}\nIn a listing x1 is x.\n\nFound: 2 smallest sets")), "{words}");
+        let last = "\n--set N prints another set, 1 to 2; it searches anew.\n\nSet 1 as a listing:\n";
+        assert!(words.ends_with(last) && !words.contains("wired:"), "{words}");
+        let json = report(&typed(text), &system(text), &answer, 1, export::answer);
+        assert!(json.contains("\"listing\": \"Introduced variables:\\nw0 = x1**2\\n"), "{json}");
+        let system = given(Aim::Wiring, text, set);
+        let answer = recorded::with_listing(&system, recorded::wiring(&system));
+        let [words, json, _] = said_of_wiring(text, set, &answer);
+        assert!(words.ends_with("and so does planning.\n\nThe given set as a listing:\n"), "{words}");
+        assert!(!words.contains("smallest") && !json.contains("smallest"), "{words}{json}");
+    }
+
+    #[test]
+    fn a_listing_that_is_too_long_to_be_read_is_printed_all_the_same() {
+        let mut answer = planned(1, crate::asking::answer::tests::EXAMPLE).unwrap();
+        for (length, long) in [(4096, false), (4097, true)] {
+            answer.listing = Some(" ".repeat(length));
+            let (text, note) = ("x' = x^4 + x^3", "The listing has 4,097 bytes, and --read takes up to 4,096.");
+            assert_eq!(printed(text, &answer, 1).contains(note), long);
+            assert_eq!(report(&typed(text), &system(text), &answer, 1, export::answer).contains(note), long);
+        }
+    }
+
+    /// What is said of an answer about document 000's listing, in words and for other programs.
+    fn said_of_reading(text: &str, answer: &Answer) -> [String; 2] {
+        let (pasted, source) = Pasted::of(1, "a.txt", LISTING.into());
+        let (sources, system, settings) = ([&typed(text)[..], &[source]].concat(), system(text), Settings::default());
+        let (pasted, as_listing, drawn) = (Some(&pasted), false, Drawn::NotAsked);
+        let report = Report {
+            sources: &sources,
+            system: &system,
+            settings: &settings,
+            answer,
+            patch: None,
+            pasted,
+            as_listing,
+            drawn,
+        };
+        [report.for_a_person(), export::answer(&report)]
+    }
+
+    #[test]
+    fn a_listing_that_is_right_has_a_set_and_no_other_has_one() {
+        let text = "S' = S^3 + I^2, I' = S + I";
+        let system = system(text);
+        let right = recorded::reading(&system, &Settings::default(), LISTING.as_bytes());
+        let [words, json] = said_of_reading(text, &right);
+        assert!(words.contains("\n  listing: a.txt\nIn a listing x1 is S and x2 is I.\n\nRight: each"), "{words}");
+        assert!(
+            words.ends_with("\n  set of the new names: I^2, S^2\n\n--given \"I^2, S^2\" wires that set.\n"),
+            "{words}"
+        );
+        assert!(
+            json.contains("\"operation\": \"reading\"") && json.contains("\"signals\": [\"I^2\", \"S^2\"]"),
+            "{json}"
+        );
+        for code in OF_READING.into_iter().filter(|&code| code != DONE) {
+            let [words, json] = said_of_reading(text, &Answer::refused(code, 3));
+            assert!(!words.contains("set of the new names") && !words.contains("--given"), "{words}");
+            assert!(json.ends_with("\"set\": null\n}\n") && !words.contains("Right"), "{words}{json}");
+            assert_eq!(words.contains("listing: a.txt"), TWICE < code, "{words}");
+            for said in [words, json] {
+                assert!(!said.contains("smallest") && !said.contains("wired:"), "{said}");
+            }
+        }
     }
 }

@@ -3,7 +3,6 @@
 use crate::panel::{COEFFICIENT, POWER, SET_POWER};
 use crate::saying::numbers::grouped;
 use crate::saying::words::listed;
-use crate::typed::given::Signal;
 use crate::typed::names::Kind;
 use crate::typed::system::{Powers, System, Term};
 
@@ -23,12 +22,15 @@ pub fn broken(term: &Term, names: &[String]) -> Option<String> {
     None
 }
 
-/// Which rule of a set record the signal breaks by itself. `junior` is the limit of a junior kit.
-pub fn broken_signal(signal: &Signal, system: &System, junior: Option<u64>) -> Option<String> {
-    power(&signal.powers, &system.names, SET_POWER).or_else(|| match signal.powers.iter().sum() {
-        0u128 => Some("it is 1, and no new signal; leave it out".into()),
-        1 => Some("it is a variable, and no new signal; leave it out".into()),
-        degree => from_outside(&signal.powers, system).or_else(|| above(degree, junior)),
+/// What may be done with a signal that no set takes, as the words for the rule end.
+pub const LEAVE_OUT: &str = "; leave it out";
+
+/// Which rule of a set record a signal breaks by itself. `junior` is the limit of a junior kit.
+pub fn broken_signal(powers: &Powers, system: &System, junior: Option<u64>) -> Option<String> {
+    power(powers, &system.names, SET_POWER).or_else(|| match powers.iter().sum() {
+        0u128 => Some(format!("it is 1, and no new signal{LEAVE_OUT}")),
+        1 => Some(format!("it is a variable, and no new signal{LEAVE_OUT}")),
+        degree => from_outside(powers, system).or_else(|| above(degree, junior)),
     })
 }
 
@@ -39,7 +41,7 @@ fn above(degree: u128, junior: Option<u64>) -> Option<String> {
 
 fn from_outside(powers: &Powers, system: &System) -> Option<String> {
     let held = system.those(|i| powers[i] != 0 && system.kind(i) == Kind::Signal);
-    let words = || format!("it holds {}, fed from outside, which no new signal may hold; leave it out", listed(&held));
+    let words = || format!("it holds {}, fed from outside, which no new signal may hold{LEAVE_OUT}", listed(&held));
     (!held.is_empty()).then(words)
 }
 
@@ -84,7 +86,7 @@ mod tests {
         let rule = |set: &str| {
             let sources = [&typed_with_set(Aim::Wiring, "x' = u v a", set)[..], &said(&[(Kind::Signal, "u, v")])];
             let system = system_of(&[&sources.concat()[..], &said(&[(Kind::Knob, "a")])].concat());
-            broken_signal(&system.given.as_ref().unwrap().signals[0], &system, Some(2))
+            broken_signal(&system.given.as_ref().unwrap().signals[0].powers, &system, Some(2))
         };
         let held =
             |names: &str| format!("it holds {names}, fed from outside, which no new signal may hold; leave it out");
@@ -98,7 +100,7 @@ mod tests {
     /// The rule that the first signal of a set breaks.
     fn rule_of(text: &str, junior: Option<u64>) -> Option<String> {
         let system = with_set("x' = y", text);
-        broken_signal(&system.given.as_ref().unwrap().signals[0], &system, junior)
+        broken_signal(&system.given.as_ref().unwrap().signals[0].powers, &system, junior)
     }
 
     #[test]

@@ -15,9 +15,12 @@ pub fn product(records: &[Record], signals: &[Exponents], signal: usize) -> Opti
     derivative.into_iter().find(|&(m, total)| total != 0 && !made(m)).map(|(m, total)| (total, m))
 }
 
-/// Like products are added with sign, so a total may be 0. Nothing where a power does not fit a byte.
-fn derivative(records: &[Record], of: &Exponents) -> Option<BTreeMap<Exponents, i64>> {
-    let mut totals = BTreeMap::new();
+/// Products with their total coefficients. Like products are added with sign, so a total may be 0.
+pub type Totals = BTreeMap<Exponents, i64>;
+
+/// Nothing where a power does not fit a byte.
+pub fn derivative(records: &[Record], of: &Exponents) -> Option<Totals> {
+    let mut totals = Totals::new();
     for record in records {
         let i = usize::from(record.equation) - 1;
         if of[i] != 0 {
@@ -30,7 +33,7 @@ fn derivative(records: &[Record], of: &Exponents) -> Option<BTreeMap<Exponents, 
     Some(totals)
 }
 
-fn times(a: &Exponents, b: &Exponents) -> Option<Exponents> {
+pub fn times(a: &Exponents, b: &Exponents) -> Option<Exponents> {
     let mut out = [0; VARIABLES];
     for ((out, a), b) in out.iter_mut().zip(a).zip(b) {
         *out = a.checked_add(*b)?;

@@ -6,7 +6,7 @@ use crate::saying::searched::UNWIRED;
 use crate::saying::words::QUADRATIC;
 
 /// What was not asked. Of the empty set there is no such question.
-const UNASKED: &str =
+pub const UNASKED: &str =
     "No other set was judged: whether fewer signals will do was not asked. --thin asks that, and so does planning.";
 
 pub fn said(reply: &Reply) -> String {

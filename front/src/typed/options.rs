@@ -2,6 +2,7 @@
 
 use std::io::Read;
 
+use crate::panel::LISTING_BYTES;
 use crate::typed::given::Aim;
 use crate::typed::names::Kind;
 use crate::typed::settings::{Count, Settings};
@@ -14,6 +15,10 @@ pub struct Options {
     pub given: Option<(Aim, String)>,
     /// What names are said to be, in the order of the options.
     pub said: Vec<(Kind, String)>,
+    /// The file of the listing that is read.
+    pub read: Option<String>,
+    /// Whether the wired set is printed as a listing.
+    pub listing: bool,
     pub svg: Option<String>,
     pub json: bool,
     pub help: bool,
@@ -40,15 +45,17 @@ pub fn options(arguments: impl IntoIterator<Item = String>) -> Result<Options, S
             Some((name, value)) => (name.to_string(), Some(value.to_string())),
             None => (argument.clone(), None),
         };
-        if matches!(name.as_str(), "--" | "--json" | "--help" | "-h") {
+        if matches!(name.as_str(), "--" | "--json" | LISTING | "--help" | "-h") {
             if joined.is_some() {
                 return Err(format!("{name} takes no value"));
             }
             match name.as_str() {
                 "--" => plain = true,
                 "--json" => options.json = true,
+                LISTING => options.listing = true,
                 _ => options.help = true,
             }
+            named.push(name);
             continue;
         }
         if !VALUED.contains(&name.as_str()) {
@@ -69,12 +76,16 @@ pub fn options(arguments: impl IntoIterator<Item = String>) -> Result<Options, S
             GIVEN => options.given = Some((Aim::Wiring, value)),
             KNOB => options.said.push((Kind::Knob, value)),
             SIGNAL => options.said.push((Kind::Signal, value)),
-            "--svg" => options.svg = Some(value),
+            READ => options.read = Some(value),
+            SVG => options.svg = Some(value),
             _ => options.inputs.push(Input::File(value)),
         }
         named.push(name);
     }
     go_together(&named)?;
+    if options.read.as_deref() == Some(STANDARD_INPUT) && options.inputs.contains(&Input::File(STANDARD_INPUT.into())) {
+        return Err("standard input cannot hold both the equations and the listing".into());
+    }
     Ok(options)
 }
 
@@ -82,21 +93,29 @@ const THIN: &str = "--thin";
 const GIVEN: &str = "--given";
 const KNOB: &str = "--knob";
 const SIGNAL: &str = "--signal";
+const READ: &str = "--read";
+const LISTING: &str = "--listing";
+const SVG: &str = "--svg";
+
+/// The name that stands for it.
+const STANDARD_INPUT: &str = "-";
 
 /// The options that have a value.
-const VALUED: [&str; 11] =
-    ["--cards", "--steps", "--sets", "--degree", "--set", THIN, GIVEN, KNOB, SIGNAL, "--svg", "--file"];
+const VALUED: [&str; 12] =
+    ["--cards", "--steps", "--sets", "--degree", "--set", THIN, GIVEN, KNOB, SIGNAL, READ, SVG, "--file"];
 
 /// Those that limit a search.
 const LIMITS: [&str; 3] = ["--cards", "--steps", "--sets"];
 
-/// Refuses an option that says nothing beside another one: where a set is given, nothing is searched.
+/// Refuses an option that says nothing beside another one: where a set or a listing is given, nothing is searched, and a
+/// listing that is read is not wired.
 fn go_together(named: &[String]) -> Result<(), String> {
-    for (option, second, does) in [
-        (THIN, GIVEN, "judges every subset of the given set"),
-        (GIVEN, "--set", "judges the given set alone and wires it"),
+    for (option, others, does) in [
+        (READ, &["--set", THIN, GIVEN, LISTING, SVG][..], "reads the given listing and wires nothing"),
+        (THIN, &[GIVEN], "judges every subset of the given set"),
+        (GIVEN, &["--set"], "judges the given set alone and wires it"),
     ] {
-        let idle = named.iter().find(|name| *name == second || LIMITS.contains(&name.as_str()));
+        let idle = named.iter().find(|name| others.contains(&name.as_str()) || LIMITS.contains(&name.as_str()));
         if let Some(idle) = idle.filter(|_| named.iter().any(|name| name == option)) {
             return Err(format!("{idle} does not go with {option}, which {does}"));
         }
@@ -120,26 +139,45 @@ pub fn source(input: Input) -> Result<Source, String> {
         Input::Text(text) => return Ok(Source::argument(Holds::Equations, text)),
         Input::File(file) => file,
     };
-    let shown = if file == "-" { "standard input".into() } else { format!("the file {:?}", short(&file)) };
-    let mut bytes = Vec::new();
-    let read = if file == "-" {
-        std::io::stdin().take(LONGEST + 1).read_to_end(&mut bytes)
-    } else {
-        std::fs::File::open(&file).and_then(|f| f.take(LONGEST + 1).read_to_end(&mut bytes))
-    };
-    read.map_err(|why| {
-        if why.kind() == std::io::ErrorKind::NotFound {
-            format!("there is no file {:?}, and for an equation = is missing in it", short(&file))
-        } else {
-            format!("{shown} cannot be read: {why}")
-        }
-    })?;
+    let bytes = bytes(&file, LONGEST + 1, ", and for an equation = is missing in it")?;
     if LONGEST < bytes.len() as u64 {
-        return Err(format!("{shown} is longer than any system"));
+        return Err(format!("{} is longer than any system", shown(&file)));
     }
-    let text = String::from_utf8(bytes).map_err(|_| format!("{shown} is no text"))?;
-    let name = if file == "-" { "standard input".into() } else { file };
-    Ok(Source { file: Some(name), holds: Holds::Equations, text })
+    let text = String::from_utf8(bytes).map_err(|_| format!("{} is no text", shown(&file)))?;
+    Ok(Source { file: Some(name(&file).into()), holds: Holds::Equations, text })
+}
+
+/// The name of the file that holds a listing, and its bytes; of a longer one no more than shows that it is too long.
+pub fn listing(file: &str) -> Result<(&str, Vec<u8>), String> {
+    Ok((name(file), bytes(file, LISTING_BYTES as u64 + 1, " to read a listing from")?))
+}
+
+fn name(file: &str) -> &str {
+    match file {
+        STANDARD_INPUT => "standard input",
+        file => file,
+    }
+}
+
+fn shown(file: &str) -> String {
+    match file {
+        STANDARD_INPUT => "standard input".into(),
+        file => format!("the file {:?}", short(file)),
+    }
+}
+
+/// The first bytes of a file, so many at most; `missing` is said where there is no such file.
+fn bytes(file: &str, most: u64, missing: &str) -> Result<Vec<u8>, String> {
+    let mut bytes = Vec::new();
+    let read = match file {
+        STANDARD_INPUT => std::io::stdin().take(most).read_to_end(&mut bytes),
+        file => std::fs::File::open(file).and_then(|f| f.take(most).read_to_end(&mut bytes)),
+    };
+    read.map_err(|why| match why.kind() {
+        std::io::ErrorKind::NotFound => format!("there is no file {:?}{missing}", short(file)),
+        _ => format!("{} cannot be read: {why}", shown(file)),
+    })?;
+    Ok(bytes)
 }
 
 #[cfg(test)]
@@ -211,6 +249,22 @@ mod tests {
     }
 
     #[test]
+    fn a_listing_is_read_or_printed() {
+        let options = read(&["x' = x^3", "--read", "a.txt", "--degree", "3", "--signal=u", "--json"]).unwrap();
+        assert_eq!((options.read, options.listing, options.json), (Some("a.txt".into()), false, true));
+        assert_eq!(read(&["--read=a=b"]).unwrap().read, Some("a=b".into()));
+        assert_eq!(read(&["--read", "-", "a.txt"]).unwrap().read, Some("-".into()));
+        for others in [
+            &["--cards", "2", "--steps=9", "--sets", "5", "--set", "2", "--svg", "a.svg"][..],
+            &["--thin", "x^2", "--set", "2", "--json"],
+            &["--given", "x^2"],
+        ] {
+            let options = read(&[&["--listing"], others].concat()).unwrap();
+            assert!(options.listing && options.read.is_none());
+        }
+    }
+
+    #[test]
     fn numbers_out_of_range_are_for_the_planner() {
         assert!(read(&["--cards", "99"]).is_ok());
         assert!(read(&["--degree", "10"]).is_ok());
@@ -244,6 +298,19 @@ mod tests {
             (vec!["--given=", "--set", "1"], "--set does not go with --given"),
             (vec!["--given", "x^2", "--thin", "x^2"], "--given does not go with --thin"),
             (vec!["--thin", "x^2", "--cards", "2", "--given", "x^2"], "--cards does not go with --thin"),
+            (vec!["--read"], "needs a value"),
+            (vec!["--listing=a.txt"], "takes no value"),
+            (vec!["--listings"], "--listings is no option"),
+            (vec!["--read", "a", "--cards", "2"], "--cards does not go with --read"),
+            (vec!["--steps", "2", "--read", "a"], "--steps does not go with --read"),
+            (vec!["--read", "a", "--sets", "2"], "--sets does not go with --read"),
+            (vec!["--read", "a", "--set", "2"], "--set does not go with --read"),
+            (vec!["--read", "a", "--thin", "x^2"], "--thin does not go with --read"),
+            (vec!["--given=", "--read", "a"], "--given does not go with --read"),
+            (vec!["--read", "a", "--listing"], "--listing does not go with --read"),
+            (vec!["--svg", "a.svg", "--read", "a"], "--svg does not go with --read"),
+            (vec!["-", "--read", "-"], "standard input cannot hold both"),
+            (vec!["--read", "-", "--file=-"], "standard input cannot hold both"),
         ] {
             let fault = read(&words).unwrap_err();
             assert!(fault.contains(said), "{words:?}: {fault}");
@@ -256,5 +323,10 @@ mod tests {
         assert!(missing.contains("there is no file") && missing.contains("= is missing"), "{missing}");
         assert!(source(Input::File("/".into())).unwrap_err().contains("cannot be read"));
         assert!(source(Input::File("/dev/zero".into())).unwrap_err().contains("longer"));
+        let missing = listing("no such file").unwrap_err();
+        assert_eq!(missing, "there is no file \"no such file\" to read a listing from");
+        assert!(listing("/").unwrap_err().contains("the file \"/\" cannot be read"));
+        let (name, bytes) = listing("/dev/zero").unwrap();
+        assert_eq!((name, bytes.len()), ("/dev/zero", LISTING_BYTES + 1), "it is for the planner to refuse");
     }
 }

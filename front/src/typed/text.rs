@@ -20,6 +20,8 @@ pub enum Holds {
     Set(Aim),
     /// Names that are said to be of a kind.
     Names(Kind),
+    /// The desktop tool's listing.
+    Listing,
 }
 
 impl Source {
@@ -110,7 +112,8 @@ pub fn point(sources: &[Source], span: Span) -> String {
     let before = if 0 < left { ".. " } else { "" };
     let after = if right < length { " .." } else { "" };
     let shown: String = place.text.chars().take(right).skip(left).collect();
-    lines += &format!("  {before}{shown}{after}\n");
+    let line = format!("  {before}{shown}{after}");
+    lines += &format!("{}\n", line.trim_end());
     // Tabs stay tabs, so that the carets stand under what they point at.
     let skipped = shown.chars().chain(std::iter::repeat(' ')).take(place.from - left);
     let blank: String = before.chars().map(|_| ' ').chain(skipped.map(|c| if c == '\t' { c } else { ' ' })).collect();

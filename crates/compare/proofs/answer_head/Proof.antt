@@ -19,11 +19,11 @@ returns c = search needs
 buffer-requires : tie.Need-buffer-requires
 buffer-requires c κs = search needs
 
-buffer-requires-2 : tie.Need-buffer-requires-2
-buffer-requires-2 c κs = search needs
-
 large-buffer-requires : tie.Need-large-buffer-requires
 large-buffer-requires c κs = search needs
+
+large-buffer-requires-2 : tie.Need-large-buffer-requires-2
+large-buffer-requires-2 c κs = search needs
 
 slice-aggregate-answer-rest : tie.Need-slice-aggregate-answer-rest
 slice-aggregate-answer-rest c = search needs
@@ -40,7 +40,7 @@ answer-rest-requires c κs =
     let tested = made .before .before .before in
     let h = right-within _ (sym (tested .before .is-right .ensures) ∙ not-false _ (tested .if1 .left)) in (
       omega (arith, h .terms, made .before .before .buffer .ensures),
-      (omega (arith, h .set, made .before .buffer2 .ensures), omega (arith, h .size, made .large-buffer .ensures)),
+      (omega (arith, h .given, made .before .large-buffer .ensures), omega (arith, h .size, made .large-buffer2 .ensures)),
     )
 
 returns-2 : tie.Need-returns-2
@@ -54,8 +54,8 @@ answer-head-spec =
     broken-requires
     returns
     buffer-requires
-    buffer-requires-2
     large-buffer-requires
+    large-buffer-requires-2
     slice-aggregate-answer-rest
     slice-aggregate-answer-rest-2
     slice-aggregate-answer-rest-3

@@ -5,12 +5,12 @@ use Prim.Native.Nat.{_≤_}
 use borrow.Author.Tests.{leb-true}
 use lib.Dec.{leb}
 use Rattle.monomial.proofs.Tests.{T→is, is→T, and-l, and-r}
-use Rattle.compare.specs.Head.{operations, longestSet, longestTerms, longestBuffer, right}
+use Rattle.compare.specs.Head.{operations, longestTerms, longestGiven, longestBuffer, right}
 use Rattle.compare.specs.declared.head.Head.{Head}
 
 pub record Answerable (h : Head) : Type 0 where
-  pub set : h .set ≤ longestSet
   pub terms : h .terms ≤ longestTerms
+  pub given : h .given ≤ longestGiven
   pub size : h .size ≤ longestBuffer
 
 pub right-within : (h : Head) → right h ≡ true → Answerable h
@@ -18,12 +18,12 @@ unfolding right
 right-within h e =
     let all = is→T (right h) e in
     let known = leb 1 (h .operation) && leb (h .operation) operations in
-    let to-set = known && leb (h .set) longestSet in
-    let to-terms = to-set && leb (h .terms) longestTerms in
-    let rest = and-l to-terms _ all in
-    let most = and-l to-set _ rest in
+    let to-terms = known && leb (h .terms) longestTerms in
+    let to-given = to-terms && leb (h .given) longestGiven in
+    let rest = and-l to-given _ all in
+    let most = and-l to-terms _ rest in
     record {
-      set = leb-true _ _ (T→is _ (and-r known _ most));
-      terms = leb-true _ _ (T→is _ (and-r to-set _ rest));
-      size = leb-true _ _ (T→is _ (and-r to-terms _ all));
+      terms = leb-true _ _ (T→is _ (and-r known _ most));
+      given = leb-true _ _ (T→is _ (and-r to-terms _ rest));
+      size = leb-true _ _ (T→is _ (and-r to-given _ all));
     }

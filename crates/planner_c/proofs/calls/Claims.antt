@@ -1,6 +1,6 @@
 -- What C gets of each call, said of the five numbers and the bytes alone: whose reply they are and what it means; done, none, full and spent of
--- planning, done of wiring and its verdict, and done and full of thinning, by their numbers. Assumes nothing.
-use mathlib.Core.Path.{_≡_, sym, ap, _∙_}
+-- planning, done of wiring and its verdict, done and full of thinning, and done of reading, by their numbers. Assumes nothing.
+use mathlib.Core.Path.{_≡_, refl, sym, ap, _∙_}
 use mathlib.Core.Logic.{_↔_}
 use mathlib.Core.List.{List, [], _∷_}
 use Prim.Native.Nat.{ℕ, _/_, _<_}
@@ -12,7 +12,7 @@ use Rattle.wiring.specs.Terms.{records, system}
 use Rattle.wiring.specs.Answers.{wired}
 use Rattle.wiring.specs.declared.panel.Panel.{Panel}
 use Rattle.wiring.specs.declared.reply.Reply.{Reply}
-use Rattle.wiring.specs.declared.reply.Reply.the-variants.{Done, Setting, Length, Term, Twice, Nothing, Full, Spent, BadSet, NotQuadratic}
+use Rattle.wiring.specs.declared.reply.Reply.the-variants.{Done, Setting, Length, Term, Twice, Nothing, Full, Spent, BadSet, NotQuadratic, Unreadable, FalseLine}
 use Rattle.wiring.specs.Claims.{signalsIn, derivativeIn, Patch, TellsVerdict, VerdictAlone}
 use Rattle.wiring.proofs.reply.Laws.{same-reply}
 use Rattle.wiring.proofs.answers.Wired.{wire-exact, wire-replies, wire-done}
@@ -24,8 +24,11 @@ use Rattle.walk.proofs.plan.Exact.{plan-exact, plan-replies, plan-finds, plan-l
 use Rattle.thin.specs.Thin.{thinned}
 use Rattle.thin.specs.Claims.{Thinned, Overfull}
 use Rattle.thin.proofs.thin.Exact.{thin-exact, thin-replies, thin-finds, thin-overfull}
+use Rattle.desktop.specs.Read.{readListing}
+use Rattle.desktop.proofs.read.Exact.{read-exact, read-replies}
+use Rattle.desktop.proofs.read.Witness.{read-formed, read-quadratic}
 use Rattle.planner_c.specs.Calls.{Answer, answer, given}
-use Rattle.planner_c.specs.Claims.{Heard, Stopped, PlanMeans, WireMeans, ThinMeans}
+use Rattle.planner_c.specs.Claims.{Heard, Stopped, PlanMeans, WireMeans, ThinMeans, Listed, ReadMeans}
 use Rattle.planner_c.proofs.calls.Exact.{in-order-one, given-exact}
 
 -- ---- one reply has these five numbers
@@ -60,6 +63,8 @@ module _ (panel : Panel) (cap limit : ℕ) (terms : List ℕ) (size : ℕ) where
   plan-means (Twice p) bytes e = plan-exact panel cap limit terms size (Twice p) bytes .0 e
   plan-means BadSet bytes e = plan-exact panel cap limit terms size BadSet bytes .0 e .0
   plan-means (NotQuadratic o p) bytes e = plan-exact panel cap limit terms size (NotQuadratic o p) bytes .0 e .0
+  plan-means (Unreadable p) bytes e = plan-exact panel cap limit terms size (Unreadable p) bytes .0 e .0
+  plan-means (FalseLine p) bytes e = plan-exact panel cap limit terms size (FalseLine p) bytes .0 e .0
 
   -- a meaning that brings back what the reply says and leaves is had exactly where C gets the reply's numbers
   exactly : (r : Reply) (bytes : List ℕ)
@@ -111,6 +116,8 @@ module _ (panel : Panel) (terms set : List ℕ) (size : ℕ) where
   wire-means (NotQuadratic o p) bytes e = wire-exact panel terms set size (NotQuadratic o p) bytes .0 e
   wire-means (Nothing o k) bytes e = wire-exact panel terms set size (Nothing o k) bytes .0 e .0
   wire-means (Spent o k) bytes e = wire-exact panel terms set size (Spent o k) bytes .0 e .0
+  wire-means (Unreadable p) bytes e = wire-exact panel terms set size (Unreadable p) bytes .0 e .0
+  wire-means (FalseLine p) bytes e = wire-exact panel terms set size (FalseLine p) bytes .0 e .0
 
   heard-wire : (Means : Reply → List ℕ → Type 0) → ((r : Reply) (bytes : List ℕ) → outcome r bytes ≡ wired panel terms set size → Means r bytes)
       → (five bytes : List ℕ) → answer five bytes ≡ given (wired panel terms set size) → Heard (λ r. Means r bytes) five
@@ -146,6 +153,8 @@ module _ (panel : Panel) (terms set : List ℕ) (size : ℕ) where
   thin-means (NotQuadratic o p) bytes e = thin-exact panel terms set size (NotQuadratic o p) bytes .0 e
   thin-means (Nothing o k) bytes e = thin-exact panel terms set size (Nothing o k) bytes .0 e .0
   thin-means (Spent o k) bytes e = thin-exact panel terms set size (Spent o k) bytes .0 e .0
+  thin-means (Unreadable p) bytes e = thin-exact panel terms set size (Unreadable p) bytes .0 e .0
+  thin-means (FalseLine p) bytes e = thin-exact panel terms set size (FalseLine p) bytes .0 e .0
 
   pub siragumon-thin-means : (five bytes : List ℕ) → answer five bytes ≡ given (thinned panel terms set size) → Heard (λ r. ThinMeans panel terms set size r bytes) five
   siragumon-thin-means five bytes e =
@@ -159,3 +168,42 @@ module _ (panel : Panel) (terms set : List ℕ) (size : ℕ) where
   -- 6, order, 0, steps, 0: those subsets are more than there is room for
   pub siragumon-thin-full : (o k : ℕ) (bytes : List ℕ) → answer (6 ∷ o ∷ 0 ∷ k ∷ 0 ∷ []) bytes ≡ given (thinned panel terms set size) → Overfull panel terms set size o k bytes
   siragumon-thin-full o k bytes e = thin-means (Full o k) bytes (given-exact (Full o k) bytes (thinned panel terms set size) .0 e)
+
+-- ---- reading a listing
+module _ (panel : Panel) (terms text : List ℕ) where
+  read-listed : (o c k : ℕ) (bytes : List ℕ) → outcome (Done o c k) bytes ≡ readListing panel terms text → (c ≡ 0) × (k ≡ 0) × Listed panel terms text o bytes
+  read-listed o c k bytes e =
+      let says = read-exact panel terms text (Done o c k) bytes .0 e in
+      let none = says .0 in (
+        none .3,
+        none .4,
+        record {
+          right = (none .0, none .1, none .2, refl, refl);
+          is = says .1;
+          formed = read-formed panel terms text o c k bytes e;
+          quadratic = read-quadratic panel terms text o c k bytes e;
+        },
+      )
+
+  read-means : (r : Reply) (bytes : List ℕ) → outcome r bytes ≡ readListing panel terms text → ReadMeans panel terms text r bytes
+  read-means (Done o c k) bytes e = read-listed o c k bytes e
+  read-means Setting bytes e = read-exact panel terms text Setting bytes .0 e
+  read-means Length bytes e = read-exact panel terms text Length bytes .0 e
+  read-means (Term p) bytes e = read-exact panel terms text (Term p) bytes .0 e
+  read-means (Twice p) bytes e = read-exact panel terms text (Twice p) bytes .0 e
+  read-means (Unreadable p) bytes e = read-exact panel terms text (Unreadable p) bytes .0 e
+  read-means BadSet bytes e = read-exact panel terms text BadSet bytes .0 e
+  read-means (FalseLine p) bytes e = read-exact panel terms text (FalseLine p) bytes .0 e
+  read-means (NotQuadratic o p) bytes e = read-exact panel terms text (NotQuadratic o p) bytes .0 e .0
+  read-means (Nothing o k) bytes e = read-exact panel terms text (Nothing o k) bytes .0 e .0
+  read-means (Full o k) bytes e = read-exact panel terms text (Full o k) bytes .0 e .0
+  read-means (Spent o k) bytes e = read-exact panel terms text (Spent o k) bytes .0 e .0
+
+  pub siragumon-read-means : (five bytes : List ℕ) → answer five bytes ≡ given (readListing panel terms text) → Heard (λ r. ReadMeans panel terms text r bytes) five
+  siragumon-read-means five bytes e =
+      let some = read-replies panel terms text in
+      heard (readListing panel terms text) (some .0) _ (some .1) (ReadMeans panel terms text) read-means five bytes e
+
+  -- 0, the order, and the bytes: the listing is right, and they are the record of its set, which wiring calls quadratic
+  pub siragumon-read-done : (o : ℕ) (bytes : List ℕ) → answer (0 ∷ o ∷ 0 ∷ 0 ∷ 0 ∷ []) bytes ≡ given (readListing panel terms text) → Listed panel terms text o bytes
+  siragumon-read-done o bytes e = read-listed o 0 0 bytes (given-exact (Done o 0 0) bytes (readListing panel terms text) .0 e) .2

@@ -10,6 +10,7 @@ use Rattle.wiring.specs.declared.panel.Panel.{Panel}
 use Rattle.wiring.specs.declared.reply.Reply.{Reply}
 use Rattle.walk.specs.Plan.{planned}
 use Rattle.thin.specs.Thin.{thinned}
+use Rattle.desktop.specs.Read.{readListing}
 use Rattle.planner_c.specs.Calls.{Answer, answer, given}
 
 -- two answers that a promise allows are equal
@@ -29,6 +30,10 @@ siragumon-wire-determined panel terms set size = determined (wired panel terms s
 pub siragumon-thin-determined : (panel : Panel) (terms set : List ℕ) (size : ℕ) (a a' b b' : List ℕ)
     → answer a b ≡ given (thinned panel terms set size) → answer a' b' ≡ given (thinned panel terms set size) → (a ≡ a') × (b ≡ b')
 siragumon-thin-determined panel terms set size = determined (thinned panel terms set size)
+
+pub siragumon-read-determined : (panel : Panel) (terms text : List ℕ) (a a' b b' : List ℕ)
+    → answer a b ≡ given (readListing panel terms text) → answer a' b' ≡ given (readListing panel terms text) → (a ≡ a') × (b ≡ b')
+siragumon-read-determined panel terms text = determined (readListing panel terms text)
 
 -- the numbers that stand in this order
 back : List ℕ → Numbers

@@ -8,12 +8,20 @@ use lib.ListN.{length, take, replicate, length-append, replicate-append-replicat
 use lib.Seq.{paste, length-paste, take-all, take-nil, take-append-le}
 use Rattle.monomial.specs.Monomial.{Mono}
 use Rattle.monomial.specs.Claims.{_∈_}
-use Rattle.wiring.specs.Panel.{setBytes}
-use Rattle.wiring.specs.Sets.{setRecord}
+use Rattle.wiring.specs.Panel.{cards, setBytes}
+use Rattle.wiring.specs.Sets.{monomialsOf, setRecord}
+use Rattle.wiring.specs.Claims.{Wide}
+use Rattle.wiring.specs.declared.sets.Set.{Set}
+use Rattle.wiring.proofs.signals.Arrays.{front-length}
+use Rattle.wiring.proofs.sets.Exact.{record-length}
 use Rattle.walk.specs.Walk.{Finds}
 use Rattle.walk.specs.Plan.{setsBytes}
 use Rattle.walk.proofs.listing.Laid.{sets-none, sets-more}
 use Rattle.thin.specs.Subsets.{Begun}
+
+-- the record of a set held by value is of one length
+pub set-long : (set : Set) → length (set .m) ≡ cards → set .len ≤ cards → Wide (monomialsOf set) → length (setRecord (monomialsOf set)) ≡ setBytes
+set-long set full few wide = record-length (monomialsOf set) (omega (arith, front-length (set .len) (set .m) (omega arith))) wide
 
 pub begun-none : (out : List ℕ) → out ≡ replicate (length out) 0 → Begun [] out
 begun-none out e = record { even = λ s m. absurd (List·Memᴰ·not-nil m); bytes = all }

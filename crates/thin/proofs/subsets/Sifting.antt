@@ -20,12 +20,12 @@ use Rattle.thin.specs.declared.subsets.Best.{Best}
 use Rattle.thin.specs.Subsets.{Tally, tally, isQuadratic, sifted, allSifted, Begun, Holds, Sifting}
 
 -- a set held by value has as many monomials as it says, and each has the panel's width
-module _ (n : ℕ) (terms : List ℕ) (set : Set) (j : Judgeable n terms set) (full : length (set .m) ≡ cards) where
-  pub set-size : set .len ≡ length (monomialsOf set)
-  set-size = sym (front-length (set .len) (set .m) (omega (arith, j .small)))
+module _ (n : ℕ) (terms : List ℕ) (set : Set) (j : Judgeable n terms set) where
+  pub set-size : length (set .m) ≡ cards → set .len ≡ length (monomialsOf set)
+  set-size full = sym (front-length (set .len) (set .m) (omega (arith, j .small)))
 
-  pub set-recorded : (length (monomialsOf set) ≤ cards) × Wide (monomialsOf set)
-  set-recorded = (omega (arith, set-size, j .small), λ m h. j .fits m h .0)
+  pub set-recorded : (set .len ≤ cards) × Wide (monomialsOf set)
+  set-recorded = (j .small, λ m h. j .fits m h .0)
 
 -- ---- one more set, by its test and its size
 module _ (n : ℕ) (fs : List (Poly Mono)) (t : Tally) (s : List Mono) where

@@ -22,7 +22,7 @@ use Rattle.wiring.specs.Wires.{wireList}
 use Rattle.wiring.specs.Answers.{verdict, wired}
 use Rattle.wiring.specs.declared.panel.Panel.{Panel}
 use Rattle.wiring.specs.declared.reply.Reply.{Reply}
-use Rattle.wiring.specs.declared.reply.Reply.the-variants.{Done, Setting, Length, Term, Twice, Nothing, Full, Spent, BadSet, NotQuadratic}
+use Rattle.wiring.specs.declared.reply.Reply.the-variants.{Done, Setting, Length, Term, Twice, Nothing, Full, Spent, BadSet, NotQuadratic, Unreadable, FalseLine}
 use Rattle.wiring.specs.Claims.{WellFormed, slope, Driven, derivativeIn, listIn, VerdictSays, QuadraticIn}
 use Rattle.wiring.proofs.kit.Laws.{buildable-part}
 use Rattle.wiring.proofs.reply.Laws.{same-reply, code-done}
@@ -69,6 +69,8 @@ module _ (panel : Panel) (terms set : List ℕ) (size : ℕ) where
       ∙ ap₂ (λ (i j : ℕ). outcome (Full i j) (replicate size 0)) (sym (h .1)) (sym (h .2))
   thinned-is (Nothing o k) h = absurd h
   thinned-is (Spent o k) h = absurd h
+  thinned-is (Unreadable p) h = absurd h
+  thinned-is (FalseLine p) h = absurd h
 
   -- ---- and one of them holds
   record Told : Type 0 where
@@ -99,6 +101,8 @@ module _ (panel : Panel) (terms set : List ℕ) (size : ℕ) where
   told-reply (Nothing o k) h = absurd h
   told-reply (Full o k) h = absurd h
   told-reply (Spent o k) h = absurd h
+  told-reply (Unreadable p) h = absurd h
+  told-reply (FalseLine p) h = absurd h
 
   told : Told
   told = told-reply (verdict panel terms set) (verdict-says panel terms set)

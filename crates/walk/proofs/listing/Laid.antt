@@ -1,6 +1,6 @@
 -- Set records one behind the other in a buffer, then zeros: one more joins them, and each lies in its place. Assumes nothing.
-use mathlib.Core.Path.{_≡_, refl, sym, ap, subst, _∙_}
-use mathlib.Core.List.{List, [], _∷_, _++_, append-nil, append-assoc}
+use mathlib.Core.Path.{_≡_, refl, ap, subst, _∙_}
+use mathlib.Core.List.{List, [], _∷_, _++_}
 use Prim.Native.Nat.{ℕ, _+_, _*_, _-_, _≤_, _<_}
 use native.Mathlib.Omega.{arith}
 use lib.ListN.{length, getD, take, drop, replicate, length-append, length-replicate}
@@ -8,14 +8,13 @@ use lib.Seq.{paste, getD-append-add}
 use Rattle.monomial.specs.Lists.{gather}
 use Rattle.monomial.specs.Monomial.{Mono}
 use Rattle.monomial.specs.Claims.{_∈_}
-use Rattle.monomial.proofs.Members.{gather-append, fill-at}
-use Rattle.monomial.proofs.Strips.{strip-length, strip-at}
+use Rattle.monomial.proofs.Members.{fill-at}
+use Rattle.monomial.proofs.Strips.{strip-length, strip-at, strip-last}
 use Rattle.wiring.specs.Panel.{setBytes}
 use Rattle.wiring.specs.Sets.{setRecord}
 use Rattle.walk.specs.Walk.{Finds}
 use Rattle.walk.specs.Plan.{setsBytes}
 use Rattle.walk.specs.Claims.{Laid}
-use Rattle.walk.proofs.listing.Laws.{gather-last}
 
 pub sets-none : setsBytes [] ≡ []
 unfolding setsBytes gather
@@ -33,13 +32,8 @@ module _ (l : Finds) (even : (s : List Mono) → s ∈ l → length (setRecord s
   -- one more record behind the others, over zeros
   pub sets-more : (s : List Mono) (rest : ℕ) → length (setRecord s) ≡ setBytes
       → paste (setsBytes l ++ (replicate setBytes 0 ++ replicate rest 0)) (setBytes * length l) (setRecord s) setBytes ≡ setsBytes (l ++ (s ∷ [])) ++ replicate rest 0
-  unfolding setsBytes gather
-  sets-more s rest long =
-      let zeros : List ℕ = replicate rest 0 in
-      let one : gather setRecord (l ++ (s ∷ [])) ≡ gather setRecord l ++ setRecord s =
-      gather-append setRecord l (s ∷ []) ∙ ap (λ (u : List ℕ). gather setRecord l ++ u) (append-nil (setRecord s)) in
-      gather-last setRecord setBytes l even s (replicate setBytes 0) zeros (length-replicate {A = ℕ} setBytes 0) long
-      ∙ sym (append-assoc (gather setRecord l) (setRecord s) zeros) ∙ ap (λ (u : List ℕ). u ++ zeros) (sym one)
+  unfolding setsBytes
+  sets-more s rest long = strip-last setRecord setBytes l even s (replicate setBytes 0) (replicate rest 0) (length-replicate {A = ℕ} setBytes 0) long
 
 pub sets-laid : (l : Finds) (count size : ℕ) (bytes : List ℕ) → ((s : List Mono) → s ∈ l → length (setRecord s) ≡ setBytes) → count ≡ length l → setBytes * count ≤ size
     → bytes ≡ setsBytes l ++ replicate (size - setBytes * count) 0 → Laid l count size bytes

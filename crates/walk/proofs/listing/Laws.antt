@@ -1,7 +1,7 @@
 -- Records of one width in a buffer: those from a place on moved up, and one more put in their place; and the place of a new entry in a list.
 -- Assumes nothing.
 use mathlib.Core.Path.{_≡_, sym, ap, ap₂, subst, _∙_}
-use mathlib.Core.List.{List, [], _∷_, _++_, append-assoc}
+use mathlib.Core.List.{List, _∷_, _++_, append-assoc}
 use Prim.Native.Nat.{ℕ, suc, _+_, _*_, _-_, _<_, _≤_}
 use native.Mathlib.Omega.{arith}
 use native.Mathlib.Numerals.{add-one}
@@ -109,15 +109,6 @@ module _ {A : Type 0} where
 -- ---- records of w bytes, one behind the other
 module _ {A : Type 0} (f : A → List ℕ) where
   module _ (w : ℕ) (l : List A) (even : (x : A) → x ∈ l → length (f x) ≡ w) where
-    -- one more record behind the others, where the bytes y are free
-    pub gather-last : (x : A) (y z : List ℕ) → length y ≡ w → length (f x) ≡ w → paste (gather f l ++ (y ++ z)) (w * length l) (f x) w ≡ gather f l ++ (f x ++ z)
-    gather-last x y z gone new =
-        let a = gather f l in
-        let b = a ++ (y ++ z) in
-        let e : w * length l ≡ length a = sym (strip-length f w l even) in
-        ap (λ (n : ℕ). paste b n (f x) w) e
-        ∙ ap (λ (u : List ℕ). paste u (length a) (f x) w) (paste-zero b (length a + w) (drop (length a) b)) ∙ placed w a [] y z (f x) gone new
-
     -- one more record, at place p, where the bytes y are free behind the others
     pub gather-more : (x : A) (y z : List ℕ) (p : ℕ) → p ≤ length l → length y ≡ w → length (f x) ≡ w
         → let b = gather f l ++ (y ++ z) in

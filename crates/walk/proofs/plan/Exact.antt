@@ -25,7 +25,7 @@ use Rattle.wiring.specs.Terms.{records, lengthRight, fault, system, CleanTerms}
 use Rattle.wiring.specs.Sets.{setRecord}
 use Rattle.wiring.specs.Answers.{unlessFault, wired}
 use Rattle.wiring.specs.declared.reply.Reply.{Reply}
-use Rattle.wiring.specs.declared.reply.Reply.the-variants.{Done, Setting, Length, Term, Twice, Nothing, Full, Spent, BadSet, NotQuadratic}
+use Rattle.wiring.specs.declared.reply.Reply.the-variants.{Done, Setting, Length, Term, Twice, Nothing, Full, Spent, BadSet, NotQuadratic, Unreadable, FalseLine}
 use Rattle.wiring.specs.declared.terms.Fault.{Fault}
 use Rattle.wiring.specs.declared.terms.Fault.the-variants.{Clean, Wrong, Repeated}
 use Rattle.wiring.specs.Claims.{Wide, Measured, Breaks, Repeats, beyond, Buildable, derivativeIn, listIn}
@@ -107,6 +107,8 @@ module _ (panel : Panel) (cap limit : ℕ) (terms : List ℕ) (size : ℕ) where
   planned-is (Spent o k) h = with-ending (h .0) (spentAt o k) (h .1)
   planned-is BadSet h = absurd h
   planned-is (NotQuadratic o p) h = absurd h
+  planned-is (Unreadable p) h = absurd h
+  planned-is (FalseLine p) h = absurd h
 
   -- ---- and one of them holds
   record Told : Type 0 where

@@ -13,7 +13,7 @@ use Rattle.monomial.proofs.Counting.{at-in}
 use Rattle.wiring.specs.Panel.{wireBytes}
 use Rattle.wiring.specs.declared.panel.Panel.{Panel}
 use Rattle.wiring.specs.declared.reply.Reply.{Reply}
-use Rattle.wiring.specs.declared.reply.Reply.the-variants.{Done, Setting, Length, Term, Twice, Nothing, Full, Spent, BadSet, NotQuadratic}
+use Rattle.wiring.specs.declared.reply.Reply.the-variants.{Done, Setting, Length, Term, Twice, Nothing, Full, Spent, BadSet, NotQuadratic, Unreadable, FalseLine}
 use Rattle.wiring.specs.Reply.{numbers, outcome}
 use Rattle.wiring.specs.Poly.{plain}
 use Rattle.wiring.specs.Quadratic.{Quadratic}
@@ -48,6 +48,8 @@ module _ (panel : Panel) (terms set : List ℕ) (size : ℕ) where
   coded BadSet h = refusal (λ e. omega arith) (λ e. omega arith) (λ e. omega arith)
   coded (Nothing o k) h = absurd h
   coded (Spent o k) h = absurd h
+  coded (Unreadable p) h = absurd h
+  coded (FalseLine p) h = absurd h
 
   module _ (r : Reply) (bytes : List ℕ) (e : outcome r bytes ≡ wired panel terms set size) where
     says : WireSays panel terms set size r

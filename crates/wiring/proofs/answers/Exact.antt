@@ -20,7 +20,7 @@ use Rattle.wiring.specs.Panel.{setBytes}
 use Rattle.wiring.specs.Sockets.{halved, countRight, panelRight, free}
 use Rattle.wiring.specs.declared.panel.Panel.{Panel}
 use Rattle.wiring.specs.declared.reply.Reply.{Reply}
-use Rattle.wiring.specs.declared.reply.Reply.the-variants.{Done, Setting, Length, Term, Twice, Nothing, Full, Spent, BadSet, NotQuadratic}
+use Rattle.wiring.specs.declared.reply.Reply.the-variants.{Done, Setting, Length, Term, Twice, Nothing, Full, Spent, BadSet, NotQuadratic, Unreadable, FalseLine}
 use Rattle.wiring.specs.declared.terms.Fault.{Fault}
 use Rattle.wiring.specs.declared.terms.Fault.the-variants.{Clean, Wrong, Repeated}
 use Rattle.wiring.specs.Poly.{Poly, plain}
@@ -154,6 +154,8 @@ module _ (panel : Panel) (terms set : List ℕ) where
   said (Nothing o k) h = absurd h
   said (Full o k) h = absurd h
   said (Spent o k) h = absurd h
+  said (Unreadable p) h = absurd h
+  said (FalseLine p) h = absurd h
 
   -- ---- and one of them holds
   record Told : Type 0 where
@@ -193,7 +195,7 @@ module _ (panel : Panel) (terms set : List ℕ) where
       go (passed e) = told-lengths (panel-out panel (is→T (panelRight panel) e))
       go (failed e) = record { reply = Setting; holds = λ r. is→nT (panelRight panel) e (is→T (panelRight panel) (panel-in panel r)) }
 
-  -- ---- what is said holds: one of the seven cases, since the other three hold of nothing
+  -- ---- what is said holds: one of the seven cases, since the other five hold of nothing
   pub verdict-says : VerdictSays panel terms set (verdict panel terms set)
   verdict-says = subst (VerdictSays panel terms set) (sym (said (told .reply) (told .holds))) (told .holds)
 

@@ -18,7 +18,7 @@ use Rattle.monomial.proofs.order.Laws.{mono-order}
 use Rattle.wiring.specs.Panel.{cards, termBytes, termsBytes, mostSignals, mostWires, wiresBytes, wireBytes}
 use Rattle.wiring.specs.declared.panel.Panel.{Panel}
 use Rattle.wiring.specs.declared.reply.Reply.{Reply}
-use Rattle.wiring.specs.declared.reply.Reply.the-variants.{Done, Setting, Length, Term, Twice, Nothing, Full, Spent, BadSet, NotQuadratic}
+use Rattle.wiring.specs.declared.reply.Reply.the-variants.{Done, Setting, Length, Term, Twice, Nothing, Full, Spent, BadSet, NotQuadratic, Unreadable, FalseLine}
 use Rattle.wiring.specs.Reply.{Outcome, numbers, outcome}
 use Rattle.wiring.specs.Poly.{Poly, plain}
 use Rattle.wiring.specs.Derivative.{derivative}
@@ -73,6 +73,8 @@ module _ (panel : Panel) (terms set : List ℕ) (size : ℕ) where
   says (NotQuadratic o p) h = refuses (NotQuadratic o p) h (λ e. omega arith)
   says (Nothing o k) h = absurd h
   says (Spent o k) h = absurd h
+  says (Unreadable p) h = absurd h
+  says (FalseLine p) h = absurd h
 
   -- ---- and one of them holds
   record Told : Type 0 where
@@ -97,6 +99,8 @@ module _ (panel : Panel) (terms set : List ℕ) (size : ℕ) where
   told-by (Nothing o k) h = absurd h
   told-by (Full o k) h = absurd h
   told-by (Spent o k) h = absurd h
+  told-by (Unreadable p) h = absurd h
+  told-by (FalseLine p) h = absurd h
 
   told : Told
   told = told-by (verdict panel terms set) (verdict-says panel terms set)

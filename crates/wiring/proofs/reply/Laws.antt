@@ -10,7 +10,7 @@ use types.Run.{OneOf, miss}
 use Rattle.wiring.specs.Reply.{Numbers, numbers}
 use Rattle.wiring.proofs.reply.Reply.{the-type}
 use Rattle.wiring.specs.declared.reply.Reply.{Reply}
-use Rattle.wiring.specs.declared.reply.Reply.the-variants.{Done, Setting, Length, Term, Twice, Nothing, Full, Spent, BadSet, NotQuadratic}
+use Rattle.wiring.specs.declared.reply.Reply.the-variants.{Done, Setting, Length, Term, Twice, Nothing, Full, Spent, BadSet, NotQuadratic, Unreadable, FalseLine}
 
 -- the reply with these numbers
 back : Numbers → Reply
@@ -24,7 +24,9 @@ back x =
     (cond (eqb (x .code) 6) (Full (x .order) (x .steps))
     (cond (eqb (x .code) 7) (Spent (x .order) (x .steps))
     (cond (eqb (x .code) 8) BadSet
-    (NotQuadratic (x .order) (x .place))))))))))
+    (cond (eqb (x .code) 9) (NotQuadratic (x .order) (x .place))
+    (cond (eqb (x .code) 10) (Unreadable (x .place))
+    (FalseLine (x .place))))))))))))
 
 there-and-back : (r : Reply) → back (numbers r) ≡ r
 unfolding back
@@ -38,6 +40,8 @@ there-and-back (Full order steps) = refl
 there-and-back (Spent order steps) = refl
 there-and-back BadSet = refl
 there-and-back (NotQuadratic order place) = refl
+there-and-back (Unreadable place) = refl
+there-and-back (FalseLine place) = refl
 
 pub same-reply : (r r' : Reply) → numbers r ≡ numbers r' → r ≡ r'
 same-reply r r' e = sym (there-and-back r) ∙ ap back e ∙ there-and-back r'
@@ -60,6 +64,8 @@ code-done (Full o s) e = let z : ⊥ = omega arith in absurd z
 code-done (Spent o s) e = let z : ⊥ = omega arith in absurd z
 code-done BadSet e = let z : ⊥ = omega arith in absurd z
 code-done (NotQuadratic o p) e = let z : ⊥ = omega arith in absurd z
+code-done (Unreadable p) e = let z : ⊥ = omega arith in absurd z
+code-done (FalseLine p) e = let z : ⊥ = omega arith in absurd z
 
 -- only done counts anything: what holds of 0 and of its count holds of what any reply counts
 pub done-counts : (P : ℕ → Type 0) (r : Reply) → P 0 → ((o c k : ℕ) → r ≡ Done o c k → P c) → P (numbers r .count)
@@ -73,10 +79,12 @@ done-counts P (Full o k) z h = z
 done-counts P (Spent o k) z h = z
 done-counts P BadSet z h = z
 done-counts P (NotQuadratic o p) z h = z
+done-counts P (Unreadable p) z h = z
+done-counts P (FalseLine p) z h = z
 
--- a match that came to another kind of reply than not quadratic, the last of the ten
+-- a match that came to another kind of reply than not quadratic, number 9 of the twelve
 abbrev others : List ℕ
-others = 0 ∷ 1 ∷ 2 ∷ 3 ∷ 4 ∷ 5 ∷ 6 ∷ 7 ∷ 8 ∷ []
+others = 0 ∷ 1 ∷ 2 ∷ 3 ∷ 4 ∷ 5 ∷ 6 ∷ 7 ∷ 8 ∷ 10 ∷ 11 ∷ []
 
 pub other-kinds : (r : Reply) → OneOf others (tagOf the-type r) → (o p : ℕ) → r ≡ NotQuadratic o p → ⊥
 other-kinds r h o p e = miss others 9 tt (subst (λ (x : Reply). OneOf others (tagOf the-type x)) e h)

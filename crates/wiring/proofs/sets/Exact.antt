@@ -52,44 +52,34 @@ zero-list (x ∷ l) (suc w) e h = ap₂ _∷_ (h 0 (omega arith)) (zero-list l w
 
 -- ---- a right record, fact by fact
 module _ (panel : Panel) where
-  -- the three tests of a monomial
-  record Facts (m : Mono) : Type 0 where
-    new : T (not (any (same m) (constants width)))
-    exponents : T (exponentsRight setExponent (panel .n) m)
-    may : T (mayBe panel m)
+  -- the tests of monomials in plain facts
+  pub record Facts (s : List Mono) : Type 0 where
+    pub new : (m : Mono) → m ∈ s → m ∈ constants width → ⊥
+    pub small : (m : Mono) → m ∈ s → (i : ℕ) → getD m i 0 ≤ setExponent
+    pub within : (m : Mono) → m ∈ s → (i : ℕ) → panel .n ≤ i → getD m i 0 ≡ 0
+    pub buildable : Buildable panel s
 
-  facts-out : (m : Mono) → T (monomialRight panel m) → Facts m
+  pub facts-out : (s : List Mono) → T (all (monomialRight panel) s) → Facts s
   unfolding monomialRight
-  facts-out m t = record { new = search (and-l, and-r, t); exponents = search (and-l, and-r, t); may = search (and-l, and-r, t) }
-
-  facts-in : (m : Mono) → Facts m → T (monomialRight panel m)
-  unfolding monomialRight
-  facts-in m f =
-      and-i (not (any (same m) (constants width)) && exponentsRight setExponent (panel .n) m) (mayBe panel m)
-      (and-i (not (any (same m) (constants width))) (exponentsRight setExponent (panel .n) m) (f .new) (f .exponents)) (f .may)
-
-  right-facts : (s : List Mono) → T (all (monomialRight panel) s) → (m : Mono) → m ∈ s → Facts m
-  right-facts s t m h = facts-out m (all-out (monomialRight panel) t h)
-
-  permitted-out : (s : List Mono) → T (ascending s) → T (all (monomialRight panel) s) → Permitted (panel .n) s
-  permitted-out s a t =
+  facts-out s t =
+      let each : (m : Mono) → m ∈ s → T (monomialRight panel m) = λ m h. all-out (monomialRight panel) t h in
       let fit : (m : Mono) → m ∈ s → (i : ℕ) → Fit setExponent (panel .n) (getD m i 0) i =
-      λ m h i. exponents-everywhere setExponent (panel .n) m (right-facts s t m h .exponents) i in
+      λ m h i. exponents-everywhere setExponent (panel .n) m (search (and-l, and-r, each m h)) i in
       record {
-        ascends = ascending-out s a;
-        new = λ m h k. T-not (any (same m) (constants width)) (right-facts s t m h .new) (among-in mono-order k);
+        new = λ m h k. T-not (any (same m) (constants width)) (search (and-l, and-r, each m h)) (among-in mono-order k);
         small = λ m h i. fit m h i .small;
         within = λ m h i. fit m h i .zero;
+        buildable = may-buildable panel s (λ m h. search (and-l, and-r, each m h));
       }
 
-  permitted-in : (s : List Mono) → ((m : Mono) → m ∈ s → length m ≤ width) → Permitted (panel .n) s → Buildable panel s → T (all (monomialRight panel) s)
-  permitted-in s narrow p b =
-      all-in (monomialRight panel) s
-      (λ m h. facts-in m (record {
-        new = not-T (any (same m) (constants width)) (λ t. p .new m h (among-out mono-order m (constants width) t));
-        exponents = exponents-in setExponent (panel .n) m (λ i k. record { small = p .small m h i; zero = p .within m h i });
-        may = buildable-may panel s b m h (narrow m h) (atMost-all setExponent m (p .small m h));
-      }))
+  pub facts-in : (s : List Mono) → ((m : Mono) → m ∈ s → length m ≤ width) → Facts s → T (all (monomialRight panel) s)
+  unfolding monomialRight
+  facts-in s narrow f = all-in (monomialRight panel) s (λ m h.
+      let new : T (not (any (same m) (constants width))) = not-T (any (same m) (constants width)) (λ t. f .new m h (among-out mono-order m (constants width) t)) in
+      let fits : T (exponentsRight setExponent (panel .n) m) = exponents-in setExponent (panel .n) m (λ i k. record { small = f .small m h i; zero = f .within m h i }) in
+      let may : T (mayBe panel m) = buildable-may panel s (f .buildable) m h (narrow m h) (atMost-all setExponent m (f .small m h)) in
+      and-i (not (any (same m) (constants width)) && exponentsRight setExponent (panel .n) m) (mayBe panel m)
+      (and-i (not (any (same m) (constants width))) (exponentsRight setExponent (panel .n) m) new fits) may)
 
   pub right-iff : (bytes : List ℕ) → T (setRight panel bytes) ↔ RightRecord panel bytes
   unfolding setRight
@@ -99,20 +89,24 @@ module _ (panel : Panel) where
       rest = drop (width * sizeOf bytes) bytes
 
       facts : T (setRight panel bytes) → RightRecord panel bytes
-      facts t = record {
-        zeros = λ k h.
-            let e : width * sizeOf bytes + (k - width * sizeOf bytes) ≡ k = omega arith in
-            rw (getD-drop (width * sizeOf bytes) bytes (k - width * sizeOf bytes) 0, e) at (zero-all rest (search (and-l, and-r, t)) (k - width * sizeOf bytes));
-        permitted = permitted-out (setOf bytes) (search (and-l, and-r, t)) (search (and-l, and-r, t));
-        buildable = may-buildable panel (setOf bytes) (λ m h. right-facts (setOf bytes) (search (and-l, and-r, t)) m h .may);
-      }
+      facts t =
+          let f = facts-out (setOf bytes) (search (and-l, and-r, t)) in
+          record {
+            zeros = λ k h.
+                let e : width * sizeOf bytes + (k - width * sizeOf bytes) ≡ k = omega arith in
+                rw (getD-drop (width * sizeOf bytes) bytes (k - width * sizeOf bytes) 0, e) at (zero-all rest (search (and-l, and-r, t)) (k - width * sizeOf bytes));
+            permitted = record { ascends = ascending-out (setOf bytes) (search (and-l, and-r, t)); new = f .new; small = f .small; within = f .within };
+            buildable = f .buildable;
+          }
 
       rule : RightRecord panel bytes → T (setRight panel bytes)
       rule r =
           let s = setOf bytes in
           let none : T (all (eqb 0) rest) = all-zero rest (λ k. getD-drop (width * sizeOf bytes) bytes k 0 ∙ r .zeros (width * sizeOf bytes + k) (omega arith)) in
           let first : T (all (eqb 0) rest && ascending s) = and-i (all (eqb 0) rest) (ascending s) none (ascending-in s (r .permitted .ascends)) in
-          and-i (all (eqb 0) rest && ascending s) (all (monomialRight panel) s) first (permitted-in s (set-narrow bytes) (r .permitted) (r .buildable))
+          let p = r .permitted in
+          and-i (all (eqb 0) rest && ascending s) (all (monomialRight panel) s) first
+          (facts-in s (set-narrow bytes) (record { new = p .new; small = p .small; within = p .within; buildable = r .buildable }))
 
 -- ---- the first entry that passes
 module _ {A : Type 0} (f : A → Bool) where

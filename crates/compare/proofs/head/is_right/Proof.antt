@@ -1,6 +1,6 @@
 -- `is_right` meets its contract: test by test. Assumes nothing.
 use borrow.Author.Tests.{le-leb, lt-leb}
-use Rattle.compare.specs.Head.{operations, longestSet, longestTerms, right}
+use Rattle.compare.specs.Head.{operations, longestTerms, longestGiven, right}
 use Rattle.compare.proofs.head.is_right.Statement.{statement}
 use Rattle.compare.proofs.head.is_right.Tie as tie
 
@@ -16,7 +16,7 @@ returns-3 : tie.Need-returns-3
 unfolding right
 returns-3 c =
     let low = c .before .before in
-    rw (le-leb 1 _ (low .before .before .if1 .left), le-leb _ operations (low .if2 .left), lt-leb _ longestSet (c .if3 .taken))
+    rw (le-leb 1 _ (low .before .before .if1 .left), le-leb _ operations (low .if2 .left), lt-leb _ longestTerms (c .if3 .taken))
 
 returns-4 : tie.Need-returns-4
 unfolding right
@@ -26,8 +26,8 @@ returns-4 c =
     rw (
       le-leb 1 _ (low .before .before .if1 .left),
       le-leb _ operations (low .if2 .left),
-      le-leb _ longestSet (high .if3 .left),
-      lt-leb _ longestTerms (c .if4 .taken),
+      le-leb _ longestTerms (high .if3 .left),
+      lt-leb _ longestGiven (c .if4 .taken),
     )
 
 returns-5 : tie.Need-returns-5
@@ -38,8 +38,8 @@ returns-5 c =
     rw (
       le-leb 1 _ (low .before .before .if1 .left),
       le-leb _ operations (low .if2 .left),
-      le-leb _ longestSet (high .if3 .left),
-      le-leb _ longestTerms (c .before .if4 .left),
+      le-leb _ longestTerms (high .if3 .left),
+      le-leb _ longestGiven (c .before .if4 .left),
     )
 
 pub is-right-spec : {M : Type 1} → statement M

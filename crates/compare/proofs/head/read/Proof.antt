@@ -4,20 +4,11 @@ use borrow.Author.Needs.{needs}
 use Rattle.compare.proofs.head.read.Statement.{statement}
 use Rattle.compare.proofs.head.read.Tie as tie
 
-element-copy-out-wide : tie.Need-element-copy-out-wide
-element-copy-out-wide c = search needs
-
-wide-requires : tie.Need-wide-requires
-wide-requires c κs = search needs
-
-element-copy-out-wide-2 : tie.Need-element-copy-out-wide-2
-element-copy-out-wide-2 c = search needs
-
-wide-requires-2 : tie.Need-wide-requires-2
-wide-requires-2 c κs = search needs
-
 two-at-requires : tie.Need-two-at-requires
 two-at-requires c κs = search needs
+
+two-at-requires-2 : tie.Need-two-at-requires-2
+two-at-requires-2 c κs = search needs
 
 four-at-requires : tie.Need-four-at-requires
 four-at-requires c κs = search needs
@@ -37,35 +28,36 @@ eight-at-requires-4 c κs = search needs
 eight-at-requires-5 : tie.Need-eight-at-requires-5
 eight-at-requires-5 c κs = search needs
 
+eight-at-requires-6 : tie.Need-eight-at-requires-6
+eight-at-requires-6 c κs = search needs
+
 returns : tie.Need-returns
 unfolding headOf
 returns c =
-    let low = c .before .before .before .before .before in
+    let low = c .before .before .before .before .before .before in
     rw (
-      low .before .before .before .before .wide .ensures .0,
-      low .before .before .wide2 .ensures .0,
-      low .before .two-at .ensures .0,
+      low .before .before .two-at .ensures .0,
+      low .before .two-at2 .ensures .0,
       low .four-at .ensures .0,
-      c .before .before .before .before .eight-at .ensures,
-      c .before .before .before .eight-at2 .ensures,
-      c .before .before .eight-at3 .ensures,
-      c .before .eight-at4 .ensures,
-      c .eight-at5 .ensures,
+      c .before .before .before .before .before .eight-at .ensures,
+      c .before .before .before .before .eight-at2 .ensures,
+      c .before .before .before .eight-at3 .ensures,
+      c .before .before .eight-at4 .ensures,
+      c .before .eight-at5 .ensures,
+      c .eight-at6 .ensures,
     )
 
 pub read-spec : {M : Type 1} → statement M
 read-spec =
     tie.close
     (tie.spec
-    element-copy-out-wide
-    wide-requires
-    element-copy-out-wide-2
-    wide-requires-2
     two-at-requires
+    two-at-requires-2
     four-at-requires
     eight-at-requires
     eight-at-requires-2
     eight-at-requires-3
     eight-at-requires-4
     eight-at-requires-5
+    eight-at-requires-6
     returns)

@@ -15,7 +15,7 @@ use Rattle.thin.proofs.subsets.decide.Reads as decide
 use Rattle.thin.proofs.subsets.decide.Kinds as decide-kinds
 use Rattle.thin.proofs.subsets.+decide.Lts-decide as decide-lts
 use Rattle.thin.proofs.subsets.sift.Reads as sift-reads
-use Rattle.thin.proofs.subsets.with_last.Reads as with-last-reads
+use Rattle.roster.proofs.roster.with_last.Reads as with-last-reads
 use Rattle.thin.proofs.subsets.+decide.{statement}
 use Rattle.thin.proofs.subsets.+decide.Tie.{close}
 

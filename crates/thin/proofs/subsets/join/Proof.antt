@@ -5,10 +5,10 @@ use Prim.Native.Nat.{ℕ, _*_}
 use native.Mathlib.Omega.{arith}
 use lib.ListN.{length}
 use lib.Seq.{paste}
-use Rattle.wiring.specs.Panel.{setBytes}
+use Rattle.wiring.specs.Panel.{cards, setBytes}
 use Rattle.wiring.specs.Sets.{monomialsOf, setRecord}
-use Rattle.wiring.proofs.sets.Exact.{record-length}
-use Rattle.thin.proofs.subsets.Listing.{begun-past, begun-more}
+use Rattle.wiring.proofs.signals.Arrays.{array-length}
+use Rattle.thin.proofs.subsets.Listing.{set-long, begun-past, begun-more}
 use borrow.Author.Needs.{needs}
 use Rattle.thin.proofs.subsets.join.Statement.{statement}
 use Rattle.thin.proofs.subsets.join.Tie as tie
@@ -34,10 +34,11 @@ returns c =
     let start = at-if1 .before .before in
     let a = start .args in
     let s = monomialsOf (a .set) in
-    let long : length (setRecord s) ≡ setBytes = record-length s (start .pre .0) (start .pre .1) in
+    let full : length (a .set .m) ≡ cards = search (needs, array-length, start .good .1 .1 .0) in
+    let long = set-long (a .set) full (start .pre .0) (start .pre .1) in
     let written : at-put .put .last .0 ≡ paste (a .out .now) (setBytes * length l) (setRecord s) setBytes =
     at-put .put .ensures
-    ∙ ap₂ (λ (k : ℕ) (r : List ℕ). paste (a .out .now) (setBytes * k) r (length r)) many (at-record-of .record-of .ensures)
+    ∙ ap₂ (λ (k : ℕ) (r : List ℕ). paste (a .out .now) (setBytes * k) r (length r)) many (at-record-of .record-of .ensures .1)
     ∙ ap (λ (k : ℕ). paste (a .out .now) (setBytes * length l) (setRecord s) k) long in
     begun-more l s (a .out .now) b long (omega (arith, many, at-if1 .if1 .taken)) (at-put .put .last .0) written
 
@@ -45,8 +46,9 @@ returns-2 : tie.Need-returns-2
 returns-2 c =
     λ l many b.
     let start = c .before .before in
-    let s = monomialsOf (start .args .set) in
-    begun-past l s (start .args .out .now) b (record-length s (start .pre .0) (start .pre .1)) (omega (arith, c .if1 .left))
+    let a = start .args in
+    let full : length (a .set .m) ≡ cards = search (needs, array-length) in
+    begun-past l (monomialsOf (a .set)) (a .out .now) b (set-long (a .set) full (start .pre .0) (start .pre .1)) (omega (arith, c .if1 .left))
 
 pub join-spec : {M : Type 1} → statement M
 join-spec =

@@ -45,8 +45,7 @@ clear-requires c κs = search needs
 join-requires : tie.Need-join-requires
 join-requires c κs =
     let start = c .before .before .before .before .before .before .before .before .before .before .before .before in
-    let full : length (start .args .set .m) ≡ cards = search (needs, array-length) in
-    set-recorded (start .args .n) (start .args .terms .now) (start .args .set) (start .pre .0) full
+    set-recorded (start .args .n) (start .args .terms .now) (start .args .set) (start .pre .0)
 
 same-length : tie.Need-same-length
 same-length c = search needs
@@ -68,8 +67,7 @@ returns-3 c =
 join-requires-2 : tie.Need-join-requires-2
 join-requires-2 c κs =
     let start = c .before .before .before .before .before .before .before .before in
-    let full : length (start .args .set .m) ≡ cards = search (needs, array-length) in
-    set-recorded (start .args .n) (start .args .terms .now) (start .args .set) (start .pre .0) full
+    set-recorded (start .args .n) (start .args .terms .now) (start .args .set) (start .pre .0)
 
 add-t20 : tie.Need-add-t20
 add-t20 c = search needs

@@ -33,6 +33,12 @@ enum-told-3 c = search needs
 enum-known-r-7 : tie.Need-enum-known-r-7
 enum-known-r-7 c = search needs
 
+enum-known-r-8 : tie.Need-enum-known-r-8
+enum-known-r-8 c = search needs
+
+enum-known-r-9 : tie.Need-enum-known-r-9
+enum-known-r-9 c = search needs
+
 returns : tie.Need-returns
 returns c = rw (c .before .r .given .1)
 
@@ -63,6 +69,12 @@ returns-9 c = rw (c .enum-told3 .given .1)
 returns-10 : tie.Need-returns-10
 returns-10 c = rw (c .before .r7 .given .1)
 
+returns-11 : tie.Need-returns-11
+returns-11 c = rw (c .before .r8 .given .1)
+
+returns-12 : tie.Need-returns-12
+returns-12 c = rw (c .before .r9 .given .1)
+
 pub numbers-spec : {M : Type 1} → statement M
 numbers-spec =
     tie.close
@@ -77,6 +89,8 @@ numbers-spec =
     enum-known-r-6
     enum-told-3
     enum-known-r-7
+    enum-known-r-8
+    enum-known-r-9
     returns
     returns-2
     returns-3
@@ -86,4 +100,6 @@ numbers-spec =
     returns-7
     returns-8
     returns-9
-    returns-10)
+    returns-10
+    returns-11
+    returns-12)

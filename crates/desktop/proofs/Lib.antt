@@ -1,0 +1,2 @@
+-- Laws that belong to no module of src/.
+pub mod Worked

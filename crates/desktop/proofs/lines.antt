@@ -1,0 +1,3 @@
+-- The laws of the derivative lines.
+pub mod Laws
+pub mod Going

@@ -1,0 +1,25 @@
+-- `ends_term` meets its contract: saying by saying. Assumes nothing.
+use mathlib.Core.Path.{sym, ap}
+use Rattle.desktop.specs.Lines.{endsTerm}
+use Rattle.desktop.proofs.lines.Laws.{ends-no-term}
+use borrow.Author.Needs.{needs}
+use Rattle.desktop.proofs.lines.ends_term.Statement.{statement}
+use Rattle.desktop.proofs.lines.ends_term.Tie as tie
+
+enum-told : tie.Need-enum-told
+enum-told c = search needs
+
+enum-told-2 : tie.Need-enum-told-2
+enum-told-2 c = search needs
+
+returns : tie.Need-returns
+returns c = sym (ap endsTerm (c .enum-told .given .1))
+
+returns-2 : tie.Need-returns-2
+returns-2 c = sym (ap endsTerm (c .enum-told2 .given .1))
+
+returns-3 : tie.Need-returns-3
+returns-3 c = ends-no-term (c .before .args .said) (c .match .keys3)
+
+pub ends-term-spec : {M : Type 1} → statement M
+ends-term-spec = tie.close (tie.spec enum-told enum-told-2 returns returns-2 returns-3)

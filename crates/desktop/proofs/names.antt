@@ -1,0 +1,3 @@
+-- The laws of the new names.
+pub mod Laws
+pub mod Hearing

@@ -1,0 +1,4 @@
+-- The laws of reading a listing.
+pub mod Laws
+pub mod Exact
+pub mod Witness

@@ -1,0 +1,21 @@
+-- What the grammar writes is read, and says what the tree means; nothing else is read; and each text is that of one tree.
+pub mod Noting
+pub mod Digits
+pub mod NameLines
+pub mod Terms
+pub mod DerivativeLines
+pub mod Written
+pub mod Decimals
+pub mod Hits
+pub mod Rests
+pub mod Gluing
+pub mod TermsBack
+pub mod NamesBack
+pub mod Backwards
+pub mod Apart
+pub mod OneTerm
+pub mod OneLine
+pub mod OneName
+pub mod OneTree
+pub mod Exact
+pub mod Samples

@@ -1,0 +1,3 @@
+-- The grammar of a listing.
+pub mod Grammar
+pub mod Claims

@@ -1,0 +1,2 @@
+-- The laws of the module input.
+pub mod Laws

@@ -1,0 +1,3 @@
+-- The laws of the module reading.
+pub mod Laws
+pub mod Exact

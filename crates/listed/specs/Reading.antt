@@ -1,0 +1,16 @@
+-- All that is written where a listing is read, line by line: the reply, and after code 0 the set. Assumes nothing.
+use mathlib.Core.Bool.{cond}
+use mathlib.Core.List.{List, [], _∷_}
+use Prim.Native.Nat.{ℕ}
+use lib.Dec.{eqb}
+use Rattle.wiring.specs.Reply.{Outcome, inOrder}
+use Rattle.wiring.specs.declared.panel.Panel.{Panel}
+use Rattle.lines.specs.Answer.{replyLine, setLine}
+use Rattle.desktop.specs.Read.{readListing}
+
+-- the order is the size of the set
+unfoldable pub heardLines : Outcome → List (List ℕ)
+heardLines o = replyLine (inOrder (o .said)) ∷ cond (eqb (o .said .code) 0) (setLine (o .bytes) (o .said .order) ∷ []) []
+
+unfoldable pub readingLines : Panel → List ℕ → List ℕ → List (List ℕ)
+readingLines panel terms text = heardLines (readListing panel terms text)

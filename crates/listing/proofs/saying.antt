@@ -1,0 +1,2 @@
+-- The laws of what a byte says.
+pub mod Laws

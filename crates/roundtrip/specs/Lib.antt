@@ -1,0 +1,2 @@
+-- The words of what is claimed of typing and reading.
+pub mod Claims
