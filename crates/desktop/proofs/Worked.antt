@@ -1,10 +1,9 @@
 -- Reading computed by the definitions from the bytes of the records and of the text, beside replies and sets that were worked outside the project:
 -- every code, both sides of its limits, signals and kits. One table, one claim. Assumes nothing.
 use mathlib.Core.Path.{_≡_, refl}
-use mathlib.Core.List.{List, [], _∷_, _++_, map}
+use mathlib.Core.List.{List, [], _∷_, map}
 use Prim.Native.Nat.{ℕ}
 use Prim.Native.String.{String}
-use lib.ListN.{replicate}
 use Rattle.monomial.specs.Lists.{any, some, all, keep, place, gather, below, pairwise, pointwise, dictionary, insertBy, arrangeBy}
 use Rattle.monomial.specs.Monomial.{vars}
 use Rattle.monomial.specs.Degree.{degree}

@@ -1,16 +1,15 @@
 -- The machine counts what its bytes say: with each name and each line that a byte makes whole one more. Assumes nothing.
-use mathlib.Core.Path.{_≡_, refl, sym, ap, _∙_}
+use mathlib.Core.Path.{_≡_, refl, ap, _∙_}
 use mathlib.Core.Logic.{_⊎_, inl, inr}
 use mathlib.Core.Bool.{Bool, true, false, cond, _&&_}
-use mathlib.Core.List.{List, [], _∷_}
 use Prim.Native.Nat.{ℕ, _+_, _-_, _≤_, _<_}
 use native.Mathlib.Omega.{arith}
 use lib.Dec.{T, leb, ltb, eqb}
 use lib.ListN.{length}
-use borrow.Author.Tests.{eqb-true, eqb-false, leb-true, leb-false, ne-eqb, lt-leb}
+use borrow.Author.Tests.{eqb-true, eqb-false, leb-true, ne-eqb}
 use Rattle.monomial.proofs.Tests.{Tested, passed, failed, test, T→is, is→T, is-not, and-l, cond-cases}
 use Rattle.reader.specs.Bytes.{newline, blank, minus, nought, nine, longer, goesLonger}
-use Rattle.listing.specs.Bytes.{star, letterX, letterW, heading, equals, prime}
+use Rattle.listing.specs.Bytes.{star, letterW, heading, equals, prime}
 use Rattle.listing.specs.Lines.{lefts, leftOf}
 use Rattle.listing.specs.Machine.{state, to, one, span, ended, lineFrom, behind, inCoefficient, beginLine, eatAt, eat, start}
 use Rattle.listing.specs.Saying.{nameSaid, digitSaid, starSaid, numberSaid, minusSaid, termSaid, sayingAt, saying}
@@ -22,7 +21,7 @@ use Rattle.listing.specs.declared.machine.Reading.the-variants.{Dead, En
 use Rattle.listing.specs.declared.machine.Place.{Place}
 use Rattle.listing.specs.declared.machine.Place.the-variants.{Heading, Names, NewName, Equals, Factor, Power, Star, Exponent, Digits, Next, Line, Left, Prime, Right, Zero, Term, Coefficient, First, X1, W1, One, Times, Square, X2, W2, Two, Sign, Gap}
 use Rattle.listing.specs.declared.saying.Saying.{Saying}
-use Rattle.listing.specs.declared.saying.Saying.the-variants.{Silence, Digit, NameEnds, Number, TermEnds, LineEnds}
+use Rattle.listing.specs.declared.saying.Saying.the-variants.{Silence, Number}
 use Rattle.listing.proofs.Lines.{left-none, left-here}
 use Rattle.listing.proofs.Steps.{one-all, span-all, ended-all, spell-all, name-all, term-all}
 

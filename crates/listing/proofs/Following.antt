@@ -1,7 +1,7 @@
 -- A loop over the bytes of a text that follows what they say, with its notes. Assumes nothing.
 use mathlib.Core.Path.{_≡_, refl, sym, ap, _∙_}
 use mathlib.Core.Logic.{⊎-elim}
-use mathlib.Core.Bool.{Bool, true, false}
+use mathlib.Core.Bool.{true}
 use mathlib.Core.List.{List, [], _∷_, _++_, append-nil, append-assoc}
 use Prim.Native.Nat.{ℕ, _+_, _≤_, _<_}
 use native.Mathlib.Omega.{arith}
@@ -9,8 +9,8 @@ use lib.ListN.{length, length-append, getD, drop}
 use Rattle.monomial.specs.Monomial.{width}
 use Rattle.monomial.proofs.Tests.{Tested, passed, failed, test, is-not}
 use Rattle.reader.specs.Reader.{heard, noted}
-use Rattle.reader.proofs.Loop.{Noting, noting-start, noting-next, noting-ends}
-use Rattle.listing.specs.Held.{Fair, Stands}
+use Rattle.reader.proofs.Loop.{Noting, noting-start, noting-next}
+use Rattle.listing.specs.Held.{Stands}
 use Rattle.listing.specs.Machine.{eat, start}
 use Rattle.listing.specs.Meaning.{Naming, closed, named, unnamed, names, Product, Telling, term, told, untold, lines}
 use Rattle.listing.specs.Readable.{alive, listing}

@@ -1,24 +1,20 @@
 -- What holds of a state holds of every state behind it. Assumes nothing.
-use mathlib.Core.Path.{_≡_, refl}
-use mathlib.Core.Bool.{Bool, true, false, cond, _&&_}
-use mathlib.Core.List.{List, [], _∷_}
-use Prim.Native.Nat.{ℕ, zero, suc, _+_, _*_, _-_, _≤_, _<_}
+use Prim.Native.Nat.{ℕ, _+_, _-_, _≤_, _<_}
 use native.Mathlib.Omega.{arith}
-use lib.Dec.{T, leb, ltb, eqb, leb→le, ltb→lt}
-use lib.ListN.{length, getD}
+use lib.Dec.{leb, ltb, eqb, leb→le, ltb→lt}
 use borrow.Author.Tests.{eq-eqb}
-use Rattle.reader.specs.Bytes.{newline, nought, nine, longer, goesLonger}
-use Rattle.listing.specs.Bytes.{letterX, letterW, heading, equals, prime}
+use Rattle.reader.specs.Bytes.{nought, nine, longer, goesLonger}
+use Rattle.listing.specs.Bytes.{letterW, heading, equals, prime}
 use Rattle.listing.specs.Lines.{leftOf}
-use Rattle.listing.specs.Machine.{state, to, one, span, ended, spell, lineFrom, beginName, beginTerm, behind, inCoefficient, beginLine, eatAt, eat, start}
-use Rattle.listing.specs.Held.{Fair, Held, Fit, InName, InLine, Stands}
+use Rattle.listing.specs.Machine.{state, to, one, lineFrom, beginName, beginTerm, behind, inCoefficient, beginLine, eatAt, eat, start}
+use Rattle.listing.specs.Held.{Held, Fit, InName, InLine, Stands}
 use Rattle.listing.specs.declared.machine.Known.{Known}
 use Rattle.listing.specs.declared.machine.State.{State}
 use Rattle.listing.specs.declared.machine.Reading.{Reading}
 use Rattle.listing.specs.declared.machine.Reading.the-variants.{Dead, Ended, At}
 use Rattle.listing.specs.declared.machine.Place.{Place}
 use Rattle.listing.specs.declared.machine.Place.the-variants.{Heading, Names, NewName, Equals, Factor, Power, Star, Exponent, Digits, Next, Line, Left, Prime, Right, Zero, Term, Coefficient, First, X1, W1, One, Times, Square, X2, W2, Two, Sign, Gap}
-use Rattle.monomial.proofs.Tests.{T→is, is→nT, and-l, and-r, cond-cases}
+use Rattle.monomial.proofs.Tests.{and-r, cond-cases}
 use Rattle.listing.proofs.Lines.{left-some}
 use Rattle.listing.proofs.Steps.{one-all, span-all, ended-all, spell-all, name-all, term-all}
 

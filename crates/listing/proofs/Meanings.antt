@@ -1,10 +1,9 @@
 -- Texts beside what they say: one table, one claim. Assumes nothing.
 use mathlib.Core.Path.{_≡_, refl}
-use mathlib.Core.List.{List, [], _∷_, _++_, map}
+use mathlib.Core.List.{List, [], _∷_, map}
 use Prim.Native.Nat.{ℕ}
 use Prim.Native.String.{String}
 use lib.IntN.{ℤ, pos, negsuc}
-use lib.ListN.{replicate}
 use Rattle.wiring.specs.Sockets.{halved, marked}
 use Rattle.reader.specs.Reader.{heard, noted}
 use Rattle.listing.specs.Lines.{unmarked, upFrom, lefts, leftOf, letterOf, digitOf}

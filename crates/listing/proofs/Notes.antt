@@ -7,7 +7,7 @@ use mathlib.Core.List.{List, [], _∷_, _++_, List·Memᴰ·not-nil, List·Mem�
 use Prim.Native.Nat.{ℕ, zero, suc, _+_, _≤_, _<_}
 use native.Mathlib.Omega.{arith}
 use lib.IntN.{natAbs}
-use lib.ListN.{length, length-append, getD, set, length-set}
+use lib.ListN.{length, length-append, length-set}
 use Rattle.monomial.specs.Claims.{_∈_}
 use Rattle.monomial.specs.Monomial.{Mono, one, width}
 use Rattle.listing.specs.Meaning.{Naming, closed, named, unnamed, Product, Telling, signed, term, told, untold}

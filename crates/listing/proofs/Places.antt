@@ -1,11 +1,11 @@
 -- The listing's machine is lively; so code 10's place is the first byte where no readable listing goes on. Assumes nothing.
-use mathlib.Core.Path.{_≡_, refl, ap, subst}
+use mathlib.Core.Path.{_≡_, refl}
 use mathlib.Core.Logic.{_↔_}
-use mathlib.Core.Bool.{Bool, true, false, cond}
-use mathlib.Core.List.{List, [], _∷_}
+use mathlib.Core.Bool.{true, false}
+use mathlib.Core.List.{List}
 use Prim.Native.Nat.{ℕ}
 use native.Mathlib.Omega.{arith}
-use Rattle.reader.specs.Reader.{readable, place, run, Readable, Finishes, GoesOn, Placed, Lively}
+use Rattle.reader.specs.Reader.{readable, place, run, Finishes, GoesOn, Placed, Lively}
 use Rattle.reader.proofs.Places as of-readers
 use Rattle.listing.specs.Machine.{eat, start}
 use Rattle.listing.specs.Held.{Fair, Stands}

@@ -1,6 +1,5 @@
 -- Texts beside what is said of them: one table, one claim. Assumes nothing.
 use mathlib.Core.Path.{_≡_, refl}
-use mathlib.Core.Bool.{Bool}
 use mathlib.Core.List.{List, [], _∷_, map}
 use Prim.Native.Char.{code}
 use Prim.Native.Nat.{ℕ}

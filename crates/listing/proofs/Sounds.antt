@@ -1,16 +1,16 @@
 -- What the bytes of a listing that goes on can say, and that no name ends in the second part. Assumes nothing.
-use mathlib.Core.Path.{_≡_, refl, sym, _∙_}
+use mathlib.Core.Path.{_≡_, refl, sym}
 use mathlib.Core.Logic.{_⊎_, inl, inr}
-use mathlib.Core.Bool.{Bool, true, false, cond, _&&_}
-use Prim.Native.Nat.{ℕ, _+_, _*_, _-_, _≤_, _<_}
+use mathlib.Core.Bool.{true, false, cond, _&&_}
+use Prim.Native.Nat.{ℕ, _+_, _-_, _≤_, _<_}
 use native.Mathlib.Omega.{arith}
-use lib.Dec.{T, leb, ltb, eqb, leb→le}
-use borrow.Author.Tests.{leb-true, ne-eqb}
-use Rattle.monomial.proofs.Tests.{Tested, passed, failed, test, T→is, is→T, is-not, and-l, and-r, cond-cases}
+use lib.Dec.{T, leb, eqb, leb→le}
+use borrow.Author.Tests.{ne-eqb}
+use Rattle.monomial.proofs.Tests.{Tested, passed, failed, test, is→T, is-not, and-l, and-r, cond-cases}
 use Rattle.reader.specs.Bytes.{newline, blank, minus, nought, nine, longer, goesLonger}
 use Rattle.listing.specs.Bytes.{star, prime}
 use Rattle.listing.specs.Lines.{leftOf}
-use Rattle.listing.specs.Held.{Fair, Held, Stands}
+use Rattle.listing.specs.Held.{Held, Stands}
 use Rattle.listing.specs.Machine.{state, to, one, span, ended, lineFrom, behind, inCoefficient, eatAt, eat}
 use Rattle.listing.specs.Readable.{alive}
 use Rattle.listing.specs.Saying.{nameSaid, digitSaid, starSaid, numberSaid, minusSaid, termSaid, sayingAt, saying}
@@ -22,7 +22,7 @@ use Rattle.listing.specs.declared.machine.Reading.the-variants.{Dead, En
 use Rattle.listing.specs.declared.machine.Place.{Place}
 use Rattle.listing.specs.declared.machine.Place.the-variants.{Heading, Names, NewName, Equals, Factor, Power, Star, Exponent, Digits, Next, Line, Left, Prime, Right, Zero, Term, Coefficient, First, X1, W1, One, Times, Square, X2, W2, Two, Sign, Gap}
 use Rattle.listing.specs.declared.saying.Saying.{Saying}
-use Rattle.listing.specs.declared.saying.Saying.the-variants.{Silence, Variable, Raised, Digit, NameEnds, Minus, Number, TermEnds, LineEnds}
+use Rattle.listing.specs.declared.saying.Saying.the-variants.{Silence, Raised, Digit, NameEnds, Minus, Number, TermEnds, LineEnds}
 use Rattle.listing.proofs.Steps.{one-all, span-all, ended-all, spell-all, name-all, term-all}
 
 -- ---- a byte that says less than it could: the words that take a test

@@ -1,8 +1,8 @@
 -- What holds of the readings that a step can lead to holds of the one that it leads to: step by step, for anything that may hold. Assumes nothing.
-use mathlib.Core.Bool.{cond, _&&_}
+use mathlib.Core.Bool.{_&&_}
 use mathlib.Core.List.{List}
 use Prim.Native.Nat.{ℕ, _+_, _-_, _≤_, _<_}
-use lib.Dec.{T, leb, ltb, eqb, leb→le, ltb→lt}
+use lib.Dec.{leb, ltb, eqb, leb→le, ltb→lt}
 use lib.ListN.{length, getD}
 use Rattle.reader.specs.Bytes.{newline, nought, nine}
 use Rattle.listing.specs.Bytes.{letterX, letterW}

@@ -1,5 +1,5 @@
 -- What holds of every state that the machine comes to. Assumes nothing.
-use Prim.Native.Nat.{ℕ, _+_, _≤_, _<_}
+use Prim.Native.Nat.{_+_, _≤_, _<_}
 use Rattle.listing.specs.declared.machine.Known.{Known}
 use Rattle.listing.specs.declared.machine.State.{State}
 use Rattle.listing.specs.declared.machine.Reading.{Reading}

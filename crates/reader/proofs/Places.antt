@@ -9,7 +9,7 @@ use native.Mathlib.Omega.{arith}
 use lib.Dec.{ltb}
 use lib.ListN.{length, take}
 use borrow.Author.Tests.{ltb-true, ltb-false}
-use Rattle.reader.specs.Reader.{Reader, run, readable, lasts, place, Readable, Finishes, GoesOn, Placed, Lively}
+use Rattle.reader.specs.Reader.{Reader, run, readable, lasts, place, GoesOn, Placed, Lively}
 use Rattle.monomial.proofs.Tests.{Tested, passed, failed, test, is-not}
 
 module _ (m : Reader) where

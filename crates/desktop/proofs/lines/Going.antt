@@ -1,8 +1,8 @@
 -- A loop over a readable text that judges its lines. Assumes nothing.
-use mathlib.Core.Path.{_≡_, refl, sym, ap, ap₂, _∙_, subst}
+use mathlib.Core.Path.{_≡_, refl, sym, ap, _∙_, subst}
 use mathlib.Core.Logic.{_⊎_, ⊎-elim}
-use mathlib.Core.Bool.{Bool, true, false, not, cond}
-use mathlib.Core.List.{List, [], _∷_, _++_, append-assoc, List·Memᴰ·append-cases, List·Memᴰ·eq-of-singleton}
+use mathlib.Core.Bool.{Bool, true, false, cond}
+use mathlib.Core.List.{List, [], _∷_, _++_, List·Memᴰ·append-cases, List·Memᴰ·eq-of-singleton}
 use Prim.Native.Nat.{ℕ, zero, suc, _+_, _≤_, _<_}
 use native.Mathlib.Omega.{arith}
 use native.Mathlib.Numerals.{add-one}
@@ -10,8 +10,7 @@ use borrow.Author.Tests.{ltb-true, ltb-false}
 use lib.Dec.{ltb}
 use lib.ListN.{length, length-append, getD, drop, drop-of-length-le, List·getD-append}
 use lib.Seq.{drop-cons}
-use Rattle.monomial.specs.Claims.{_∈_}
-use Rattle.monomial.specs.Lists.{all, place, pointwise}
+use Rattle.monomial.specs.Lists.{pointwise}
 use Rattle.monomial.specs.Monomial.{Mono, width}
 use Rattle.monomial.proofs.Loops.{pointwise-at, pointwise-length}
 use Rattle.monomial.proofs.Tests.{Tested, passed, failed, test, is-not}
@@ -24,7 +23,7 @@ use Rattle.reader.specs.Reader.{run, heard, noted}
 use Rattle.reader.specs.declared.Verdict.the-variants.{Whole, Broken}
 use Rattle.reader.proofs.Loop.{noting-ends}
 use Rattle.reader.proofs.Places.{run-dead}
-use Rattle.listing.specs.Counted.{lineEnds, Counts, InLines}
+use Rattle.listing.specs.Counted.{Counts, InLines}
 use Rattle.listing.specs.Lines.{lefts, leftOf}
 use Rattle.listing.specs.Machine.{eat, start}
 use Rattle.listing.specs.Meaning.{Product, Naming, term, named, names, told, lines, unnamed, untold}
@@ -43,7 +42,7 @@ use Rattle.truth.specs.Truth.{lineTrue}
 use Rattle.truth.specs.Sums.{Summed, Told}
 use Rattle.truth.specs.declared.truth.Sums.{Sums}
 use Rattle.truth.proofs.truth.Cells.{summed-bound}
-use Rattle.desktop.specs.Lines.{mostText, lineTests, falseLine, linesSaid, Notes, Says, productOf, endsTerm, endsLine, withTerm, Adding, Judging}
+use Rattle.desktop.specs.Lines.{lineTests, falseLine, linesSaid, Notes, Says, productOf, endsTerm, endsLine, withTerm, Adding, Judging}
 use Rattle.desktop.specs.declared.lines.Telling.{Telling}
 use Rattle.desktop.proofs.lines.Laws.{ends-counts, line-whole, line-new, line-kept, line-longer, product-is, first-off, all-on}
 

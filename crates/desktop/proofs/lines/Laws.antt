@@ -1,6 +1,6 @@
 -- A term as its bytes say it, and what makes a term and a line whole. Assumes nothing.
-use mathlib.Core.Path.{_≡_, refl, sym, ap, _∙_}
-use mathlib.Core.Bool.{Bool, true, false, not, cond}
+use mathlib.Core.Path.{_≡_, refl, sym, ap}
+use mathlib.Core.Bool.{Bool, true, false, not}
 use mathlib.Core.List.{List, [], _∷_, _++_}
 use Prim.Native.Nat.{ℕ, zero, suc, _<_}
 use native.Mathlib.Omega.{arith}
@@ -9,7 +9,7 @@ use types.Run.{OneOf, miss}
 use lib.ListN.{length, getD}
 use Rattle.monomial.specs.Lists.{all, place}
 use Rattle.listing.specs.Counted.{lineEnds}
-use Rattle.listing.specs.Meaning.{Product, term, told}
+use Rattle.listing.specs.Meaning.{term, told}
 use Rattle.listing.specs.declared.saying.Saying.{Saying}
 use Rattle.listing.specs.declared.saying.Saying.the-variants.{Silence, Variable, Raised, Digit, NameEnds, Minus, Number, Name, Again, TermEnds, LineEnds, ZeroLine}
 use Rattle.listing.proofs.saying.Saying as kinds

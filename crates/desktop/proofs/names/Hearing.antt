@@ -1,11 +1,10 @@
 -- A loop over a text that notes its new names. Assumes nothing.
-use mathlib.Core.Path.{_≡_, refl, sym, ap, _∙_}
+use mathlib.Core.Path.{_≡_, ap, _∙_}
 use mathlib.Core.Logic.{_⊎_, inl, inr}
-use mathlib.Core.Bool.{true}
-use mathlib.Core.List.{List, [], map}
+use mathlib.Core.List.{List, map}
 use Prim.Native.Nat.{ℕ, _+_, _≤_, _<_}
 use native.Mathlib.Omega.{arith}
-use lib.ListN.{length, getD, replicate}
+use lib.ListN.{length, getD}
 use Rattle.monomial.specs.Monomial.{width}
 use Rattle.wiring.specs.Panel.{cards}
 use Rattle.wiring.specs.Sets.{monomialsOf}
@@ -21,9 +20,9 @@ use Rattle.listing.specs.declared.saying.Saying.the-variants.{Silence, Variable
 use Rattle.listing.proofs.Following.{Following, following-start, following-next}
 use Rattle.listing.proofs.Sounds.{small, carded, speaks}
 use Rattle.reader.proofs.Loop.{noting-ends}
-use Rattle.desktop.specs.Names.{above, cap, capped, Notes, Holds, Closing, Ready}
+use Rattle.desktop.specs.Names.{capped, Notes, Holds, Closing, Ready}
 use Rattle.desktop.specs.declared.names.Naming.{Naming}
-use Rattle.desktop.proofs.names.Laws.{cap-low, cap-most}
+use Rattle.desktop.proofs.names.Laws.{cap-most}
 
 closing-of : (k : Naming) (σ : Saying) → k .variable < width → (k .names .len + nameEnds σ ≤ cards) ⊎ (nameEnds σ ≡ 0) → Closing k σ
 closing-of k Silence h r = tt

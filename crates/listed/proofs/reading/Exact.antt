@@ -1,14 +1,14 @@
 -- What the contracts of reading say to a caller: after a refusal there is the reply alone, and after code 0 the set as
 -- well; no line is empty, and there are at most two. Assumes nothing.
-use mathlib.Core.Path.{_≡_, ap, _∙_}
+use mathlib.Core.Path.{_≡_}
 use mathlib.Core.Bool.{cond}
 use mathlib.Core.List.{List, [], _∷_}
-use Prim.Native.Nat.{ℕ, suc, _≤_}
+use Prim.Native.Nat.{ℕ, _≤_}
 use native.Mathlib.Omega.{arith}
 use borrow.Author.Tests.{eq-eqb, ne-eqb}
 use lib.Dec.{eqb}
 use lib.ListN.{length}
-use Rattle.monomial.proofs.Tests.{Tested, passed, failed, test, cond-cases}
+use Rattle.monomial.proofs.Tests.{cond-cases}
 use Rattle.wiring.specs.Reply.{Outcome, inOrder}
 use Rattle.wiring.specs.declared.panel.Panel.{Panel}
 use Rattle.lines.specs.Answer.{replyLine, setLine}

@@ -9,9 +9,9 @@ use borrow.Author.Tests.{eqb-true, eq-eqb, ne-eqb}
 use lib.Dec.{eqb}
 use lib.ListN.{length, getD, take}
 use Rattle.monomial.specs.Lists.{gather}
-use Rattle.monomial.specs.Monomial.{Mono, width}
+use Rattle.monomial.specs.Monomial.{Mono}
 use Rattle.monomial.proofs.Tests.{Tested, passed, failed, test}
-use Rattle.wiring.specs.Panel.{cards, setBytes, wiresBytes}
+use Rattle.wiring.specs.Panel.{wiresBytes}
 use Rattle.wiring.specs.Sets.{places, setOf}
 use Rattle.wiring.specs.Wires.{Wire}
 use Rattle.wiring.specs.Reply.{Outcome, numbers, inOrder, outcome}
@@ -19,7 +19,6 @@ use Rattle.wiring.specs.Answers.{wired}
 use Rattle.wiring.specs.Claims.{listIn}
 use Rattle.wiring.specs.declared.panel.Panel.{Panel}
 use Rattle.wiring.specs.declared.reply.Reply.{Reply}
-use Rattle.wiring.proofs.reply.Laws.{same-reply}
 use Rattle.wiring.proofs.sets.Laws.{used-length}
 use Rattle.lines.specs.Text.{Stands}
 use Rattle.lines.specs.Answer.{replyLine}

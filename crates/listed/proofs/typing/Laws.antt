@@ -1,16 +1,14 @@
 -- What wiring leaves after code 0: a set and a wiring list that can be typed; and each line by its number. Assumes nothing.
 use mathlib.Core.Path.{_≡_, refl, sym, ap, _∙_, subst}
-use mathlib.Core.Bool.{true, cond}
 use mathlib.Core.List.{List, [], _∷_, _++_, append-nil}
 use Prim.Native.Nat.{ℕ, zero, suc, _+_, _*_, _-_, _≤_, _<_}
 use native.Mathlib.Omega.{arith}
 use borrow.Author.Tests.{eq-eqb, ne-eqb}
-use lib.Dec.{eqb}
 use lib.ListN.{length, getD, take, drop, replicate}
 use lib.Seq.{paste, take-length, ext-getD}
 use Rattle.monomial.specs.Monomial.{Mono, width}
 use Rattle.monomial.proofs.Counting.{at-in}
-use Rattle.wiring.specs.Panel.{cards, setBytes, wireBytes, wiresBytes, mostSignals}
+use Rattle.wiring.specs.Panel.{cards, setBytes, wireBytes, wiresBytes}
 use Rattle.wiring.specs.Sockets.{panelOf}
 use Rattle.wiring.specs.Sets.{places, sizeOf, setOf}
 use Rattle.wiring.specs.Wires.{Wire, wireRecord, wireList}
@@ -34,7 +32,7 @@ use Rattle.typed.proofs.typed.Laws.{wires-length, wires-at}
 use Rattle.typed.proofs.typed.Exact.{patch-listed}
 use Rattle.desktop.specs.Read.{knownTo}
 use Rattle.listed.specs.declared.typing.Typing.{Typing}
-use Rattle.listed.specs.Typing.{typedLines, Typeable, Ready, Types}
+use Rattle.listed.specs.Typing.{typedLines, Typeable, Types}
 
 -- ---- a set record in as many bytes as a whole one has
 zeros-rest : (n m : ℕ) → drop n (replicate {A = ℕ} m 0) ≡ replicate (m - n) 0

@@ -1,6 +1,5 @@
 -- `add_ended` meets its contract: a term that is whole is added, and another is not. Assumes nothing.
 use Rattle.desktop.specs.Lines.{withTerm}
-use mathlib.Core.Path.{sym, _∙_}
 use borrow.Author.Needs.{needs}
 use Rattle.desktop.proofs.lines.add_ended.Statement.{statement}
 use Rattle.desktop.proofs.lines.add_ended.Tie as tie

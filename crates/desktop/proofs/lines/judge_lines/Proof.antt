@@ -1,15 +1,14 @@
 -- `judge_lines` meets its contract: the loop's invariant is `Going`. Assumes nothing.
-use mathlib.Core.Path.{_≡_, refl, sym, ap, _∙_}
+use mathlib.Core.Path.{_≡_, refl, sym, _∙_}
 use mathlib.Core.Logic.{⊎-elim}
-use Prim.Native.Nat.{_+_, _-_, _<_}
+use Prim.Native.Nat.{_-_, _<_}
 use native.Mathlib.Omega.{arith}
 use borrow.Author.Needs.{needs}
 use borrow.Author.Tests.{not-true, not-false}
 use lib.ListN.{length}
 use Rattle.listing.specs.Meaning.{names, untold}
-use Rattle.wiring.specs.Signals.{signalsOf}
 use Rattle.listing.proofs.Lines.{lefts-length}
-use Rattle.desktop.specs.Lines.{Judging, endsLine}
+use Rattle.desktop.specs.Lines.{Judging}
 use Rattle.desktop.proofs.lines.Laws.{says-fresh}
 use Rattle.desktop.proofs.lines.Going.{Going, going-start, going-adds, going-summed, going-here, going-few, going-says, going-ended, going-verdict, going-true, going-false, going-on, going-ends}
 use Rattle.desktop.proofs.lines.judge_lines.Statement.{statement}

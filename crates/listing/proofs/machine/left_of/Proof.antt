@@ -1,7 +1,6 @@
 -- `left_of` meets its contract: the loop's invariant is `Counting`. Assumes nothing.
-use mathlib.Core.Path.{_≡_, sym, _∙_}
 use mathlib.Core.Logic.{⊎-elim}
-use Prim.Native.Nat.{_+_, _-_, _<_}
+use Prim.Native.Nat.{_+_, _-_}
 use native.Mathlib.Omega.{arith}
 use borrow.Author.Needs.{needs}
 use Rattle.listing.proofs.Lines.{Counting, counting-start, counting-here, counting-next, counting-skip, counting-new, counting-none}

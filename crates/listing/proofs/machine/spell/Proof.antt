@@ -1,5 +1,5 @@
 -- `spell` meets its contract: way by way out of its tests. Assumes nothing.
-use mathlib.Core.Path.{_≡_, sym, _∙_}
+use mathlib.Core.Path.{sym, _∙_}
 use borrow.Author.Tests.{eq-eqb, ne-eqb, lt-ltb, le-ltb}
 use Rattle.listing.specs.Machine.{spell}
 use borrow.Author.Needs.{needs}
