@@ -1,3 +1,4 @@
--- Laws that belong to no module of src/. Those of a module stand under its name: input, typing, reading.
+-- Laws that belong to no module of src/. Those of a module stand under its name: words, input, typing, reading.
 pub mod Told
 pub mod Written
+pub mod Enough

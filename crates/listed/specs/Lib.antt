@@ -1,3 +1,4 @@
 -- What the contracts of the program cite.
+pub mod Words
 pub mod Typing
 pub mod Reading

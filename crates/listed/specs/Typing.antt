@@ -3,11 +3,11 @@
 use mathlib.Core.Path.{_≡_}
 use mathlib.Core.Bool.{cond}
 use mathlib.Core.List.{List, [], _∷_, _++_}
-use Prim.Native.Nat.{ℕ, _-_, _≤_}
+use Prim.Native.Nat.{ℕ, _+_, _-_, _≤_}
 use lib.Dec.{eqb}
 use lib.ListN.{length, take, drop, replicate}
 use Rattle.monomial.specs.Monomial.{width}
-use Rattle.wiring.specs.Panel.{cards, setBytes, wiresBytes}
+use Rattle.wiring.specs.Panel.{cards, termsBytes, setBytes, wiresBytes}
 use Rattle.wiring.specs.Sets.{places, setOf}
 use Rattle.wiring.specs.Reply.{numbers, inOrder, outcome}
 use Rattle.wiring.specs.Answers.{wired}
@@ -24,6 +24,10 @@ setIn input = take setBytes input
 
 abbrev pub termsIn : List ℕ → List ℕ
 termsIn input = drop setBytes input
+
+-- so many bytes of it are read: what can be right, and one byte more, which tells that there are more
+abbrev pub mostTyped : ℕ
+mostTyped = setBytes + termsBytes + 1
 
 -- the listing is that of the set and its wiring list
 unfoldable pub typingLines : Panel → List ℕ → List ℕ → List (List ℕ)

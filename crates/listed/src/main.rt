@@ -6,30 +6,17 @@
 mod input;
 mod reading;
 mod typing;
+mod words;
 
 use desktop::read::Heard;
 use lines::answer;
 use lines::lengths::LINE_BYTES;
-use lines::number;
-use lines::number::Number;
 use typed::typed::LISTED_BYTES;
 use typing::Typing;
 use wiring::panel::WIRES_BYTES;
 use wiring::reply;
 use wiring::reply::Reply;
 ghost use Rattle.listed.specs.Typing.{Ready};
-
-// Word number i of the command line as a number. One that is no number counts as 2^64 - 1: no setting is that, so that
-// the operations refuse it by code 1, and no input has so many bytes, so that all of it is terms. One that is over 4,096
-// bytes comes as an empty word, which is no number.
-fn number_at(i: usize) -> u64 {
-    let mut word = io::buffer();
-    let length = os::arg(i, &mut word);
-    match number::number_of(&word[..length]) {
-        Number::Of(v) => v,
-        Number::Nothing => 18446744073709551615,
-    }
-}
 
 // Writes line after line of a listing that is typed, until there is none.
 fn write_typing(t: Typing, wires: &[u8; WIRES_BYTES])
@@ -70,7 +57,7 @@ fn write_wrong() {
 
 // Reads the input, and types.
 fn type_listing(n: u64, marks: u64, degree: u64) {
-    let mut input = [0u8; typing::INPUT_BYTES];
+    let mut input = typing::input_buffer();
     let length = io::read_full(0, &mut input);
     let mut wires = [0u8; WIRES_BYTES];
     let t = typing::prepare_typing(n, marks, degree, &input[..length], &mut wires);
@@ -79,20 +66,25 @@ fn type_listing(n: u64, marks: u64, degree: u64) {
 
 // Reads the input, and the listing in it.
 fn read_listing(n: u64, marks: u64, degree: u64, bytes: u64) {
-    let mut input = [0u8; reading::INPUT_BYTES];
+    let mut input = reading::input_buffer();
     let length = io::read_full(0, &mut input);
     write_reading(reading::prepare_reading(n, marks, degree, bytes, &input[..length]));
 }
 
 // The program's name stands before the words.
 fn main() {
-    let words = os::arg_count();
-    if words == 4 {
-        type_listing(number_at(1), number_at(2), number_at(3));
+    let count = os::arg_count();
+    if count == 4 {
+        type_listing(words::word_at(1), words::word_at(2), words::word_at(3));
         return;
     }
-    if words == 5 {
-        read_listing(number_at(1), number_at(2), number_at(3), number_at(4));
+    if count == 5 {
+        read_listing(
+            words::word_at(1),
+            words::word_at(2),
+            words::word_at(3),
+            words::word_at(4),
+        );
         return;
     }
     write_wrong();

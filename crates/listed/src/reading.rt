@@ -9,15 +9,21 @@ use wiring::panel::TERMS_BYTES;
 use wiring::reply;
 ghost use mathlib.Core.Path.{_≡_};
 ghost use mathlib.Core.List.{[]};
-ghost use lib.ListN.{getD, take, drop};
+ghost use lib.ListN.{length, getD, take, drop};
 ghost use Rattle.wiring.specs.Sockets.{panelOf};
 ghost use Rattle.wiring.specs.Reply.{outcome};
 ghost use Rattle.desktop.specs.Read.{readListing};
 ghost use Rattle.lines.specs.Text.{Stands};
-ghost use Rattle.listed.specs.Reading.{heardLines};
+ghost use Rattle.listed.specs.Reading.{mostRead, heardLines};
+
+const INPUT_BYTES: usize = TERMS_BYTES + 1 + MOST_TEXT + 1;
 
 // A buffer for the input: term records, then a text. One byte more of each than can be right tells that there are more.
-pub(crate) const INPUT_BYTES: usize = TERMS_BYTES + 1 + MOST_TEXT + 1;
+pub(crate) fn input_buffer() -> [u8; INPUT_BYTES]
+    ensures { λ r. ⌜ length r ≡ mostRead ⌝ }
+{
+    [0u8; INPUT_BYTES]
+}
 
 // Reads the listing behind the first bytes of the input, which are the term records. Where the input has fewer bytes than
 // that, all of them are terms, and the text is empty.

@@ -14,15 +14,22 @@ use wiring::panel::TERMS_BYTES;
 use wiring::panel::WIRES_BYTES;
 use wiring::reply;
 use wiring::reply::Reply;
+ghost use mathlib.Core.Path.{_≡_};
 ghost use mathlib.Core.List.{[]};
-ghost use lib.ListN.{getD};
+ghost use lib.ListN.{length, getD};
 ghost use Rattle.wiring.specs.Sockets.{panelOf};
 ghost use Rattle.lines.specs.Text.{Stands};
 ghost use Rattle.lines.specs.Answer.{replyLine};
-ghost use Rattle.listed.specs.Typing.{setIn, termsIn, typedLines, Ready, Types};
+ghost use Rattle.listed.specs.Typing.{setIn, termsIn, mostTyped, typedLines, Ready, Types};
+
+const INPUT_BYTES: usize = SET_BYTES + TERMS_BYTES + 1;
 
 // A buffer for the input: a set record, then term records. One byte more than can be right tells that there are more.
-pub(crate) const INPUT_BYTES: usize = SET_BYTES + TERMS_BYTES + 1;
+pub(crate) fn input_buffer() -> [u8; INPUT_BYTES]
+    ensures { λ r. ⌜ length r ≡ mostTyped ⌝ }
+{
+    [0u8; INPUT_BYTES]
+}
 
 // The reply of wiring, what the panel makes known to the reader of its listings, and the record of the set, with zeros
 // where it is cut short.

@@ -1,12 +1,13 @@
 -- Each line of what is said of a listing by its number. Assumes nothing.
 use mathlib.Core.Path.{_≡_, refl}
-use mathlib.Core.List.{[]}
+use mathlib.Core.List.{List, []}
 use Prim.Native.Nat.{ℕ, zero, suc}
 use borrow.Author.Tests.{eq-eqb, ne-eqb}
 use lib.ListN.{getD}
 use Rattle.monomial.proofs.Tests.{Tested, passed, failed, test}
 use lib.Dec.{eqb}
 use Rattle.wiring.specs.Reply.{Outcome, inOrder}
+use Rattle.lines.specs.Text.{Stands}
 use Rattle.lines.specs.Answer.{replyLine, setLine}
 use Rattle.listed.specs.Reading.{heardLines}
 
@@ -20,9 +21,9 @@ module _ (o : Outcome) where
   refused-none zero h f = absurd (h refl)
   refused-none (suc k) h f = rw (ne-eqb (o .said .code) 0 f)
 
-  pub set-next : (k : ℕ) → k ≡ 1 → o .said .code ≡ 0 → setLine (o .bytes) (o .said .order) ≡ getD (heardLines o) k []
+  pub set-told : {k end : ℕ} {l m : List ℕ} → k ≡ 1 → o .said .code ≡ 0 → Stands (setLine (o .bytes) (o .said .order)) end l m → Stands (getD (heardLines o) k []) end l m
   unfolding heardLines
-  set-next k e z = rw (e, eq-eqb (o .said .code) 0 z)
+  set-told e z told = rw (e, eq-eqb (o .said .code) 0 z) told
 
   pub none-next : (k : ℕ) → (k ≡ 0 → ⊥) → (k ≡ 1 → ⊥) → [] ≡ getD (heardLines o) k []
   unfolding heardLines

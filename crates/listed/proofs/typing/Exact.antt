@@ -1,5 +1,6 @@
--- What the contracts of typing say to a caller: the lines are those of the definition; after a refusal there is the reply
--- alone, and after code 0 the listing as well; no line is empty, and there are few. Assumes nothing.
+-- What the contracts of typing say to a caller: the lines are those of the definition; two outcomes are equal; after
+-- a refusal there is the reply alone, and after code 0 the listing as well; no line is empty, and there are few. Assumes
+-- nothing.
 use mathlib.Core.Path.{_≡_, refl, sym, ap, _∙_, subst}
 use mathlib.Core.Bool.{cond}
 use mathlib.Core.List.{List, [], _∷_, _++_}
@@ -9,17 +10,19 @@ use borrow.Author.Tests.{eqb-true, eq-eqb, ne-eqb}
 use lib.Dec.{eqb}
 use lib.ListN.{length, getD, take}
 use Rattle.monomial.specs.Lists.{gather}
-use Rattle.monomial.specs.Monomial.{Mono}
+use Rattle.monomial.specs.Monomial.{Mono, width}
 use Rattle.monomial.proofs.Tests.{Tested, passed, failed, test}
-use Rattle.wiring.specs.Panel.{wiresBytes}
+use Rattle.wiring.specs.Panel.{cards, wiresBytes}
 use Rattle.wiring.specs.Sets.{places, setOf}
 use Rattle.wiring.specs.Wires.{Wire}
 use Rattle.wiring.specs.Reply.{Outcome, numbers, inOrder, outcome}
-use Rattle.wiring.specs.Answers.{wired}
+use Rattle.wiring.specs.Answers.{verdict, wired}
 use Rattle.wiring.specs.Claims.{listIn}
 use Rattle.wiring.specs.declared.panel.Panel.{Panel}
 use Rattle.wiring.specs.declared.reply.Reply.{Reply}
+use Rattle.wiring.proofs.reply.Laws.{same-reply}
 use Rattle.wiring.proofs.sets.Laws.{used-length}
+use Rattle.wiring.proofs.answers.Laws.{wired-refused}
 use Rattle.lines.specs.Text.{Stands}
 use Rattle.lines.specs.Answer.{replyLine}
 use Rattle.lines.proofs.text.Laws.{stands-nothing}
@@ -34,6 +37,9 @@ use Rattle.listed.specs.declared.typing.Typing.{Typing}
 use Rattle.listed.specs.Typing.{typingLines, typedLines, Ready, Types}
 use Rattle.listed.proofs.Told.{Filled, filled-first, filled-none}
 use Rattle.listed.proofs.typing.Laws.{by-done, whole-held, done-long, done-set, done-wires, typedListing}
+
+abbrev typing : Reply → Known → List ℕ → Typing
+typing reply known set = record { reply = reply; known = known; set = set }
 
 -- ---- what was prepared tells the lines of the definition
 module _ {panel : Panel} {terms set : List ℕ} {t : Typing} {wires : List ℕ} (a : Types panel terms set t wires) where
@@ -58,8 +64,25 @@ module _ {panel : Panel} {terms set : List ℕ} {t : Typing} {wires : List ℕ} 
       go (passed e) = rw e (listing-same (eqb-true (numbers (t .reply) .code) 0 e))
       go (failed e) = rw e
 
+-- ---- the promise leaves nothing open: what is given, and every byte that was lent
+same : (t u : Typing) → t .reply ≡ u .reply → t .known ≡ u .known → t .set ≡ u .set → t ≡ u
+same t u e f g =
+    ap (λ (r : Reply). typing r (t .known) (t .set)) e ∙ ap (λ (k : Known). typing (u .reply) k (t .set)) f ∙ ap (typing (u .reply) (u .known)) g
+
+pub typing-determined : {panel : Panel} {terms set : List ℕ} {t u : Typing} {wires ws : List ℕ} → Types panel terms set t wires → Types panel terms set u ws
+    → (t ≡ u) × (wires ≡ ws)
+typing-determined {t = t} {u = u} {wires = wires} {ws = ws} a b =
+    let both : outcome (t .reply) wires ≡ outcome (u .reply) ws = a .left ∙ sym (b .left) in
+    let replies : t .reply ≡ u .reply = same-reply (t .reply) (u .reply) (ap (λ (x : Outcome). x .said) both) in
+    (same t u replies (a .known ∙ sym (b .known)) (a .held ∙ sym (b .held)), ap (λ (x : Outcome). x .bytes) both)
+
 -- ---- the definition: after a refusal the reply alone, and after code 0 the text of the set and its wiring list
 module _ (panel : Panel) (terms set : List ℕ) where
+  -- what a verdict that refuses says is all that is written
+  pub typing-said : (r : Reply) → verdict panel terms set ≡ r → (numbers r .code ≡ 0 → ⊥) → typingLines panel terms set ≡ replyLine (inOrder (numbers r)) ∷ []
+  unfolding typingLines
+  typing-said r e f = let said = wired-refused panel terms set wiresBytes r e f in rw (said, ne-eqb (numbers r .code) 0 f)
+
   pub typing-refused : (wired panel terms set wiresBytes .said .code ≡ 0 → ⊥)
       → typingLines panel terms set ≡ replyLine (inOrder (wired panel terms set wiresBytes .said)) ∷ []
   unfolding typingLines
@@ -100,11 +123,11 @@ module _ (t : Typing) (wires : List ℕ) where
       go (passed e) = rw e (listing-filled (t .known) (take (numbers (t .reply) .order) (places (t .set))) (wiresIn (numbers (t .reply) .count) wires))
       go (failed e) = rw e filled-none
 
-  pub typed-few : Ready t wires → length (typedLines t wires) ≤ 100
+  pub typed-few : Ready t wires → length (typedLines t wires) ≤ 3 + cards + (width + cards)
   unfolding typedLines
   typed-few ready = go (test (eqb (numbers (t .reply) .code) 0))
     where
-      go : Tested (eqb (numbers (t .reply) .code) 0) → suc (length (cond (eqb (numbers (t .reply) .code) 0) (typedListing t wires) [])) ≤ 100
+      go : Tested (eqb (numbers (t .reply) .code) 0) → suc (length (cond (eqb (numbers (t .reply) .code) 0) (typedListing t wires) [])) ≤ 3 + cards + (width + cards)
       go (failed e) = rw e (omega arith)
       go (passed e) =
           let can = ready (eqb-true (numbers (t .reply) .code) 0 e) in

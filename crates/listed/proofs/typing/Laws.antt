@@ -136,10 +136,14 @@ module _ (t : Typing) (wires : List ℕ) where
   refused-none zero h f = absurd (h refl)
   refused-none (suc k) h f = rw (ne-eqb (numbers (t .reply) .code) 0 f)
 
-  pub listing-next : (k : ℕ) → (k ≡ 0 → ⊥) → numbers (t .reply) .code ≡ 0 → getD typedListing (k - 1) [] ≡ getD (typedLines t wires) k []
+  later : (k : ℕ) → (k ≡ 0 → ⊥) → numbers (t .reply) .code ≡ 0 → getD typedListing (k - 1) [] ≡ getD (typedLines t wires) k []
   unfolding typedLines
-  listing-next zero h z = absurd (h refl)
-  listing-next (suc k) h z = rw (eq-eqb (numbers (t .reply) .code) 0 z) (ap (λ (i : ℕ). getD typedListing i []) (omega arith))
+  later zero h z = absurd (h refl)
+  later (suc k) h z = rw (eq-eqb (numbers (t .reply) .code) 0 z) (ap (λ (i : ℕ). getD typedListing i []) (omega arith))
+
+  pub listing-told : {k end : ℕ} {l m : List ℕ} → (k ≡ 0 → ⊥) → numbers (t .reply) .code ≡ 0 → Stands (getD typedListing (k - 1) []) end l m
+      → Stands (getD (typedLines t wires) k []) end l m
+  listing-told {k} h z told = rw (← later k h z) told
 
 -- the line of a reply, made in a line of its own
 pub put-whole : {text first blank line after : List ℕ} {end r : ℕ} → Stands text end blank first → Added (take end first) 0 r line after → Stands text r line after

@@ -2,7 +2,7 @@
 use mathlib.Core.Path.{_≡_}
 use Rattle.wiring.specs.Reply.{numbers, outcome}
 use Rattle.lines.proofs.text.Laws.{stands-nothing}
-use Rattle.listed.proofs.reading.Laws.{reply-first, refused-none, set-next, none-next}
+use Rattle.listed.proofs.reading.Laws.{reply-first, refused-none, set-told, none-next}
 use borrow.Author.Needs.{needs}
 use Rattle.listed.proofs.reading.reading_line.Statement.{statement}
 use Rattle.listed.proofs.reading.reading_line.Tie as tie
@@ -49,7 +49,7 @@ returns-4 c =
     let a = given .before .args in
     let five = given .numbers .ensures in
     let done : numbers (a .h .reply) .code ≡ 0 = rw five at (later .if2 .left) in
-    rw (five, set-next (outcome (a .h .reply) (a .h .set)) (a .k) (tested .if3 .left) done) at (c .set-line .ensures)
+    set-told (outcome (a .h .reply) (a .h .set)) (tested .if3 .left) done (rw five at (c .set-line .ensures))
 
 pub reading-line-spec : {M : Type 1} → statement M
 reading-line-spec =

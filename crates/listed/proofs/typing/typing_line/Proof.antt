@@ -2,7 +2,7 @@
 use mathlib.Core.Path.{_≡_}
 use Rattle.wiring.specs.Reply.{numbers}
 use Rattle.lines.proofs.text.Laws.{stands-nothing}
-use Rattle.listed.proofs.typing.Laws.{reply-first, refused-none, listing-next}
+use Rattle.listed.proofs.typing.Laws.{reply-first, refused-none, listing-told}
 use borrow.Author.Needs.{needs}
 use Rattle.listed.proofs.typing.typing_line.Statement.{statement}
 use Rattle.listed.proofs.typing.typing_line.Tie as tie
@@ -55,7 +55,7 @@ returns-3 c =
     let start = given .before in
     let five = given .numbers .ensures in
     let done : numbers (start .args .t .reply) .code ≡ 0 = rw five at (later .if2 .left) in
-    rw (five, listing-next (start .args .t) (start .args .wires .now) (start .args .k) (later .before .if1 .left) done) at (c .line-at .ensures)
+    listing-told (start .args .t) (start .args .wires .now) (later .before .if1 .left) done (rw five at (c .line-at .ensures))
 
 pub typing-line-spec : {M : Type 1} → statement M
 typing-line-spec =

@@ -1,0 +1,2 @@
+-- The laws of the module words.
+pub mod Laws
