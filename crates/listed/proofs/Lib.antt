@@ -1,4 +1,3 @@
 -- Laws that belong to no module of src/. Those of a module stand under its name: words, input, typing, reading.
-pub mod Told
 pub mod Written
 pub mod Enough

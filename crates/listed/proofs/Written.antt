@@ -13,7 +13,7 @@ use Rattle.desktop.specs.declared.read.Heard.{Heard}
 use Rattle.listed.specs.declared.typing.Typing.{Typing}
 use Rattle.listed.specs.Typing.{typingLines, typedLines, Types}
 use Rattle.listed.specs.Reading.{heardLines, readingLines}
-use Rattle.listed.proofs.Told.{lines-written}
+use Rattle.lines.proofs.Told.{lines-written}
 use Rattle.listed.proofs.typing.Exact.{typed-lines, typed-filled}
 use Rattle.listed.proofs.reading.Exact.{heard-filled}
 

@@ -18,7 +18,7 @@ use Rattle.lines.proofs.answer.Laws.{reply-some, set-some}
 use Rattle.desktop.specs.Read.{readListing}
 use Rattle.desktop.specs.declared.read.Heard.{Heard}
 use Rattle.listed.specs.Reading.{heardLines, readingLines}
-use Rattle.listed.proofs.Told.{Filled, filled-first, filled-none}
+use Rattle.lines.proofs.Told.{Filled, filled-first, filled-none}
 
 abbrev heard : Reply → List ℕ → Heard
 heard reply set = record { reply = reply; set = set }

@@ -35,7 +35,7 @@ use Rattle.typed.proofs.typed.Exact.{typed-text, typed-length, typed-none}
 use Rattle.desktop.specs.Read.{knownTo}
 use Rattle.listed.specs.declared.typing.Typing.{Typing}
 use Rattle.listed.specs.Typing.{typingLines, typedLines, Ready, Types}
-use Rattle.listed.proofs.Told.{Filled, filled-first, filled-none}
+use Rattle.lines.proofs.Told.{Filled, filled-first, filled-none}
 use Rattle.listed.proofs.typing.Laws.{by-done, whole-held, done-long, done-set, done-wires, typedListing}
 
 abbrev typing : Reply → Known → List ℕ → Typing

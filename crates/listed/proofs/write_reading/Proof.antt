@@ -4,7 +4,7 @@ use native.Mathlib.Omega.{arith}
 use lib.ListN.{length}
 use Rattle.wiring.specs.Reply.{outcome}
 use Rattle.listed.specs.Reading.{heardLines}
-use Rattle.listed.proofs.Told.{line-told}
+use Rattle.lines.proofs.Told.{line-told}
 use Rattle.listed.proofs.reading.Exact.{heard-filled, heard-few}
 use borrow.Author.Needs.{needs}
 use Rattle.listed.proofs.write_reading.Statement.{statement}

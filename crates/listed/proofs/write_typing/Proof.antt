@@ -3,7 +3,7 @@ use Prim.Native.Nat.{_-_}
 use native.Mathlib.Omega.{arith}
 use lib.ListN.{length}
 use Rattle.listed.specs.Typing.{typedLines}
-use Rattle.listed.proofs.Told.{line-told}
+use Rattle.lines.proofs.Told.{line-told}
 use Rattle.listed.proofs.typing.Exact.{typed-filled, typed-few}
 use borrow.Author.Needs.{needs}
 use Rattle.listed.proofs.write_typing.Statement.{statement}

@@ -5,20 +5,18 @@ use mathlib.Core.Logic.{_↔_}
 use mathlib.Core.List.{List, [], _∷_, _++_, map}
 use Prim.Native.Nat.{ℕ, zero, suc, _+_, _*_, _≤_, _<_}
 use native.Mathlib.Omega.{arith}
-use borrow.Author.Tests.{leb-true, leb-false}
-use lib.Dec.{leb}
-use lib.ListN.{length, getD, take, drop, length-append, length-map, length-take, length-drop, List·getD-eq-default}
+use lib.ListN.{length, getD, take, drop, length-append, length-map, length-take, length-drop}
 use lib.Seq.{ext-getD}
 use Rattle.monomial.specs.Lists.{gather, below}
 use Rattle.monomial.specs.Claims.{_∈_}
 use Rattle.monomial.specs.Monomial.{Mono}
-use Rattle.monomial.proofs.Tests.{Tested, passed, failed, test}
 use Rattle.monomial.proofs.Members.{Gathered, gather-out, gather-append}
 use Rattle.monomial.proofs.Counting.{below-out, at-in}
 use Rattle.wiring.specs.Panel.{mostSignals, wireBytes}
 use Rattle.wiring.specs.Wires.{Wire}
 use Rattle.wiring.specs.Claims.{signalsIn, rowOf, Decodes, Patch}
 use Rattle.wiring.specs.declared.panel.Panel.{Panel}
+use Rattle.lines.proofs.Told.{Filled, filled-none, filled-first, filled-both, filled-made, line-none, line-told}
 use Rattle.lines.specs.Text.{Stands}
 use Rattle.reader.specs.Bytes.{newline}
 use Rattle.listing.specs.Bytes.{heading}
@@ -53,28 +51,14 @@ typed-text k s ws =
       length-map s factorsOf,
     )
 
--- ---- each line has a byte, its newline
-abbrev Filled : List (List ℕ) → Type 0
-Filled l = (j : ℕ) → j < length l → 0 < length (getD l j [])
-
-filled-first : (x : List ℕ) (l : List (List ℕ)) → 0 < length x → Filled l → Filled (x ∷ l)
-filled-first x l h f zero i = h
-filled-first x l h f (suc j) i = f j (omega arith)
-
-filled-both : (a b : List (List ℕ)) → Filled a → Filled b → Filled (a ++ b)
-filled-both [] b f g = g
-filled-both (x ∷ a) b f g = filled-first x (a ++ b) (f 0 (omega arith)) (filled-both a b (λ j h. f (suc j) (omega arith)) g)
-
 names-filled : (k : Known) (i : ℕ) (s : List Mono) → Filled (nameLines k i s)
 unfolding nameLines nameText
-names-filled k i [] = λ j h. absurd (omega arith)
+names-filled k i [] = filled-none
 names-filled k i (m ∷ s) = filled-first (nameText k i (factorsOf m)) (nameLines k (i + 1) s) (omega arith) (names-filled k (i + 1) s)
 
 derivatives-filled : (k : Known) (ws : List Wire) (ls : List ℕ) → Filled (map (derivativeLine k ws) ls)
 unfolding lineText
-derivatives-filled k ws [] = λ j h. absurd (omega arith)
-derivatives-filled k ws (l ∷ ls) =
-    filled-first (derivativeLine k ws l) (map (derivativeLine k ws) ls) (omega arith) (derivatives-filled k ws ls)
+derivatives-filled k ws ls = filled-made (derivativeLine k ws) (λ l. omega arith) ls
 
 module _ (k : Known) (s : List Mono) (ws : List Wire) where
   abbrev derivatives : List (List ℕ)
@@ -99,29 +83,11 @@ module _ (k : Known) (s : List Mono) (ws : List Wire) where
   module _ (j : ℕ) {end : ℕ} {l m : List ℕ} (told : Stands (getD (listingLines k s ws) j []) end l m) where
     -- a line that is told is one of the listing
     pub typed-told : (end ≡ 0 → ⊥) → j < length (listingLines k s ws)
-    typed-told f = go (test (leb (length (listingLines k s ws)) j))
-      where
-        go : Tested (leb (length (listingLines k s ws)) j) → j < length (listingLines k s ws)
-        go (passed t) =
-            let none : getD (listingLines k s ws) j [] ≡ [] = List·getD-eq-default (listingLines k s ws) [] (leb-true _ _ t) in
-            absurd (f (omega (arith, told .1 .ends, ap length none)))
-        go (failed t) = leb-false _ _ t
+    typed-told = line-told (listingLines k s ws) lines-filled j told
 
     -- none is told exactly behind the last line
     pub typed-none : (end ≡ 0) ↔ (length (listingLines k s ws) ≤ j)
-    typed-none = (out, back)
-      where
-        out : end ≡ 0 → length (listingLines k s ws) ≤ j
-        out e = go (test (leb (length (listingLines k s ws)) j))
-          where
-            go : Tested (leb (length (listingLines k s ws)) j) → length (listingLines k s ws) ≤ j
-            go (passed t) = leb-true _ _ t
-            go (failed t) = absurd (omega (arith, told .1 .ends, lines-filled j (leb-false _ _ t)))
-
-        back : length (listingLines k s ws) ≤ j → end ≡ 0
-        back h =
-            let none : getD (listingLines k s ws) j [] ≡ [] = List·getD-eq-default (listingLines k s ws) [] h in
-            omega (arith, told .1 .ends, ap length none)
+    typed-none = line-none (listingLines k s ws) lines-filled j told
 
 -- ---- the records that wiring leaves in a buffer are its list
 wire-is : (x : Wire) (bytes : List ℕ) → Decodes x bytes → wireOf bytes ≡ x

@@ -2,7 +2,7 @@
 -- writes line 0, 1, .. and stops at the first that is none has written all of them and nothing else. Assumes nothing.
 use mathlib.Core.Path.{_≡_, ap, _∙_}
 use mathlib.Core.Logic.{_↔_}
-use mathlib.Core.List.{List, [], _∷_, map}
+use mathlib.Core.List.{List, [], _∷_, _++_, map}
 use Prim.Native.Nat.{ℕ, zero, suc, _≤_, _<_}
 use native.Mathlib.Omega.{arith}
 use borrow.Author.Tests.{leb-true, leb-false}
@@ -25,6 +25,21 @@ filled-first x lines h f (suc k) i = f k (omega arith)
 
 pub filled-none : Filled []
 filled-none k h = absurd (omega arith)
+
+pub filled-both : (a b : List (List ℕ)) → Filled a → Filled b → Filled (a ++ b)
+filled-both [] b f g = g
+filled-both (x ∷ a) b f g = filled-first x (a ++ b) (f 0 (omega arith)) (filled-both a b (λ k h. f (suc k) (omega arith)) g)
+
+pub filled-made : {A : Type 0} (f : A → List ℕ) → ((x : A) → 0 < length (f x)) → (l : List A) → Filled (map f l)
+filled-made f h [] = filled-none
+filled-made f h (x ∷ l) = filled-first (f x) (map f l) (h x) (filled-made f h l)
+
+-- the lines by their numbers, one after the other, are the lines
+pub all-lines : (lines : List (List ℕ)) → map (λ k. getD lines k []) (below (length lines)) ≡ lines
+all-lines lines =
+    let n : ℕ = length lines in
+    let many : length (map (λ k. getD lines k []) (below n)) ≡ n = length-map (below n) (λ k. getD lines k []) ∙ below-length n in
+    ext-getD [] (map (λ k. getD lines k []) (below n)) lines many (λ i h. below-at (λ k. getD lines k []) n i [] (omega arith))
 
 module _ (lines : List (List ℕ)) (filled : Filled lines) where
   module _ (k : ℕ) {end : ℕ} {l m : List ℕ} (s : Stands (getD lines k []) end l m) where
@@ -70,6 +85,4 @@ module _ (lines : List (List ℕ)) (filled : Filled lines) where
     pub lines-written : map (λ k. take (ends k) (line k)) (below stop) ≡ lines
     lines-written =
         map-same (λ k. take (ends k) (line k)) (λ k. getD lines k []) (below stop) (λ k h. let low : k < stop = below-out stop k h in told k (omega arith) .1 .front)
-        ∙ rw all-told (ext-getD [] (map (λ k. getD lines k []) (below (length lines))) lines
-        (length-map (below (length lines)) (λ k. getD lines k []) ∙ below-length (length lines))
-        (λ i h. below-at (λ k. getD lines k []) (length lines) i [] (omega (arith, length-map (below (length lines)) (λ k. getD lines k []), below-length (length lines)))))
+        ∙ rw all-told (all-lines lines)
