@@ -1,5 +1,7 @@
 // The proved functions, from the static library. A lent slice is a pointer and a length, as include/planner.h says.
 
+use crate::panel::SET_BYTES;
+
 unsafe extern "C" {
     fn siragumon_wire(
         n: u64,
@@ -23,6 +25,17 @@ unsafe extern "C" {
         set_len: usize,
         out: *mut u8,
         out_len: usize,
+        five: *mut [u64; 5],
+    );
+    fn siragumon_read_listing(
+        n: u64,
+        marks: u64,
+        degree: u64,
+        terms: *const u8,
+        terms_len: usize,
+        text: *const u8,
+        text_len: usize,
+        set: *mut [u8; SET_BYTES],
         five: *mut [u64; 5],
     );
 }
@@ -77,4 +90,12 @@ pub fn wire(n: u64, marks: u64, degree: u64, terms: &[u8], set: &[u8], out: &mut
 #[allow(dead_code)]
 pub fn thin(n: u64, marks: u64, degree: u64, terms: &[u8], set: &[u8], out: &mut [u8]) -> [u64; 5] {
     on_set(siragumon_thin, n, marks, degree, terms, set, out)
+}
+
+#[allow(dead_code)]
+pub fn read(n: u64, marks: u64, degree: u64, terms: &[u8], text: &[u8], set: &mut [u8; SET_BYTES]) -> [u64; 5] {
+    let (from, len) = (terms.as_ptr(), terms.len());
+    let mut five = [0; 5];
+    unsafe { siragumon_read_listing(n, marks, degree, from, len, text.as_ptr(), text.len(), set, &mut five) };
+    five
 }

@@ -1,8 +1,10 @@
-// Prints how many bytes of stack planning, wiring and thinning take: the stack below is painted, the call runs on it,
+// Prints how many bytes of stack planning, wiring, thinning and reading a listing take: the stack below is painted, the call runs on it,
 // and then we look how far down the paint is gone. About a hundred bytes of each number are the frames of the caller.
-// Thinning goes as deep as the set is large; some of the sets take every card.
+// Thinning goes as deep as the set is large; some of the sets take every card. Reading goes as deep for every listing
+// whose lines are judged, so that two will do.
 
 mod groups;
+mod listings;
 mod panel;
 mod proved;
 mod systems;
@@ -79,4 +81,9 @@ fn main() {
         }
     }
     print_most("", all);
+    for l in listings::listings() {
+        let mut set = [0; SET_BYTES];
+        let read = measured(&mut || proved::read(2, 0, FULL_DEGREE, black_box(l.terms), black_box(&l.text), &mut set));
+        println!("{}: read code {}, bytes of stack {}", l.name, read.0[0], read.1);
+    }
 }

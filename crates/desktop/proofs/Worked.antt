@@ -43,7 +43,11 @@ row n marks limit terms text numbers set = record {
 
 -- x1' = x1^3 + x2^2; x2' = x1 + x2
 system1 : List ℕ
-system1 = 1 ∷ 0 ∷ 3 ∷ 0 ∷ 0 ∷ 0 ∷ 0 ∷ 0 ∷ 1 ∷ 0 ∷ 0 ∷ 0 ∷ 1 ∷ 0 ∷ 0 ∷ 2 ∷ 0 ∷ 0 ∷ 0 ∷ 0 ∷ 1 ∷ 0 ∷ 0 ∷ 0 ∷ 2 ∷ 0 ∷ 1 ∷ 0 ∷ 0 ∷ 0 ∷ 0 ∷ 0 ∷ 1 ∷ 0 ∷ 0 ∷ 0 ∷ 2 ∷ 0 ∷ 0 ∷ 1 ∷ 0 ∷ 0 ∷ 0 ∷ 0 ∷ 1 ∷ 0 ∷ 0 ∷ 0 ∷ []
+system1 =
+    1 ∷ 0 ∷ 3 ∷ 0 ∷ 0 ∷ 0 ∷ 0 ∷ 0 ∷ 1 ∷ 0 ∷ 0 ∷ 0
+    ∷ 1 ∷ 0 ∷ 0 ∷ 2 ∷ 0 ∷ 0 ∷ 0 ∷ 0 ∷ 1 ∷ 0 ∷ 0 ∷ 0
+    ∷ 2 ∷ 0 ∷ 1 ∷ 0 ∷ 0 ∷ 0 ∷ 0 ∷ 0 ∷ 1 ∷ 0 ∷ 0 ∷ 0
+    ∷ 2 ∷ 0 ∷ 0 ∷ 1 ∷ 0 ∷ 0 ∷ 0 ∷ 0 ∷ 1 ∷ 0 ∷ 0 ∷ 0 ∷ []
 
 -- no records
 system2 : List ℕ
@@ -59,7 +63,11 @@ system4 = 1 ∷ 0 ∷ 0 ∷ 0 ∷ 0 ∷ 0 ∷ 0 ∷ 0 ∷ 1 ∷ 0 ∷ 0 ∷ 0 �
 
 -- x1' = x1^2 x2 - 2 x3; x4' = - 15 x1 x3 + 7
 system5 : List ℕ
-system5 = 1 ∷ 0 ∷ 2 ∷ 1 ∷ 0 ∷ 0 ∷ 0 ∷ 0 ∷ 1 ∷ 0 ∷ 0 ∷ 0 ∷ 1 ∷ 0 ∷ 0 ∷ 0 ∷ 1 ∷ 0 ∷ 0 ∷ 0 ∷ 254 ∷ 255 ∷ 255 ∷ 255 ∷ 4 ∷ 0 ∷ 1 ∷ 0 ∷ 1 ∷ 0 ∷ 0 ∷ 0 ∷ 241 ∷ 255 ∷ 255 ∷ 255 ∷ 4 ∷ 0 ∷ 0 ∷ 0 ∷ 0 ∷ 0 ∷ 0 ∷ 0 ∷ 7 ∷ 0 ∷ 0 ∷ 0 ∷ []
+system5 =
+    1 ∷ 0 ∷ 2 ∷ 1 ∷ 0 ∷ 0 ∷ 0 ∷ 0 ∷ 1 ∷ 0 ∷ 0 ∷ 0
+    ∷ 1 ∷ 0 ∷ 0 ∷ 0 ∷ 1 ∷ 0 ∷ 0 ∷ 0 ∷ 254 ∷ 255 ∷ 255 ∷ 255
+    ∷ 4 ∷ 0 ∷ 1 ∷ 0 ∷ 1 ∷ 0 ∷ 0 ∷ 0 ∷ 241 ∷ 255 ∷ 255 ∷ 255
+    ∷ 4 ∷ 0 ∷ 0 ∷ 0 ∷ 0 ∷ 0 ∷ 0 ∷ 0 ∷ 7 ∷ 0 ∷ 0 ∷ 0 ∷ []
 
 -- x1' = x1^2 x2; x2' = - x1 x2^2
 system6 : List ℕ
@@ -76,39 +84,55 @@ system8 = 1 ∷ 0 ∷ 1 ∷ 0 ∷ 0 ∷ 0 ∷ 0 ∷ 0 ∷ 1 ∷ 0 ∷ 0 ∷ 0 �
 table : List Row
 table =
     -- document 000's example
-    row 2 0 324 system1 "Introduced variables:\nw0 = x1**2\nw1 = x2**2\n\nx1' = x1*w0 + w1\nx2' = x1 + x2\nw0' = 2*x1*w1 + 2*w0**2\nw1' = 2*x1*x2 + 2*w1\n" (five 0 2 0 0 0) ((0 ∷ 2 ∷ 0 ∷ 0 ∷ 0 ∷ 0 ∷ []) ∷ (2 ∷ 0 ∷ 0 ∷ 0 ∷ 0 ∷ 0 ∷ []) ∷ [])
+    row 2 0 324 system1 "Introduced variables:\nw0 = x1**2\nw1 = x2**2\n\nx1' = x1*w0 + w1\nx2' = x1 + x2\nw0' = 2*x1*w1 + 2*w0**2\nw1' = 2*x1*x2 + 2*w1\n"
+    (five 0 2 0 0 0) ((0 ∷ 2 ∷ 0 ∷ 0 ∷ 0 ∷ 0 ∷ []) ∷ (2 ∷ 0 ∷ 0 ∷ 0 ∷ 0 ∷ 0 ∷ []) ∷ [])
     -- without its last newline: one past the end
-    ∷ row 2 0 324 system1 "Introduced variables:\nw0 = x1**2\nw1 = x2**2\n\nx1' = x1*w0 + w1\nx2' = x1 + x2\nw0' = 2*x1*w1 + 2*w0**2\nw1' = 2*x1*x2 + 2*w1" (five 10 0 0 0 121) ([])
+    ∷ row 2 0 324 system1 "Introduced variables:\nw0 = x1**2\nw1 = x2**2\n\nx1' = x1*w0 + w1\nx2' = x1 + x2\nw0' = 2*x1*w1 + 2*w0**2\nw1' = 2*x1*x2 + 2*w1"
+    (five 10 0 0 0 121) ([])
     -- a newline too many
-    ∷ row 2 0 324 system1 "Introduced variables:\nw0 = x1**2\nw1 = x2**2\n\nx1' = x1*w0 + w1\nx2' = x1 + x2\nw0' = 2*x1*w1 + 2*w0**2\nw1' = 2*x1*x2 + 2*w1\n\n" (five 10 0 0 0 122) ([])
+    ∷ row 2 0 324 system1 "Introduced variables:\nw0 = x1**2\nw1 = x2**2\n\nx1' = x1*w0 + w1\nx2' = x1 + x2\nw0' = 2*x1*w1 + 2*w0**2\nw1' = 2*x1*x2 + 2*w1\n\n"
+    (five 10 0 0 0 122) ([])
     -- the empty text
     ∷ row 2 0 324 system1 "" (five 10 0 0 0 1) ([])
     -- names out of order: the set comes back ascending
-    ∷ row 2 0 324 system1 "Introduced variables:\nw0 = x2**2\nw1 = x1**2\n\nx1' = x1*w1 + w0\nx2' = x1 + x2\nw0' = 2*x1*x2 + 2*w0\nw1' = 2*x1*w0 + 2*w1**2\n" (five 0 2 0 0 0) ((0 ∷ 2 ∷ 0 ∷ 0 ∷ 0 ∷ 0 ∷ []) ∷ (2 ∷ 0 ∷ 0 ∷ 0 ∷ 0 ∷ 0 ∷ []) ∷ [])
+    ∷ row 2 0 324 system1 "Introduced variables:\nw0 = x2**2\nw1 = x1**2\n\nx1' = x1*w1 + w0\nx2' = x1 + x2\nw0' = 2*x1*x2 + 2*w0\nw1' = 2*x1*w0 + 2*w1**2\n"
+    (five 0 2 0 0 0) ((0 ∷ 2 ∷ 0 ∷ 0 ∷ 0 ∷ 0 ∷ []) ∷ (2 ∷ 0 ∷ 0 ∷ 0 ∷ 0 ∷ 0 ∷ []) ∷ [])
     -- another pair, another order, like products
-    ∷ row 2 0 324 system1 "Introduced variables:\nw0 = x1**2\nw1 = x2**2\n\nx1' = x2*x2 + w0*x1\nx2' = x1 + x2\nw0' = 2*x1*w1 + w0*w0 + w0**2\nw1' = 2*x1*x2 + 2*w1\n" (five 0 2 0 0 0) ((0 ∷ 2 ∷ 0 ∷ 0 ∷ 0 ∷ 0 ∷ []) ∷ (2 ∷ 0 ∷ 0 ∷ 0 ∷ 0 ∷ 0 ∷ []) ∷ [])
+    ∷ row 2 0 324 system1 "Introduced variables:\nw0 = x1**2\nw1 = x2**2\n\nx1' = x2*x2 + w0*x1\nx2' = x1 + x2\nw0' = 2*x1*w1 + w0*w0 + w0**2\nw1' = 2*x1*x2 + 2*w1\n"
+    (five 0 2 0 0 0) ((0 ∷ 2 ∷ 0 ∷ 0 ∷ 0 ∷ 0 ∷ []) ∷ (2 ∷ 0 ∷ 0 ∷ 0 ∷ 0 ∷ 0 ∷ []) ∷ [])
     -- false sign in the first derivative line
-    ∷ row 2 0 324 system1 "Introduced variables:\nw0 = x1**2\nw1 = x2**2\n\nx1' = x1*w0 - w1\nx2' = x1 + x2\nw0' = 2*x1*w1 + 2*w0**2\nw1' = 2*x1*x2 + 2*w1\n" (five 11 0 0 0 5) ([])
+    ∷ row 2 0 324 system1 "Introduced variables:\nw0 = x1**2\nw1 = x2**2\n\nx1' = x1*w0 - w1\nx2' = x1 + x2\nw0' = 2*x1*w1 + 2*w0**2\nw1' = 2*x1*x2 + 2*w1\n"
+    (five 11 0 0 0 5) ([])
     -- a missing term
-    ∷ row 2 0 324 system1 "Introduced variables:\nw0 = x1**2\nw1 = x2**2\n\nx1' = x1*w0 + w1\nx2' = x1\nw0' = 2*x1*w1 + 2*w0**2\nw1' = 2*x1*x2 + 2*w1\n" (five 11 0 0 0 6) ([])
+    ∷ row 2 0 324 system1 "Introduced variables:\nw0 = x1**2\nw1 = x2**2\n\nx1' = x1*w0 + w1\nx2' = x1\nw0' = 2*x1*w1 + 2*w0**2\nw1' = 2*x1*x2 + 2*w1\n"
+    (five 11 0 0 0 6) ([])
     -- a false coefficient
-    ∷ row 2 0 324 system1 "Introduced variables:\nw0 = x1**2\nw1 = x2**2\n\nx1' = x1*w0 + w1\nx2' = x1 + x2\nw0' = 2*x1*w1 + 3*w0**2\nw1' = 2*x1*x2 + 2*w1\n" (five 11 0 0 0 7) ([])
+    ∷ row 2 0 324 system1 "Introduced variables:\nw0 = x1**2\nw1 = x2**2\n\nx1' = x1*w0 + w1\nx2' = x1 + x2\nw0' = 2*x1*w1 + 3*w0**2\nw1' = 2*x1*x2 + 2*w1\n"
+    (five 11 0 0 0 7) ([])
     -- an extra term, last line
-    ∷ row 2 0 324 system1 "Introduced variables:\nw0 = x1**2\nw1 = x2**2\n\nx1' = x1*w0 + w1\nx2' = x1 + x2\nw0' = 2*x1*w1 + 2*w0**2\nw1' = 2*x1*x2 + 2*w1 + 1\n" (five 11 0 0 0 8) ([])
+    ∷ row 2 0 324 system1 "Introduced variables:\nw0 = x1**2\nw1 = x2**2\n\nx1' = x1*w0 + w1\nx2' = x1 + x2\nw0' = 2*x1*w1 + 2*w0**2\nw1' = 2*x1*x2 + 2*w1 + 1\n"
+    (five 11 0 0 0 8) ([])
     -- x3 with n = 2: at the digit
-    ∷ row 2 0 324 system1 "Introduced variables:\nw0 = x1**2\nw1 = x2**2\n\nx1' = x1*w0 + w1\nx2' = x1 + x3\nw0' = 2*x1*w1 + 2*w0**2\nw1' = 2*x1*x2 + 2*w1\n" (five 10 0 0 0 75) ([])
+    ∷ row 2 0 324 system1 "Introduced variables:\nw0 = x1**2\nw1 = x2**2\n\nx1' = x1*w0 + w1\nx2' = x1 + x3\nw0' = 2*x1*w1 + 2*w0**2\nw1' = 2*x1*x2 + 2*w1\n"
+    (five 10 0 0 0 75) ([])
     -- w2 with two names: at the digit
-    ∷ row 2 0 324 system1 "Introduced variables:\nw0 = x1**2\nw1 = x2**2\n\nx1' = x1*w0 + w1\nx2' = x1 + x2\nw0' = 2*x1*w1 + 2*w0**2\nw1' = 2*x1*x2 + 2*w2\n" (five 10 0 0 0 120) ([])
+    ∷ row 2 0 324 system1 "Introduced variables:\nw0 = x1**2\nw1 = x2**2\n\nx1' = x1*w0 + w1\nx2' = x1 + x2\nw0' = 2*x1*w1 + 2*w0**2\nw1' = 2*x1*x2 + 2*w2\n"
+    (five 10 0 0 0 120) ([])
     -- three names: at the third star
-    ∷ row 2 0 324 system1 "Introduced variables:\nw0 = x1**2\nw1 = x2**2\n\nx1' = x1*w0 + w1\nx2' = x1 + x2\nw0' = 2*x1*w1 + 2*w0**2\nw1' = 2*x1*x2*x1 + 2*w1\n" (five 10 0 0 0 114) ([])
+    ∷ row 2 0 324 system1 "Introduced variables:\nw0 = x1**2\nw1 = x2**2\n\nx1' = x1*w0 + w1\nx2' = x1 + x2\nw0' = 2*x1*w1 + 2*w0**2\nw1' = 2*x1*x2*x1 + 2*w1\n"
+    (five 10 0 0 0 114) ([])
     -- the line of x3 is missing: at the w
-    ∷ row 3 0 324 system1 "Introduced variables:\nw0 = x1**2\nw1 = x2**2\n\nx1' = x1*w0 + w1\nx2' = x1 + x2\nw0' = 2*x1*w1 + 2*w0**2\nw1' = 2*x1*x2 + 2*w1\n" (five 10 0 0 0 77) ([])
+    ∷ row 3 0 324 system1 "Introduced variables:\nw0 = x1**2\nw1 = x2**2\n\nx1' = x1*w0 + w1\nx2' = x1 + x2\nw0' = 2*x1*w1 + 2*w0**2\nw1' = 2*x1*x2 + 2*w1\n"
+    (five 10 0 0 0 77) ([])
     -- a w where nothing is named: at the w itself
     ∷ row 1 0 324 system2 "Introduced variables:\n\nx1' = w0 - w0\n" (five 10 0 0 0 30) ([])
     -- a seventh name line: at its w
-    ∷ row 1 0 324 system2 "Introduced variables:\nw0 = x1**2\nw1 = x1**3\nw2 = x1**4\nw3 = x1**5\nw4 = x1**6\nw5 = x1**7\nw6 = x1**8\n\nx1' = 0\nw0' = 0\nw1' = 0\nw2' = 0\nw3' = 0\nw4' = 0\nw5' = 0\nw6' = 0\n" (five 10 0 0 0 89) ([])
+    ∷ row 1 0 324 system2 "Introduced variables:\nw0 = x1**2\nw1 = x1**3\nw2 = x1**4\nw3 = x1**5\nw4 = x1**6\nw5 = x1**7\nw6 = x1**8\n\nx1' = 0\nw0' = 0\nw1' = 0\nw2' = 0\nw3' = 0\nw4' = 0\nw5' = 0\nw6' = 0\n"
+    (five 10 0 0 0 89) ([])
     -- six names
-    ∷ row 1 0 324 system2 "Introduced variables:\nw0 = x1**2\nw1 = x1**3\nw2 = x1**4\nw3 = x1**5\nw4 = x1**6\nw5 = x1**7\n\nx1' = 0\nw0' = 0\nw1' = 0\nw2' = 0\nw3' = 0\nw4' = 0\nw5' = 0\n" (five 0 6 0 0 0) ((2 ∷ 0 ∷ 0 ∷ 0 ∷ 0 ∷ 0 ∷ []) ∷ (3 ∷ 0 ∷ 0 ∷ 0 ∷ 0 ∷ 0 ∷ []) ∷ (4 ∷ 0 ∷ 0 ∷ 0 ∷ 0 ∷ 0 ∷ []) ∷ (5 ∷ 0 ∷ 0 ∷ 0 ∷ 0 ∷ 0 ∷ []) ∷ (6 ∷ 0 ∷ 0 ∷ 0 ∷ 0 ∷ 0 ∷ []) ∷ (7 ∷ 0 ∷ 0 ∷ 0 ∷ 0 ∷ 0 ∷ []) ∷ [])
+    ∷ row 1 0 324 system2 "Introduced variables:\nw0 = x1**2\nw1 = x1**3\nw2 = x1**4\nw3 = x1**5\nw4 = x1**6\nw5 = x1**7\n\nx1' = 0\nw0' = 0\nw1' = 0\nw2' = 0\nw3' = 0\nw4' = 0\nw5' = 0\n"
+    (five 0 6 0 0 0) ((2 ∷ 0 ∷ 0 ∷ 0 ∷ 0 ∷ 0 ∷ []) ∷ (3 ∷ 0 ∷ 0 ∷ 0 ∷ 0 ∷ 0 ∷ []) ∷ (4 ∷ 0 ∷ 0 ∷ 0 ∷ 0 ∷ 0 ∷ [])
+    ∷ (5 ∷ 0 ∷ 0 ∷ 0 ∷ 0 ∷ 0 ∷ []) ∷ (6 ∷ 0 ∷ 0 ∷ 0 ∷ 0 ∷ 0 ∷ []) ∷ (7 ∷ 0 ∷ 0 ∷ 0 ∷ 0 ∷ 0 ∷ []) ∷ [])
     -- names begin with w0: at the digit
     ∷ row 1 0 324 system2 "Introduced variables:\nw1 = x1**2\n\nx1' = 0\nw1' = 0\n" (five 10 0 0 0 24) ([])
     -- the largest coefficient
@@ -154,15 +178,18 @@ table =
     -- two names for one monomial
     ∷ row 2 0 324 system2 "Introduced variables:\nw0 = x1*x2\nw1 = x2*x1\n\nx1' = 0\nx2' = 0\nw0' = 0\nw1' = 0\n" (five 8 0 0 0 0) ([])
     -- a junior kit of 3, at its limit
-    ∷ row 2 0 3 system2 "Introduced variables:\nw0 = x1**3\nw1 = x1*x2**2\n\nx1' = 0\nx2' = 0\nw0' = 0\nw1' = 0\n" (five 0 2 0 0 0) ((1 ∷ 2 ∷ 0 ∷ 0 ∷ 0 ∷ 0 ∷ []) ∷ (3 ∷ 0 ∷ 0 ∷ 0 ∷ 0 ∷ 0 ∷ []) ∷ [])
+    ∷ row 2 0 3 system2 "Introduced variables:\nw0 = x1**3\nw1 = x1*x2**2\n\nx1' = 0\nx2' = 0\nw0' = 0\nw1' = 0\n"
+    (five 0 2 0 0 0) ((1 ∷ 2 ∷ 0 ∷ 0 ∷ 0 ∷ 0 ∷ []) ∷ (3 ∷ 0 ∷ 0 ∷ 0 ∷ 0 ∷ 0 ∷ []) ∷ [])
     -- a junior kit of 3, above its limit
     ∷ row 2 0 3 system2 "Introduced variables:\nw0 = x1**3\nw1 = x1**2*x2**2\n\nx1' = 0\nx2' = 0\nw0' = 0\nw1' = 0\n" (five 8 0 0 0 0) ([])
     -- x3 is a signal: it stands in terms and has no line
-    ∷ row 4 4 324 system5 "Introduced variables:\nw0 = x1*x2\n\nx1' = x1*w0 - 2*x3\nx2' = 0\nx4' = -15*x1*x3 + 7\nw0' = w0**2 - 2*x2*x3\n" (five 0 1 0 0 0) ((1 ∷ 1 ∷ 0 ∷ 0 ∷ 0 ∷ 0 ∷ []) ∷ [])
+    ∷ row 4 4 324 system5 "Introduced variables:\nw0 = x1*x2\n\nx1' = x1*w0 - 2*x3\nx2' = 0\nx4' = -15*x1*x3 + 7\nw0' = w0**2 - 2*x2*x3\n"
+    (five 0 1 0 0 0) ((1 ∷ 1 ∷ 0 ∷ 0 ∷ 0 ∷ 0 ∷ []) ∷ [])
     -- the signal in a name
     ∷ row 4 4 324 system5 "Introduced variables:\nw0 = x1*x3\n\nx1' = x1*w0 - 2*x3\nx2' = 0\nx4' = -15*x1*x3 + 7\nw0' = w0**2 - 2*x2*x3\n" (five 8 0 0 0 0) ([])
     -- a line for the signal: at the 3
-    ∷ row 4 4 324 system5 "Introduced variables:\nw0 = x1*x2\n\nx1' = x1*w0 - 2*x3\nx2' = 0\nx3' = 0\nx4' = -15*x1*x3 + 7\nw0' = w0**2 - 2*x2*x3\n" (five 10 0 0 0 63) ([])
+    ∷ row 4 4 324 system5 "Introduced variables:\nw0 = x1*x2\n\nx1' = x1*w0 - 2*x3\nx2' = 0\nx3' = 0\nx4' = -15*x1*x3 + 7\nw0' = w0**2 - 2*x2*x3\n"
+    (five 10 0 0 0 63) ([])
     -- all are signals: heading and blank line
     ∷ row 2 3 324 system2 "Introduced variables:\n\n" (five 0 0 0 0 0) ([])
     -- a new monomial whose derivative cancels
@@ -184,5 +211,10 @@ table =
     ∷ []
 
 worked : map (λ r. r .got) table ≡ map (λ r. r .want) table
-unfolding table row system1 system2 system3 system4 system5 system6 system7 system8 written readListing judged linesSaid falseLine lineTests lineTrue equal spoken multiplied formsSet distinct monomialRight exponentsRight mayBe free degree any some all keep place gather below pairwise pointwise dictionary insertBy arrangeBy vars setRecord signals derivative partsFrom times coeff isZero signed meaning.signed records system equation faultFrom termRight coefficientRight lengthRight panelRight countRight degreeRight halved marked said run lasts heard noted saying sayingAt nameSaid digitSaid starSaid numberSaid minusSaid termSaid named told eat eatAt one span ended spell lineFrom beginName beginTerm behind inCoefficient beginLine leftOf lefts letterOf digitOf unmarked upFrom
+unfolding table row system1 system2 system3 system4 system5 system6 system7 system8 written readListing judged linesSaid falseLine lineTests lineTrue
+    equal spoken multiplied formsSet distinct monomialRight exponentsRight mayBe free degree any some all keep place gather below pairwise pointwise
+    dictionary insertBy arrangeBy vars setRecord signals derivative partsFrom times coeff isZero signed meaning.signed records system equation
+    faultFrom termRight coefficientRight lengthRight panelRight countRight degreeRight halved marked said run lasts heard noted saying sayingAt
+    nameSaid digitSaid starSaid numberSaid minusSaid termSaid named told eat eatAt one span ended spell lineFrom beginName beginTerm behind
+    inCoefficient beginLine leftOf lefts letterOf digitOf unmarked upFrom
 worked = refl

@@ -3,7 +3,7 @@ use mathlib.Core.Path.{_≡_, refl, sym, ap, _∙_, subst}
 use mathlib.Core.Logic.{_⊎_, ⊎-elim}
 use mathlib.Core.Bool.{Bool, true, false, cond}
 use mathlib.Core.List.{List, [], _∷_, _++_, List·Memᴰ·append-cases, List·Memᴰ·eq-of-singleton}
-use Prim.Native.Nat.{ℕ, zero, suc, _+_, _≤_, _<_}
+use Prim.Native.Nat.{ℕ, zero, suc, _+_, _-_, _≤_, _<_}
 use native.Mathlib.Omega.{arith}
 use native.Mathlib.Numerals.{add-one}
 use borrow.Author.Tests.{ltb-true, ltb-false}
@@ -34,6 +34,7 @@ use Rattle.listing.specs.declared.machine.Reading.{Reading}
 use Rattle.listing.specs.declared.machine.Reading.the-variants.{Dead, Ended, At}
 use Rattle.listing.specs.declared.saying.Saying.{Saying}
 use Rattle.listing.proofs.Counts.{line-here}
+use Rattle.listing.proofs.Lines.{lefts-length}
 use Rattle.listing.proofs.Following.{Following, following-start, following-next, following-whole, following-more, following-grows, lived}
 use Rattle.listing.proofs.Notes.{Noted, Knows}
 use Rattle.listing.proofs.Places.{lively}
@@ -63,6 +64,10 @@ module _ (known : Known) (terms : List ℕ) (v : Signals) (text : List ℕ) (j :
 
   abbrev count : ℕ
   count = length (names known text)
+
+  -- as the code finds it
+  pub going-named : v .len - known .n - 1 ≡ count
+  going-named = omega (arith, j .size)
 
   -- line number i as it is told, from 0
   abbrev True : List (List Product) → ℕ → Type 0
@@ -167,10 +172,13 @@ module _ (known : Known) (terms : List ℕ) (v : Signals) (text : List ℕ) (j :
         all-named = following-whole known text (a .follows) in-lines
 
         -- it is one of those that are to come
-        pub going-here : line < length (lefts known count)
+        going-here : line < length (lefts known count)
         going-here =
             ⊎-elim (λ z. absurd (omega (arith, ends-counts σ c))) (λ l. rw (a .counted, ← ap length all-named) l)
             (line-here known (length (a .notes .whole)) (length (a .told .lines)) g x (a .follows .counts) in-lines)
+
+        pub going-low : line < known .n + count
+        going-low = omega (arith, going-here, lefts-length known count)
 
         pub going-few : count ≤ known .cards
         going-few = rw (← ap length all-named) (a .follows .few)

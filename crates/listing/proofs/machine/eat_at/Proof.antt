@@ -1,11 +1,18 @@
 -- `eat_at` meets its contract: place by place: what the arm's calls ensure is the clause of `eatAt`. Assumes nothing.
-use mathlib.Core.Path.{refl, sym, ap}
-use Prim.Native.Nat.{_+_, _<_}
+use mathlib.Core.Path.{_≡_, refl, sym, ap}
+use Prim.Native.Nat.{ℕ, _+_, _<_}
 use native.Mathlib.Omega.{arith}
 use Rattle.listing.specs.Machine.{eatAt}
+use Rattle.listing.specs.declared.machine.Known.{Known}
+use Rattle.listing.specs.declared.machine.State.{State}
+use Rattle.listing.specs.declared.machine.Place.{Place}
 use borrow.Author.Needs.{needs}
 use Rattle.listing.proofs.machine.eat_at.Statement.{statement}
 use Rattle.listing.proofs.machine.eat_at.Tie as tie
+
+-- what is said of the place where the byte stands
+at-place : (r : Known) (x : ℕ) (s : State) (p : Place) → s .at ≡ p → eatAt r x s p ≡ eatAt r x s (s .at)
+at-place r x s p e = sym (ap (eatAt r x s) e)
 
 enum-told : tie.Need-enum-told
 enum-told c = c .match .keys1
@@ -270,115 +277,115 @@ one-requires-16 c κs = tt
 
 returns : tie.Need-returns
 unfolding eatAt
-returns c = let q = c .before .before .before .before .before .args in rw (c .spell .ensures, c .before .to .ensures) (sym (ap (eatAt (q .known) (q .x) (q .s)) (c .before .before .before .enum-told .given .1)))
+returns c = rw (c .spell .ensures, c .before .to .ensures) (at-place _ _ _ _ (c .before .before .before .enum-told .given .1))
 
 returns-2 : tie.Need-returns-2
 unfolding eatAt
-returns-2 c = let q = c .before .before .before .args in rw (c .begin-line .ensures) (sym (ap (eatAt (q .known) (q .x) (q .s)) (c .before .enum-told2 .given .1)))
+returns-2 c = rw (c .begin-line .ensures) (at-place _ _ _ _ (c .before .enum-told2 .given .1))
 
 returns-3 : tie.Need-returns-3
 unfolding eatAt
-returns-3 c = let q = c .before .before .before .before .args in rw (c .one .ensures) (sym (ap (eatAt (q .known) (q .x) (q .s)) (c .before .before .enum-told3 .given .1)))
+returns-3 c = rw (c .one .ensures) (at-place _ _ _ _ (c .before .before .enum-told3 .given .1))
 
 returns-4 : tie.Need-returns-4
 unfolding eatAt
-returns-4 c = let q = c .before .before .before .before .before .args in rw (c .spell2 .ensures, c .before .to2 .ensures) (sym (ap (eatAt (q .known) (q .x) (q .s)) (c .before .before .before .enum-told4 .given .1)))
+returns-4 c = rw (c .spell2 .ensures, c .before .to2 .ensures) (at-place _ _ _ _ (c .before .before .before .enum-told4 .given .1))
 
 returns-5 : tie.Need-returns-5
 unfolding eatAt
-returns-5 c = let q = c .before .before .before .before .args in rw (c .span .ensures) (sym (ap (eatAt (q .known) (q .x) (q .s)) (c .before .before .enum-told5 .given .1)))
+returns-5 c = rw (c .span .ensures) (at-place _ _ _ _ (c .before .before .enum-told5 .given .1))
 
 returns-6 : tie.Need-returns-6
 unfolding eatAt
-returns-6 c = let q = c .before .before .before .before .before .args in rw (c .one2 .ensures, c .before .ended .ensures, c .before .before .named .ensures) (sym (ap (eatAt (q .known) (q .x) (q .s)) (c .before .before .before .enum-told6 .given .1)))
+returns-6 c = rw (c .one2 .ensures, c .before .ended .ensures, c .before .before .named .ensures) (at-place _ _ _ _ (c .before .before .before .enum-told6 .given .1))
 
 returns-7 : tie.Need-returns-7
 unfolding eatAt
-returns-7 c = let q = c .before .before .before .before .args in rw (c .one4 .ensures, c .before .one3 .ensures) (sym (ap (eatAt (q .known) (q .x) (q .s)) (c .before .before .enum-told7 .given .1)))
+returns-7 c = rw (c .one4 .ensures, c .before .one3 .ensures) (at-place _ _ _ _ (c .before .before .enum-told7 .given .1))
 
 returns-8 : tie.Need-returns-8
 unfolding eatAt
-returns-8 c = let q = c .before .before .before .args in rw (c .span2 .ensures) (sym (ap (eatAt (q .known) (q .x) (q .s)) (c .before .enum-told8 .given .1)))
+returns-8 c = rw (c .span2 .ensures) (at-place _ _ _ _ (c .before .enum-told8 .given .1))
 
 returns-9 : tie.Need-returns-9
 unfolding eatAt
-returns-9 c = let q = c .before .before .before .before .before .before .args in rw (c .span3 .ensures, c .before .one5 .ensures, c .before .before .ended2 .ensures, c .before .before .before .named2 .ensures) (sym (ap (eatAt (q .known) (q .x) (q .s)) (c .before .before .before .before .enum-told9 .given .1)))
+returns-9 c = rw (c .span3 .ensures, c .before .one5 .ensures, c .before .before .ended2 .ensures, c .before .before .before .named2 .ensures) (at-place _ _ _ _ (c .before .before .before .before .enum-told9 .given .1))
 
 returns-10 : tie.Need-returns-10
 unfolding eatAt
-returns-10 c = let q = c .before .before .before .args in rw (c .one6 .ensures) (sym (ap (eatAt (q .known) (q .x) (q .s)) (c .before .enum-told10 .given .1)))
+returns-10 c = rw (c .one6 .ensures) (at-place _ _ _ _ (c .before .enum-told10 .given .1))
 
 returns-11 : tie.Need-returns-11
 unfolding eatAt
-returns-11 c = let q = c .before .before .before .before .before .args in rw (c .one7 .ensures, c .before .letter-of .ensures, c .before .before .left-of .ensures .0) (sym (ap (eatAt (q .known) (q .x) (q .s)) (c .before .before .before .enum-told11 .given .1)))
+returns-11 c = rw (c .one7 .ensures, c .before .letter-of .ensures, c .before .before .left-of .ensures .0) (at-place _ _ _ _ (c .before .before .before .enum-told11 .given .1))
 
 returns-12 : tie.Need-returns-12
 unfolding eatAt
-returns-12 c = let q = c .before .before .before .before .before .args in rw (c .one8 .ensures, c .before .digit-of .ensures, c .before .before .left-of2 .ensures .0) (sym (ap (eatAt (q .known) (q .x) (q .s)) (c .before .before .before .enum-told12 .given .1)))
+returns-12 c = rw (c .one8 .ensures, c .before .digit-of .ensures, c .before .before .left-of2 .ensures .0) (at-place _ _ _ _ (c .before .before .before .enum-told12 .given .1))
 
 returns-13 : tie.Need-returns-13
 unfolding eatAt
-returns-13 c = let q = c .before .before .before .before .before .args in rw (c .spell3 .ensures, c .before .to3 .ensures) (sym (ap (eatAt (q .known) (q .x) (q .s)) (c .before .before .before .enum-told13 .given .1)))
+returns-13 c = rw (c .spell3 .ensures, c .before .to3 .ensures) (at-place _ _ _ _ (c .before .before .before .enum-told13 .given .1))
 
 returns-14 : tie.Need-returns-14
 unfolding eatAt
-returns-14 c = let q = c .before .before .before .before .before .args in rw (c .one10 .ensures, c .before .one9 .ensures, c .before .before .begin-term .ensures) (sym (ap (eatAt (q .known) (q .x) (q .s)) (c .before .before .before .enum-told14 .given .1)))
+returns-14 c = rw (c .one10 .ensures, c .before .one9 .ensures, c .before .before .begin-term .ensures) (at-place _ _ _ _ (c .before .before .before .enum-told14 .given .1))
 
 returns-15 : tie.Need-returns-15
 unfolding eatAt
-returns-15 c = let q = c .before .before .before .before .before .args in rw (c .ended3 .ensures, c .before .line-from .ensures) (sym (ap (eatAt (q .known) (q .x) (q .s)) (c .before .before .before .enum-told15 .given .1)))
+returns-15 c = rw (c .ended3 .ensures, c .before .line-from .ensures) (at-place _ _ _ _ (c .before .before .before .enum-told15 .given .1))
 
 returns-16 : tie.Need-returns-16
 unfolding eatAt
-returns-16 c = let q = c .before .before .before .args in rw (c .begin-term2 .ensures) (sym (ap (eatAt (q .known) (q .x) (q .s)) (c .before .enum-told16 .given .1)))
+returns-16 c = rw (c .begin-term2 .ensures) (at-place _ _ _ _ (c .before .enum-told16 .given .1))
 
 returns-17 : tie.Need-returns-17
 unfolding eatAt
-returns-17 c = let q = c .before .before .before .args in rw (c .in-coefficient .ensures) (sym (ap (eatAt (q .known) (q .x) (q .s)) (c .before .enum-told17 .given .1)))
+returns-17 c = rw (c .in-coefficient .ensures) (at-place _ _ _ _ (c .before .enum-told17 .given .1))
 
 returns-18 : tie.Need-returns-18
 unfolding eatAt
-returns-18 c = let q = c .before .before .before .args in rw (c .begin-name .ensures) (sym (ap (eatAt (q .known) (q .x) (q .s)) (c .before .enum-told18 .given .1)))
+returns-18 c = rw (c .begin-name .ensures) (at-place _ _ _ _ (c .before .enum-told18 .given .1))
 
 returns-19 : tie.Need-returns-19
 unfolding eatAt
-returns-19 c = let q = c .before .before .before .before .args in rw (c .span4 .ensures) (sym (ap (eatAt (q .known) (q .x) (q .s)) (c .before .before .enum-told19 .given .1)))
+returns-19 c = rw (c .span4 .ensures) (at-place _ _ _ _ (c .before .before .enum-told19 .given .1))
 
 returns-20 : tie.Need-returns-20
 unfolding eatAt
-returns-20 c = let q = c .before .before .before .before .args in rw (c .span5 .ensures) (sym (ap (eatAt (q .known) (q .x) (q .s)) (c .before .before .enum-told20 .given .1)))
+returns-20 c = rw (c .span5 .ensures) (at-place _ _ _ _ (c .before .before .enum-told20 .given .1))
 
 returns-21 : tie.Need-returns-21
 unfolding eatAt
-returns-21 c = let q = c .before .before .before .before .args in rw (c .one11 .ensures, c .before .behind .ensures) (sym (ap (eatAt (q .known) (q .x) (q .s)) (c .before .before .enum-told21 .given .1)))
+returns-21 c = rw (c .one11 .ensures, c .before .behind .ensures) (at-place _ _ _ _ (c .before .before .enum-told21 .given .1))
 
 returns-22 : tie.Need-returns-22
 unfolding eatAt
-returns-22 c = let q = c .before .before .before .before .args in rw (c .one12 .ensures, c .before .begin-name2 .ensures) (sym (ap (eatAt (q .known) (q .x) (q .s)) (c .before .before .enum-told22 .given .1)))
+returns-22 c = rw (c .one12 .ensures, c .before .begin-name2 .ensures) (at-place _ _ _ _ (c .before .before .enum-told22 .given .1))
 
 returns-23 : tie.Need-returns-23
 unfolding eatAt
-returns-23 c = let q = c .before .before .before .args in rw (c .one13 .ensures) (sym (ap (eatAt (q .known) (q .x) (q .s)) (c .before .enum-told23 .given .1)))
+returns-23 c = rw (c .one13 .ensures) (at-place _ _ _ _ (c .before .enum-told23 .given .1))
 
 returns-24 : tie.Need-returns-24
 unfolding eatAt
-returns-24 c = let q = c .before .before .before .before .args in rw (c .span6 .ensures) (sym (ap (eatAt (q .known) (q .x) (q .s)) (c .before .before .enum-told24 .given .1)))
+returns-24 c = rw (c .span6 .ensures) (at-place _ _ _ _ (c .before .before .enum-told24 .given .1))
 
 returns-25 : tie.Need-returns-25
 unfolding eatAt
-returns-25 c = let q = c .before .before .before .before .args in rw (c .span7 .ensures) (sym (ap (eatAt (q .known) (q .x) (q .s)) (c .before .before .enum-told25 .given .1)))
+returns-25 c = rw (c .span7 .ensures) (at-place _ _ _ _ (c .before .before .enum-told25 .given .1))
 
 returns-26 : tie.Need-returns-26
 unfolding eatAt
-returns-26 c = let q = c .before .before .before .args in rw (c .behind2 .ensures) (sym (ap (eatAt (q .known) (q .x) (q .s)) (c .before .enum-told26 .given .1)))
+returns-26 c = rw (c .behind2 .ensures) (at-place _ _ _ _ (c .before .enum-told26 .given .1))
 
 returns-27 : tie.Need-returns-27
 unfolding eatAt
-returns-27 c = let q = c .before .before .before .before .args in rw (c .one15 .ensures, c .before .one14 .ensures) (sym (ap (eatAt (q .known) (q .x) (q .s)) (c .before .before .enum-told27 .given .1)))
+returns-27 c = rw (c .one15 .ensures, c .before .one14 .ensures) (at-place _ _ _ _ (c .before .before .enum-told27 .given .1))
 
 returns-28 : tie.Need-returns-28
 unfolding eatAt
-returns-28 c = let q = c .before .before .before .args in rw (c .one16 .ensures) (sym (ap (eatAt (q .known) (q .x) (q .s)) (c .before .enum-told28 .given .1)))
+returns-28 c = rw (c .one16 .ensures) (at-place _ _ _ _ (c .before .enum-told28 .given .1))
 
 pub eat-at-spec : {M : Type 1} → statement M
 eat-at-spec =
