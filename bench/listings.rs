@@ -1,5 +1,5 @@
-// Two listings of the desktop tool that are right for document 000's example: its own, and one as long as is read, whose
-// first line has terms that cancel.
+// Two listings of the desktop tool that are right for document 000's example: its own, and one as long as is read,
+// whose first line has terms that cancel.
 
 // x1' = x1^3 + x2^2, x2' = x1 + x2.
 const TERMS: [u8; 48] = [

@@ -45,6 +45,7 @@ unsafe extern "C" {
 // Planning, by the name that it has in its archive.
 macro_rules! planning {
     ($name:ident, $symbol:ident) => {
+        #[allow(dead_code)]
         pub fn $name(n: u64, marks: u64, degree: u64, cap: u64, limit: u64, terms: &[u8], out: &mut [u8]) -> [u64; 5] {
             unsafe extern "C" {
                 fn $symbol(

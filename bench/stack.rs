@@ -1,7 +1,7 @@
-// Prints how many bytes of stack planning, wiring, thinning and reading a listing take: the stack below is painted, the call runs on it,
-// and then we look how far down the paint is gone. About a hundred bytes of each number are the frames of the caller.
-// Thinning goes as deep as the set is large; some of the sets take every card. Reading goes as deep for every listing
-// whose lines are judged, so that two will do.
+// Prints how many bytes of stack planning, wiring, thinning and reading a listing take: the stack below is painted, the
+// call runs on it, and then we look how far down the paint is gone. About a hundred bytes of each number are the frames
+// of the caller. Thinning goes as deep as the set is large; some of the sets take every card. Reading goes as deep for
+// every listing whose lines are judged, so that two will do.
 
 mod groups;
 mod listings;
