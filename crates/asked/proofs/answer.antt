@@ -1,3 +1,2 @@
 -- The laws of the module answer.
-pub mod Laws
 pub mod Exact

@@ -3,6 +3,7 @@ use super::lengths::NUMBER_BYTES;
 ghost use mathlib.Core.Path.{_≡_};
 ghost use mathlib.Core.List.{map};
 ghost use Prim.Native.Nat.{_+_, _*_, _≤_, _<_};
+ghost use lib.IntN.{natAbs};
 ghost use lib.ListN.{length};
 ghost use Rattle.lines.specs.Lengths.{numberBytes, pieceBytes};
 ghost use Rattle.lines.specs.Text.{decimal, signedText, joined, lead, Added};
@@ -37,17 +38,28 @@ pub fn put_number(n: u64, line: &mut [u8], at: usize) -> usize
     put_text(&digits[..k], line, at)
 }
 
-// A signed number. The size of one below 0 is found by way of -1 - c, which fits for every c.
+// The size of a number. That of one below 0 is found by way of -1 - c, which fits for every c.
+pub fn size_of(c: i32) -> u64
+    ensures { λ r. ⌜ r ≡ natAbs c ⌝ }
+{
+    if 0 <= c {
+        return c as u64;
+    }
+    let k = -1 - c;
+    k as u64 + 1
+}
+
+// A signed number.
 pub(crate) fn put_signed(c: i32, line: &mut [u8], at: usize) -> usize
     requires { ⌜ at + pieceBytes ≤ length (now line) ⌝ }
     ensures { λ r. ⌜ Added (signedText c) at r (now (line .entry)) (now (line .exit)) × (r ≤ at + 21) ⌝ }
 {
+    let size = size_of(c);
     if 0 <= c {
-        return put_number(c as u64, line, at);
+        return put_number(size, line, at);
     }
-    let k = -1 - c;
     let next = put_text(b"-", line, at);
-    put_number(k as u64 + 1, line, next)
+    put_number(size, line, next)
 }
 
 // What stands before piece number i: nothing before the first.

@@ -1,3 +1,3 @@
--- Laws that belong to no module of src/. Those of a module stand under its name: words, input, typing, reading.
+-- Laws that belong to no module of src/. Those of a module stand under its name: words, typing, reading.
 pub mod Written
 pub mod Enough

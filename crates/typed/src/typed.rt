@@ -10,7 +10,6 @@ use wiring::panel::WIRE_BYTES;
 ghost use mathlib.Core.Path.{_≡_};
 ghost use mathlib.Core.List.{map};
 ghost use Prim.Native.Nat.{_+_, _*_, _≤_, _<_};
-ghost use lib.IntN.{natAbs};
 ghost use lib.ListN.{length, take, drop};
 ghost use Rattle.monomial.specs.Monomial.{width};
 ghost use Rattle.wiring.specs.Panel.{cards, wireBytes, mostSignals};
@@ -90,17 +89,6 @@ fn is_negative(c: i32) -> bool
     if 0 <= c { false } else { true }
 }
 
-// The size of a number. That of one below 0 is found by way of -1 - c, which fits for every c.
-fn size_of(c: i32) -> u64
-    ensures { λ r. ⌜ r ≡ natAbs c ⌝ }
-{
-    if 0 <= c {
-        return c as u64;
-    }
-    let k = -1 - c;
-    k as u64 + 1
-}
-
 // The coefficient that is written before the product of two signals, 0 for none.
 fn written(size: u64, a: u64, b: u64) -> u64
     requires { ⌜ (a ≤ 18) × (b ≤ 18) ⌝ }
@@ -125,7 +113,7 @@ fn put_term(known: Known, wires: &[u8], j: usize, i: usize, line: &mut [u8], at:
     let b = text::wide(wires[from + 2]);
     let c = coefficient::decode(wires, from + 4);
     let next = put_sign(is_negative(c), i, line, at);
-    put_body(known, written(size_of(c), a, b), a, b, line, next)
+    put_body(known, written(text::size_of(c), a, b), a, b, line, next)
 }
 
 // The right side of the line of signal l.

@@ -1,13 +1,24 @@
 -- Whole numbers: sizes of sums and products, and the laws of the product that the library leaves out. Assumes nothing.
 use mathlib.Core.Path.{_≡_, refl, sym, ap, ap₂, _∙_}
-use Prim.Native.Nat.{ℕ, zero, suc, _+_, _*_, _<_, _≤_}
+use Prim.Native.Nat.{ℕ, zero, suc, _+_, _*_, _^_, _<_, _≤_}
 use native.Mathlib.Omega.{arith}
 use borrow.Author.Tests.{ltb-true}
 use lib.Dec.{ltb}
 use lib.IntN.{ℤ, pos, negsuc, natAbs, negℤ, subℕ, _+ℤ_, _-ℤ_, _*ℤ_, +ℤ-idl, +ℤ-comm, +ℤ-assoc, +ℤ-one, -ℤ-one, sucℤ-+ℤ, predℤ-+ℤ, sucℤ-*ℤ, predℤ-*ℤ, zero-*ℤ, *ℤ-comm, ℤ-ind}
+use lib.Signed.{mag}
+use mir.Syntax.{Width}
+use mir.Val.{SFits, hbits}
 use Rattle.monomial.proofs.Tests.{Tested, passed, failed, test}
 
 -- ---- sizes
+mag-abs : (z : ℤ) → mag z ≤ natAbs z
+mag-abs (pos n) = omega arith
+mag-abs (negsuc n) = omega arith
+
+-- a number fits w bits where its size is below 2^(w - 1)
+pub size-fits : (w : Width) (z : ℤ) → natAbs z < 2 ^ hbits w → SFits w z
+size-fits w z h = record { sfits = omega (arith, mag-abs z) }
+
 abs-sub : (a b : ℕ) → natAbs (subℕ a b) ≤ a + b
 abs-sub a b = go (test (ltb a b))
   where

@@ -21,7 +21,7 @@ use Rattle.io.specs.Digits.{digits, Fewest}
 use Rattle.monomial.specs.Lists.{gather}
 use Rattle.monomial.proofs.Tests.{Tested, passed, failed, test, is→nT}
 use Rattle.monomial.proofs.Members.{gather-append}
-use Rattle.wiring.proofs.coefficient.Laws.{bits-high-fits}
+use Rattle.wiring.proofs.coefficient.Laws.{minus-negsuc, bits-high-fits}
 use Rattle.lines.specs.Lengths.{numberBytes}
 use Rattle.lines.specs.Text.{minus, decimalWithin, decimal, signedText, joined, lead, Added, Stands}
 
@@ -123,29 +123,32 @@ unfolding decimal
 digits-are k n f = digits-decimal k (suc n) n (omega arith) f
 
 -- ---- signed numbers, as the machine takes them on 32 bits
-size-below : (n : ℕ) → negsuc 0 -ℤ negsuc n ≡ pos n
-size-below n = rw (le-ltb (suc n) 1 (omega arith)) (ap pos (omega arith))
+size-is : (z : ℤ) → leZ (pos 0) z ≡ false → natAbs (negsuc 0 -ℤ z) + 1 ≡ natAbs z
+size-is (pos n) e = absurd (omega (arith, leb-false 0 n e))
+size-is (negsuc n) e = rw (minus-negsuc n, add-one n)
 
 text-low : (z : ℤ) → leZ (pos 0) z ≡ true → decimal (natAbs z) ≡ signedText z
 unfolding signedText
 text-low (pos n) e = refl
 text-low (negsuc n) e = absurd (is→nT true (sym e) tt)
 
-text-high : (z : ℤ) → leZ (pos 0) z ≡ false → minus ∷ decimal (natAbs (negsuc 0 -ℤ z) + 1) ≡ signedText z
+text-high : (z : ℤ) → leZ (pos 0) z ≡ false → minus ∷ decimal (natAbs z) ≡ signedText z
 unfolding signedText
 text-high (pos n) e = absurd (omega (arith, leb-false 0 n e))
-text-high (negsuc n) e = rw (size-below n, add-one n)
+text-high (negsuc n) e = refl
 
 module _ (z : ℤ) (f : SFits w32 z) where
   own : toZ w32 (ofZ w32 z) ≡ z
   own = toZ-ofZ w32 z f
 
+  pub size-high : leZ (pos 0) (toZ w32 (ofZ w32 z)) ≡ false → natAbs (toZ w32 (ofZ w32 (negsuc 0 -ℤ toZ w32 (ofZ w32 z)))) + 1 ≡ natAbs z
+  size-high e = rw (toZ-ofZ w32 (negsuc 0 -ℤ toZ w32 (ofZ w32 z)) (bits-high-fits z f e), own) (size-is z (rw own at e))
+
   pub signed-low : leZ (pos 0) (toZ w32 (ofZ w32 z)) ≡ true → decimal (natAbs (toZ w32 (ofZ w32 z))) ≡ signedText z
   signed-low e = rw own (text-low z (rw own at e))
 
-  pub signed-high : leZ (pos 0) (toZ w32 (ofZ w32 z)) ≡ false
-      → minus ∷ decimal (natAbs (toZ w32 (ofZ w32 (negsuc 0 -ℤ toZ w32 (ofZ w32 z)))) + 1) ≡ signedText z
-  signed-high e = rw (toZ-ofZ w32 (negsuc 0 -ℤ toZ w32 (ofZ w32 z)) (bits-high-fits z f e), own) (text-high z (rw own at e))
+  pub signed-high : leZ (pos 0) (toZ w32 (ofZ w32 z)) ≡ false → minus ∷ decimal (natAbs (toZ w32 (ofZ w32 z))) ≡ signedText z
+  signed-high e = rw own (text-high z (rw own at e))
 
 -- ---- pieces that are joined, up to piece i
 pub gather-next : {A : Type 0} (f : A → List ℕ) (l : List A) (d : A) (i : ℕ) → i < length l

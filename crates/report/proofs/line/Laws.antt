@@ -3,12 +3,10 @@ use mathlib.Core.Path.{_≡_, refl, sym, ap, _∙_}
 use mathlib.Core.List.{List, [], _∷_, _++_, map, append-nil}
 use Prim.Native.Nat.{ℕ, zero, suc, _+_, _-_, _/_, _≤_, _<_, min}
 use native.Mathlib.Omega.{arith}
-use borrow.Author.Tests.{eq-eqb, ne-eqb, leb-true, leb-false}
-use lib.Dec.{leb}
+use borrow.Author.Tests.{eq-eqb, ne-eqb}
 use lib.ListN.{length, getD, take, drop, length-map, length-drop, drop-of-length-le, List·getD-append}
-use lib.Seq.{getD-append-add, take-all, take-length, length-take-le}
+use lib.Seq.{getD-append-add, take-all, length-take-le}
 use Rattle.monomial.specs.Lists.{below}
-use Rattle.monomial.proofs.Tests.{Tested, passed, failed, test}
 use Rattle.monomial.proofs.Counting.{below-length, below-at}
 use Rattle.wiring.specs.Panel.{setBytes, wireBytes}
 use Rattle.wiring.specs.Reply.{inOrder}
@@ -102,17 +100,6 @@ module _ (r : Results) where
 
     pub none-next : (k : ℕ) → (k ≡ 0 → ⊥) → shownSets ≤ k - 1 → shownWires ≤ k - 1 - shownSets → [] ≡ lineAt (linesOf r) k
     none-next k h i j = sym (behind-sets k h i ∙ behind (wireLines (r .wiring)) (k - 1 - shownSets) [] (rw wires-length j))
-
--- a part that is not longer than the whole
-pub front-within : (l : List ℕ) (n : ℕ) → take (min n (length l)) l ≡ take n l
-front-within l n = go (test (leb n (length l)))
-  where
-    go : Tested (leb n (length l)) → take (min n (length l)) l ≡ take n l
-    go (passed e) = let h : n ≤ length l = leb-true n (length l) e in let m : min n (length l) ≡ n = omega arith in rw m
-    go (failed e) =
-        let h : length l < n = leb-false n (length l) e in
-        let m : min n (length l) ≡ length l = omega arith in
-        rw m (take-length l ∙ sym (take-all n l (omega arith)))
 
 -- a record that was copied out of a buffer, over as many bytes
 pub copied : (size at : ℕ) (bytes blank copy : List ℕ) → at + size ≤ length bytes → length blank ≡ size

@@ -8,7 +8,6 @@ use borrow.Author.Tests.{eq-eqb}
 use lib.Dec.{eqb, eqb→eq}
 use lib.IntN.{ℤ, pos, negsuc, natAbs, negℤ, _+ℤ_, _-ℤ_, +ℤ-idl}
 use lib.ListN.{getD}
-use lib.Signed.{mag}
 use mir.Syntax.{w64}
 use mir.Val.{Val, SFits, toZ, ofZ}
 use mir.ValLaws.{toZ-pos, toZ-ofZ}
@@ -17,22 +16,15 @@ use denote.Shadow.{shadow}
 use denote.Signed.{SInt}
 use Rattle.monomial.proofs.Tests.{is→T, same-test}
 use Rattle.wiring.specs.Coefficient.{isZero}
-use Rattle.wiring.proofs.Ints.{abs-sum, abs-neg}
+use Rattle.wiring.proofs.Ints.{size-fits, abs-sum, abs-neg}
 use Rattle.listing.specs.Meaning.{signed}
 use Rattle.truth.specs.Sums.{mostNumber, mostSum}
 use Rattle.truth.proofs.truth.Laws.{zero-apart, apart-zero}
 
 -- ---- what fits
-mag-abs : (z : ℤ) → mag z ≤ natAbs z
-mag-abs (pos n) = omega arith
-mag-abs (negsuc n) = omega arith
-
-pub fits-64 : (z : ℤ) → natAbs z < 9223372036854775808 → SFits w64 z
-fits-64 z h = record { sfits = omega (arith, mag-abs z) }
-
 -- an element of an array of signed numbers does: `search (needs, cell-fits)`
 each-fits : (xs : List ℤ) (us : List Val) (i : ℕ) → shadow (each ℤ (SInt w64 .own) xs us) → SFits w64 (getD xs i (pos 0))
-each-fits [] us i p = fits-64 (pos 0) (omega arith)
+each-fits [] us i p = size-fits w64 (pos 0) (omega arith)
 each-fits (x ∷ xs) [] i p = absurd p
 each-fits (x ∷ xs) (u ∷ us) zero p = record { sfits = p .0 .1 }
 each-fits (x ∷ xs) (u ∷ us) (suc i) p = each-fits xs us i (p .1)
@@ -73,7 +65,7 @@ module _ {number size : ℕ} (s : Sized number size) where
   turned = ap (λ (z : ℤ). pos 0 -ℤ z) held-is ∙ +ℤ-idl (negℤ (pos size))
 
   pub minus-fits : SFits w64 (pos 0 -ℤ toZ w64 size)
-  minus-fits = rw turned (fits-64 (negℤ (pos size)) (omega (arith, s .small, abs-neg (pos size))))
+  minus-fits = rw turned (size-fits w64 (negℤ (pos size)) (omega (arith, s .small, abs-neg (pos size))))
 
   pub minus-is : toZ w64 (ofZ w64 (pos 0 -ℤ toZ w64 size)) ≡ signed true number
   minus-is = toZ-ofZ w64 (pos 0 -ℤ toZ w64 size) minus-fits ∙ turned ∙ s .minus
@@ -91,10 +83,10 @@ module _ (old c : ℤ) (bounded : natAbs old ≤ mostSum) (small : natAbs c ≤ 
   machine = toZ w64 (ofZ w64 old) +ℤ toZ w64 (ofZ w64 c)
 
   added : machine ≡ old +ℤ c
-  added = ap₂ _+ℤ_ (toZ-ofZ w64 old (fits-64 old (omega arith))) (toZ-ofZ w64 c (fits-64 c (omega arith)))
+  added = ap₂ _+ℤ_ (toZ-ofZ w64 old (size-fits w64 old (omega arith))) (toZ-ofZ w64 c (size-fits w64 c (omega arith)))
 
   pub sum-fits : SFits w64 machine
-  sum-fits = let h : natAbs (old +ℤ c) ≤ natAbs old + natAbs c = abs-sum old c in rw added (fits-64 (old +ℤ c) (omega arith))
+  sum-fits = let h : natAbs (old +ℤ c) ≤ natAbs old + natAbs c = abs-sum old c in rw added (size-fits w64 (old +ℤ c) (omega arith))
 
   pub sum-is : toZ w64 (ofZ w64 machine) ≡ old +ℤ c
   sum-is = toZ-ofZ w64 machine sum-fits ∙ added

@@ -5,9 +5,9 @@ use mathlib.Core.List.{List, [], _∷_, _++_, map, append-nil, append-assoc, map
 use Prim.Native.Nat.{ℕ, zero, suc, _+_, _*_, _-_, _≤_, _<_}
 use native.Mathlib.Omega.{arith}
 use native.Mathlib.Numerals.{add-one}
-use borrow.Author.Tests.{eq-eqb, ne-eqb, eqb-true, leb-false, le-ltb}
+use borrow.Author.Tests.{eq-eqb, ne-eqb, eqb-true, leb-false}
 use lib.Dec.{T, eqb, leb}
-use lib.IntN.{ℤ, pos, negsuc, natAbs, _-ℤ_}
+use lib.IntN.{ℤ, pos, negsuc}
 use lib.Signed.{leZ}
 use lib.ListN.{length, take, drop, getD, length-append, length-map}
 use lib.Seq.{take-suc, take-all, getD-take, getD-drop}
@@ -23,7 +23,6 @@ use Rattle.wiring.specs.Panel.{wireBytes}
 use Rattle.wiring.specs.Coefficient.{word, signed}
 use Rattle.wiring.specs.Wires.{Wire}
 use Rattle.wiring.specs.Claims.{rowOf}
-use Rattle.wiring.proofs.coefficient.Laws.{bits-high-fits}
 use Rattle.lines.specs.Text.{decimal, joined, lead, Added, Stands}
 use Rattle.lines.proofs.text.Laws.{adds, adds-nothing, shown}
 use Rattle.reader.specs.Bytes.{newline, blank, minus, nought}
@@ -124,13 +123,6 @@ unfolding negativeOf
 high-is (pos n) e = absurd (omega (arith, leb-false 0 n e))
 high-is (negsuc n) e = refl
 
-size-below : (n : ℕ) → negsuc 0 -ℤ negsuc n ≡ pos n
-size-below n = rw (le-ltb (suc n) 1 (omega arith)) (ap pos (omega arith))
-
-size-is : (z : ℤ) → leZ (pos 0) z ≡ false → natAbs (negsuc 0 -ℤ z) + 1 ≡ natAbs z
-size-is (pos n) e = absurd (omega (arith, leb-false 0 n e))
-size-is (negsuc n) e = rw (size-below n, add-one n)
-
 module _ (z : ℤ) (f : SFits w32 z) where
   own : toZ w32 (ofZ w32 z) ≡ z
   own = toZ-ofZ w32 z f
@@ -140,9 +132,6 @@ module _ (z : ℤ) (f : SFits w32 z) where
 
   pub sign-high : leZ (pos 0) (toZ w32 (ofZ w32 z)) ≡ false → true ≡ negativeOf z
   sign-high e = high-is z (rw own at e)
-
-  pub size-high : leZ (pos 0) (toZ w32 (ofZ w32 z)) ≡ false → natAbs (toZ w32 (ofZ w32 (negsuc 0 -ℤ toZ w32 (ofZ w32 z)))) + 1 ≡ natAbs z
-  size-high e = rw (toZ-ofZ w32 (negsuc 0 -ℤ toZ w32 (ofZ w32 z)) (bits-high-fits z f e), own) (size-is z (rw own at e))
 
 -- ---- a record by its bytes
 module _ (bytes : List ℕ) (j : ℕ) where

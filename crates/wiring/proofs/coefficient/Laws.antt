@@ -9,21 +9,12 @@ use borrow.Author.Tests.{lt-ltb, le-ltb, leb-false}
 use lib.Dec.{T}
 use lib.IntN.{ℤ, pos, negsuc, natAbs, _-ℤ_}
 use lib.ListN.{getD}
-use lib.Signed.{mag, leZ, nonNeg}
+use lib.Signed.{leZ, nonNeg}
 use mir.Syntax.{w32, w64}
 use mir.Val.{Fits, SFits, toZ, ofZ}
 use mir.ValLaws.{toZ-pos, toZ-ofZ}
 use Rattle.monomial.proofs.Tests.{is→nT}
 use Rattle.wiring.specs.Coefficient.{word, signed, unsigned, fourBytes}
-
--- ---- sizes
-mag-abs : (z : ℤ) → mag z ≤ natAbs z
-mag-abs (pos n) = omega arith
-mag-abs (negsuc n) = omega arith
-
--- a number whose size is below 2^31 fits
-pub fits-32 : (z : ℤ) → natAbs z < 2147483648 → SFits w32 z
-fits-32 z h = record { sfits = omega (arith, mag-abs z) }
 
 -- ---- two's complement, of a word
 minus : (k : ℕ) → negsuc 0 -ℤ pos k ≡ negsuc k
@@ -64,7 +55,7 @@ unfolding unsigned
 low-is (pos n) f e = (refl, omega arith)
 low-is (negsuc n) f e = absurd (is→nT true (sym e) tt)
 
-minus-negsuc : (n : ℕ) → negsuc 0 -ℤ negsuc n ≡ pos n
+pub minus-negsuc : (n : ℕ) → negsuc 0 -ℤ negsuc n ≡ pos n
 minus-negsuc n = rw (le-ltb (suc n) 1 (omega arith)) (ap pos (omega arith))
 
 -- a number below 0, and -1 less it

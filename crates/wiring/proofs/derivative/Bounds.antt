@@ -31,10 +31,9 @@ use Rattle.wiring.specs.Derivative.{derivative, part, partsFrom, power, 
 use Rattle.wiring.specs.Terms.{Record, recordAt, records, equation, system, CleanTerms}
 use Rattle.wiring.specs.Kinds.{Lawful}
 use Rattle.wiring.specs.Claims.{summed, addedUp, Unlike, Sized}
-use Rattle.wiring.proofs.Ints.{abs-sum, abs-product}
+use Rattle.wiring.proofs.Ints.{size-fits, abs-sum, abs-product}
 use Rattle.wiring.proofs.Poly.{coeff-append, coeff-absent, support-out, Scaled, times-out}
 use Rattle.wiring.proofs.kinds.Plain.{plain-lawful}
-use Rattle.wiring.proofs.coefficient.Laws.{fits-32}
 use Rattle.wiring.proofs.terms.Laws.{alike-in, Rightful, clean-at, records-length, records-at, clean-in, clean-take, clean-unlike}
 use Rattle.wiring.proofs.derivative.Rules.{Parted, absent, present, parted}
 use Rattle.wiring.proofs.derivative.Records.{derived, equation-out, equation-own, equation-other, system-length, added-next, exchange, contribution, adds-flat, adds-hit, adds-miss}
@@ -205,7 +204,7 @@ module _ (bytes : List ℕ) (clean : CleanTerms bytes) where
   -- so a machine number that is the total holds it
   pub total-held : (z m : Mono) → length z ≡ width → AtMost setExponent z → (x : ℤ) → x ≡ coeff plain (derivative plain (system (records bytes)) z) m
       → toZ w32 (ofZ w32 x) ≡ coeff plain (derivative plain (system (records bytes)) z) m
-  total-held z m lz a x e = toZ-ofZ w32 x (fits-32 x (rw e (total-fits z m lz a))) ∙ e
+  total-held z m lz a x e = toZ-ofZ w32 x (size-fits w32 x (rw e (total-fits z m lz a))) ∙ e
 
 -- ---- a loop that adds the records up in 32 bits, sum so far, and has come to record number t
 pub record Adding (bytes : List ℕ) (z m : Mono) (sum t : ℕ) : Type 0 where
@@ -250,7 +249,7 @@ module _ {bytes : List ℕ} {z m : Mono} {sum t : ℕ} (a : Adding bytes z m sum
     limited = rw k-is (atMost-at setExponent z (recordAt bytes t .equation - 1) (a .small))
 
     pub power-fits : SFits w32 (pos k)
-    power-fits = let l = limited in fits-32 (pos k) (omega arith)
+    power-fits = let l = limited in size-fits w32 (pos k) (omega arith)
 
   module _ (k : ℕ) (x : ℤ) (k-is : k ≡ power (recordAt bytes t) z) (x-is : x ≡ recordAt bytes t .coefficient) where
     abbrev product : ℤ
@@ -260,13 +259,13 @@ module _ {bytes : List ℕ} {z m : Mono} {sum t : ℕ} (a : Adding bytes z m sum
     million = rw x-is (clean-at bytes (a .clean) t h .limited)
 
     plain-product : product ≡ pos k *ℤ x
-    plain-product = let l = limited k k-is in let n = million in rw (toZ-pos w32 k (omega arith), toZ-ofZ w32 x (fits-32 x (omega arith)))
+    plain-product = let l = limited k k-is in let n = million in rw (toZ-pos w32 k (omega arith), toZ-ofZ w32 x (size-fits w32 x (omega arith)))
 
     pub product-fits : SFits w32 product
     product-fits =
         let size : natAbs (pos k *ℤ x) ≡ k * natAbs x = abs-product (pos k) x in
         let most : k * natAbs x ≤ setExponent * mostCoefficient = mul-le-mul (limited k k-is) million in
-        rw plain-product (fits-32 (pos k *ℤ x) (omega arith))
+        rw plain-product (size-fits w32 (pos k *ℤ x) (omega arith))
 
     module _ (y : Mono) (y-is : y ≡ image (recordAt bytes t) z) (hit : same y m ≡ true) where
       added : toZ w32 sum +ℤ toZ w32 (ofZ w32 product) ≡ summed (take (t + 1) (records bytes)) z m
@@ -276,7 +275,7 @@ module _ {bytes : List ℕ} {z m : Mono} {sum t : ℕ} (a : Adding bytes z m sum
           ap₂ _+ℤ_ (a .so-far) (toZ-ofZ w32 product product-fits ∙ plain-product ∙ sym own) ∙ sym next-is
 
       pub sum-of-fits : SFits w32 (toZ w32 sum +ℤ toZ w32 (ofZ w32 product))
-      sum-of-fits = rw added (fits-32 (summed (take (t + 1) (records bytes)) z m) (sum-fits bytes (a .clean) z m (a .long) (a .small) (t + 1)))
+      sum-of-fits = rw added (size-fits w32 (summed (take (t + 1) (records bytes)) z m) (sum-fits bytes (a .clean) z m (a .long) (a .small) (t + 1)))
 
       pub adding-hit : Adding bytes z m (ofZ w32 (toZ w32 sum +ℤ toZ w32 (ofZ w32 product))) (t + 1)
       adding-hit = record {

@@ -3,9 +3,8 @@
 use mathlib.Core.Path.{refl, sym}
 use native.Mathlib.Omega.{arith}
 use lib.Seq.{length-take-le}
-use Rattle.report.proofs.line.Laws.{front-within}
+use Rattle.lines.proofs.Cut.{front-within, rest-within}
 use Rattle.asked.specs.Input.{givenBytes}
-use Rattle.asked.proofs.answer.Laws.{rest-within}
 use borrow.Author.Needs.{needs}
 use Rattle.asked.proofs.answer.prepare_asked.Statement.{statement}
 use Rattle.asked.proofs.answer.prepare_asked.Tie as tie
@@ -65,7 +64,7 @@ returns-2 c =
     let args = at-least .before .before .before .args in
     let cut = rw (at-least .before .given-bytes .ensures .0) at (at-least .least .ensures) in
     let asked = c .before .before .before .before .a2 .given .1 in
-    rw asked (rw (rest-within (args .input .now) (givenBytes (args .a)) _ cut, cut, front-within (args .input .now) (givenBytes (args .a)), asked) at (c .prepare-thin .ensures))
+    rw asked (rw (rest-within (args .input .now) (givenBytes (args .a)) _ cut, front-within (args .input .now) (givenBytes (args .a)) _ cut, asked) at (c .prepare-thin .ensures))
 
 returns-3 : tie.Need-returns-3
 returns-3 c =
@@ -73,7 +72,7 @@ returns-3 c =
     let args = at-least .before .before .before .args in
     let cut = rw (at-least .before .given-bytes .ensures .0) at (at-least .least .ensures) in
     let asked = c .before .before .before .a3 .given .1 in
-    rw asked (rw (rest-within (args .input .now) (givenBytes (args .a)) _ cut, cut, front-within (args .input .now) (givenBytes (args .a)), asked) at (c .prepare-wire .ensures (args .sets .now)))
+    rw asked (rw (rest-within (args .input .now) (givenBytes (args .a)) _ cut, front-within (args .input .now) (givenBytes (args .a)) _ cut, asked) at (c .prepare-wire .ensures (args .sets .now)))
 
 returns-4 : tie.Need-returns-4
 returns-4 c = rw (c .enum-told .given .1) (refl, refl, refl)

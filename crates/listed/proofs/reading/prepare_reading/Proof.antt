@@ -2,7 +2,7 @@
 use mathlib.Core.Path.{sym}
 use native.Mathlib.Omega.{arith}
 use lib.Seq.{length-take-le}
-use Rattle.listed.proofs.input.Laws.{front-within, rest-within}
+use Rattle.lines.proofs.Cut.{front-within, rest-within}
 use borrow.Author.Needs.{needs}
 use Rattle.listed.proofs.reading.prepare_reading.Statement.{statement}
 use Rattle.listed.proofs.reading.prepare_reading.Tie as tie

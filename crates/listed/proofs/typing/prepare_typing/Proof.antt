@@ -5,7 +5,7 @@ use lib.ListN.{length, length-take}
 use lib.Seq.{length-take-le}
 use Rattle.wiring.specs.Panel.{setBytes, wiresBytes}
 use Rattle.listed.specs.Typing.{setIn}
-use Rattle.listed.proofs.input.Laws.{front-within, rest-within}
+use Rattle.lines.proofs.Cut.{front-within, rest-within}
 use Rattle.listed.proofs.typing.Laws.{held-padded, types}
 use borrow.Author.Needs.{needs}
 use Rattle.listed.proofs.typing.prepare_typing.Statement.{statement}

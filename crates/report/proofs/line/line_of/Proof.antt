@@ -2,7 +2,7 @@
 use mathlib.Core.Path.{sym}
 use native.Mathlib.Omega.{arith}
 use lib.Seq.{length-take-le}
-use Rattle.report.proofs.line.Laws.{front-within}
+use Rattle.lines.proofs.Cut.{front-within}
 use borrow.Author.Needs.{needs}
 use Rattle.report.proofs.line.line_of.Statement.{statement}
 use Rattle.report.proofs.line.line_of.Tie as tie
@@ -22,7 +22,7 @@ returns : tie.Need-returns
 returns c =
     let at-least = c .before .before .before in
     let start = at-least .before .before .before in
-    rw (at-least .least .ensures, front-within (start .args .sets .now) (start .args .p .lent)) at (c .line-in .ensures)
+    rw (front-within (start .args .sets .now) (start .args .p .lent) _ (at-least .least .ensures)) at (c .line-in .ensures)
 
 pub line-of-spec : {M : Type 1} → statement M
 line-of-spec = tie.close (tie.spec least-requires slice-aggregate-line-in line-in-requires returns)

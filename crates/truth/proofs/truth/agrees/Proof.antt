@@ -8,9 +8,10 @@ use mir.Syntax.{w32, w64}
 use mir.Val.{SFits, toZ, ofZ}
 use Rattle.monomial.specs.Monomial.{width}
 use Rattle.wiring.specs.Coefficient.{isZero}
+use Rattle.wiring.proofs.Ints.{size-fits}
 use Rattle.wiring.proofs.derivative.Bounds.{total-fits, total-held}
 use Rattle.truth.specs.Sums.{held, agrees}
-use Rattle.truth.proofs.truth.Machine.{fits-64, cell-fits, bits-same}
+use Rattle.truth.proofs.truth.Machine.{cell-fits, bits-same}
 use Rattle.truth.proofs.truth.agrees.Statement.{statement}
 use Rattle.truth.proofs.truth.agrees.Tie as tie
 
@@ -34,7 +35,7 @@ cast-total c =
     let m = s .args .m .e in
     let long : length z ≡ width = search needs in
     let small = s .pre .1 .1 .1 .0 in
-    rw (total-held terms (s .pre .0) z m long small _ (c .total .ensures)) (fits-64 _ (omega (arith, total-fits terms (s .pre .0) z m long small)))
+    rw (total-held terms (s .pre .0) z m long small _ (c .total .ensures)) (size-fits w64 _ (omega (arith, total-fits terms (s .pre .0) z m long small)))
 
 returns : tie.Need-returns
 unfolding agrees

@@ -1,4 +1,4 @@
--- An input that is cut in two: the first bytes, or all where there are fewer, and what stands behind them. Assumes nothing.
+-- A list that is cut in two: its first entries, or all where there are fewer, and what stands behind them. Assumes nothing.
 use mathlib.Core.Path.{_≡_, sym, _∙_}
 use mathlib.Core.List.{List}
 use Prim.Native.Nat.{ℕ, _-_, _≤_, _<_, min}
@@ -9,7 +9,7 @@ use lib.ListN.{length, take, drop, length-drop, drop-of-length-le}
 use lib.Seq.{take-all}
 use Rattle.monomial.proofs.Tests.{Tested, passed, failed, test}
 
-module _ (l : List ℕ) (n at : ℕ) (e : at ≡ min n (length l)) where
+module _ {A : Type 0} (l : List A) (n at : ℕ) (e : at ≡ min n (length l)) where
   pub front-within : take at l ≡ take n l
   front-within = go (test (leb n (length l)))
     where

@@ -1,10 +1,10 @@
 -- `size_of` meets its contract: a number on 32 bits, or one more than -1 less it. Assumes nothing.
 use native.Mathlib.Omega.{arith}
 use Rattle.wiring.proofs.coefficient.Laws.{bits-low-casts, bits-high-fits, bits-high-casts, bits-high-limited}
-use Rattle.typed.proofs.typed.Laws.{size-high}
+use Rattle.lines.proofs.text.Laws.{size-high}
 use borrow.Author.Needs.{needs}
-use Rattle.typed.proofs.typed.size_of.Statement.{statement}
-use Rattle.typed.proofs.typed.size_of.Tie as tie
+use Rattle.lines.proofs.text.size_of.Statement.{statement}
+use Rattle.lines.proofs.text.size_of.Tie as tie
 
 cast-result : tie.Need-cast-result
 cast-result c = bits-low-casts _ (c .before .fits .c) (c .if1 .taken)

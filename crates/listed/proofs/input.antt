@@ -1,2 +1,0 @@
--- The laws of the module input.
-pub mod Laws
