@@ -14,7 +14,7 @@ use Rattle.report.specs.Report.{report, thinReport, wireReport}
 use Rattle.asked.specs.declared.settings.Asked.{Asked}
 use Rattle.asked.specs.declared.settings.Asked.the-variants.{Plan, Thin, Wire, Wrong}
 use Rattle.asked.specs.Settings.{mostSets}
-use Rattle.asked.specs.Input.{setIn, termsIn}
+use Rattle.lines.specs.Input.{setIn, termsIn}
 
 unfoldable pub answered : Asked → List ℕ → List (List ℕ)
 answered (Plan s) input = report s input

@@ -1,8 +1,6 @@
 -- What stands in the input, and how much of it is read: what can be right, and one byte more, which tells that there
 -- are more. Assumes nothing.
-use mathlib.Core.List.{List}
 use Prim.Native.Nat.{ℕ, _+_}
-use lib.ListN.{take, drop}
 use Rattle.wiring.specs.Panel.{setBytes, termsBytes}
 use Rattle.asked.specs.declared.settings.Asked.{Asked}
 use Rattle.asked.specs.declared.settings.Asked.the-variants.{Plan, Thin, Wire, Wrong}
@@ -13,13 +11,6 @@ givenBytes (Plan s) = 0
 givenBytes (Thin n marks degree which) = setBytes
 givenBytes (Wire n marks degree) = setBytes
 givenBytes Wrong = 0
-
--- that record, or as much of it as there is, and the terms behind it
-abbrev pub setIn : List ℕ → List ℕ
-setIn input = take setBytes input
-
-abbrev pub termsIn : List ℕ → List ℕ
-termsIn input = drop setBytes input
 
 abbrev pub mostInput : Asked → ℕ
 mostInput a = givenBytes a + termsBytes + 1

@@ -22,7 +22,8 @@ use Rattle.wiring.proofs.answers.Exact.{panel-in, panel-out, verdict-exact}
 use Rattle.lines.specs.Answer.{replyLine}
 use Rattle.desktop.specs.Lines.{mostText}
 use Rattle.desktop.specs.Read.{readListing, refusal}
-use Rattle.listed.specs.Typing.{setIn, termsIn, mostTyped, typingLines}
+use Rattle.lines.specs.Input.{setIn, termsIn}
+use Rattle.listed.specs.Typing.{mostTyped, typingLines}
 use Rattle.listed.specs.Reading.{mostRead, heardLines, readingLines}
 use Rattle.listed.proofs.typing.Exact.{typing-said}
 

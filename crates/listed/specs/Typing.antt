@@ -5,7 +5,7 @@ use mathlib.Core.Bool.{cond}
 use mathlib.Core.List.{List, [], _∷_, _++_}
 use Prim.Native.Nat.{ℕ, _+_, _-_, _≤_}
 use lib.Dec.{eqb}
-use lib.ListN.{length, take, drop, replicate}
+use lib.ListN.{length, take, replicate}
 use Rattle.monomial.specs.Monomial.{width}
 use Rattle.wiring.specs.Panel.{cards, termsBytes, setBytes, wiresBytes}
 use Rattle.wiring.specs.Sets.{places, setOf}
@@ -18,14 +18,8 @@ use Rattle.typed.specs.Typed.{listingLines, wiresIn, Listed}
 use Rattle.desktop.specs.Read.{knownTo}
 use Rattle.listed.specs.declared.typing.Typing.{Typing}
 
--- the input begins with a set record, or as much of it as there is; behind it stand the terms
-abbrev pub setIn : List ℕ → List ℕ
-setIn input = take setBytes input
-
-abbrev pub termsIn : List ℕ → List ℕ
-termsIn input = drop setBytes input
-
--- so many bytes of it are read: what can be right, and one byte more, which tells that there are more
+-- so many bytes of an input, a set record and terms behind it, are read: what can be right, and one byte more, which
+-- tells that there are more
 abbrev pub mostTyped : ℕ
 mostTyped = setBytes + termsBytes + 1
 

@@ -20,7 +20,8 @@ ghost use lib.ListN.{length, getD};
 ghost use Rattle.wiring.specs.Sockets.{panelOf};
 ghost use Rattle.lines.specs.Text.{Stands};
 ghost use Rattle.lines.specs.Answer.{replyLine};
-ghost use Rattle.listed.specs.Typing.{setIn, termsIn, mostTyped, typedLines, Ready, Types};
+ghost use Rattle.lines.specs.Input.{setIn, termsIn};
+ghost use Rattle.listed.specs.Typing.{mostTyped, typedLines, Ready, Types};
 
 const INPUT_BYTES: usize = SET_BYTES + TERMS_BYTES + 1;
 

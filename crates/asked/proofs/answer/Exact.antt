@@ -14,7 +14,7 @@ use Rattle.report.proofs.prepare.Exact.{prepare-determined, prepared-lines, thi
 use Rattle.asked.specs.declared.settings.Asked.{Asked}
 use Rattle.asked.specs.declared.settings.Asked.the-variants.{Plan, Thin, Wire, Wrong}
 use Rattle.asked.specs.Settings.{mostSets, Roomy}
-use Rattle.asked.specs.Input.{setIn, termsIn}
+use Rattle.lines.specs.Input.{setIn, termsIn}
 use Rattle.asked.specs.Answer.{answered, Answers}
 
 pub answered-lines : (a : Asked) (input : List ℕ) (p : Prepared) (sets setsAfter wires wiresAfter : List ℕ) → Roomy a

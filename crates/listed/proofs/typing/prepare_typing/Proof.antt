@@ -4,7 +4,7 @@ use native.Mathlib.Omega.{arith}
 use lib.ListN.{length, length-take}
 use lib.Seq.{length-take-le}
 use Rattle.wiring.specs.Panel.{setBytes, wiresBytes}
-use Rattle.listed.specs.Typing.{setIn}
+use Rattle.lines.specs.Input.{setIn}
 use Rattle.lines.proofs.Cut.{front-within, rest-within}
 use Rattle.listed.proofs.typing.Laws.{held-padded, types}
 use borrow.Author.Needs.{needs}
