@@ -392,32 +392,75 @@ impl<const CLOSING: bool> Walk<'_, CLOSING> {
             self.choose(&v, set)
         };
         match m {
-            Some(m) => self.pairs(list, set, m),
+            Some(m) => self.pairs(list, &v, set, m),
             None => Ok(()),
         }
     }
 
-    fn pairs(&mut self, list: &mut Nonsquares, set: &Set, m: Mono) -> Result<(), Stop> {
+    // So many steps at once, as far as the limit goes.
+    #[inline(always)]
+    fn skip(&mut self, steps: u64) -> Result<(), Stop> {
+        if self.limit - self.steps < steps {
+            return Err(Stop::Spent);
+        }
+        self.steps += steps;
+        Ok(())
+    }
+
+    // First the pairs that add a single monomial, then the rest, each part by ascending a. Of a nonsquare's pair at most
+    // one is in V, so that a pair of the rest adds two.
+    fn pairs(&mut self, list: &mut Nonsquares, v: &Signals, set: &Set, m: Mono) -> Result<(), Stop> {
+        let mut firsts = [ONE; SIGNALS + 1];
+        let mut cheap = 0;
+        let mut put = |a: Mono| {
+            let mut i = cheap;
+            while 0 < i && a < firsts[i - 1] {
+                firsts[i] = firsts[i - 1];
+                i -= 1;
+            }
+            firsts[i] = a;
+            cheap += 1;
+        };
+        for &z in v.members() {
+            if divides(z, m) {
+                let q = over(m, z);
+                put(if z < q { z } else { q });
+            }
+        }
+        if m.iter().all(|e| e % 2 == 0) {
+            put(m.map(|e| e / 2));
+        }
+        for i in 0..cheap {
+            let a = firsts[i];
+            self.step()?;
+            let new = if set.has(self.n, a) { over(m, a) } else { a };
+            if self.may(new) {
+                let mut child = *set;
+                child.add(new);
+                self.open(list, &child)?;
+            }
+        }
+        // Where there is room for one, the rest opens nothing and is only counted.
+        if set.len + 1 == self.level {
+            return self.skip(score(m).div_ceil(2) - cheap as u64);
+        }
         let mut a = ONE;
+        let mut met = 0;
         loop {
             let b = over(m, a);
             if b < a {
                 return Ok(());
             }
-            self.step()?;
-            let new_a = !set.has(self.n, a);
-            let new_b = a != b && !set.has(self.n, b);
-            // Only a pair that has room is asked what it would add.
-            let fits = set.len + new_a as usize + new_b as usize <= self.level;
-            if fits && (!new_a || self.may(a)) && (!new_b || self.may(b)) {
-                let mut child = *set;
-                if new_a {
+            if met < cheap && firsts[met] == a {
+                met += 1;
+            } else {
+                self.step()?;
+                if self.may(a) && self.may(b) {
+                    let mut child = *set;
                     child.add(a);
-                }
-                if new_b {
                     child.add(b);
+                    self.open(list, &child)?;
                 }
-                self.open(list, &child)?;
             }
             a = next_divisor(a, m);
         }

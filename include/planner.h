@@ -160,8 +160,8 @@ enum siragumon_code {
  * SIRAGUMON_CARDS), within `limit` steps (1 to SIRAGUMON_STEPS_MOST). They are the smallest among the sets that the kit
  * can build: those that contain no marked variable and no monomial above its limit. `out` holds
  * out_len / SIRAGUMON_SET_BYTES sets, rounded down; they are written ascending. A step is a set that is opened or a
- * pair of factors that is tried. A pair that would add what the kit cannot build opens nothing, and of a set that
- * counting shows to need too many more no pair is tried.
+ * pair of factors that is tried: first those that add a single new signal, then the others. A pair that would add what
+ * the kit cannot build opens nothing, and of a set that counting shows to need too many more no pair is tried.
  */
 void siragumon_plan(uint64_t n, uint64_t marks, uint64_t degree, uint64_t cap, uint64_t limit, const uint8_t *terms,
                     size_t terms_len, uint8_t *out, size_t out_len, uint64_t five[SIRAGUMON_NUMBERS]);

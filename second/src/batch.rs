@@ -21,7 +21,7 @@ use crate::panel::FULL_DEGREE;
 use crate::reply::Reply;
 use crate::setting::Setting;
 use crate::system::System;
-use crate::walk::Hopeless;
+use crate::walk::Rules;
 use std::fmt::Write;
 
 const MOST_CASE_TERMS: usize = 600;
@@ -166,16 +166,16 @@ impl Case {
 
     /// The reply, and the buffer after the call, or the set that comes back.
     pub fn answer(&self) -> (Reply, Vec<u8>) {
-        self.answer_by(Hopeless::Closed)
+        self.answer_by(Rules::NOW)
     }
 
-    /// The same where planning does so with hopeless sets.
-    pub fn answer_by(&self, hopeless: Hopeless) -> (Reply, Vec<u8>) {
+    /// The same where planning walks by other rules.
+    pub fn answer_by(&self, rules: Rules) -> (Reply, Vec<u8>) {
         let Case { terms, given, .. } = self;
         let setting = self.setting();
         let mut buffer = vec![UNTOUCHED; self.buffer];
         let reply = match self.operation {
-            Operation::Plan => plan_by(hopeless, setting, self.cap, self.limit, terms, &mut buffer),
+            Operation::Plan => plan_by(rules, setting, self.cap, self.limit, terms, &mut buffer),
             Operation::Wire => wire(setting, terms, given, &mut buffer),
             Operation::Thin => thin(setting, terms, given, &mut buffer),
             Operation::Read => {

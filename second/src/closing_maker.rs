@@ -9,7 +9,7 @@ use crate::random::Random;
 use crate::records::write_terms;
 use crate::system::System;
 use crate::systems::{self, Kit, Outside};
-use crate::walk::Hopeless;
+use crate::walk::Rules;
 
 /// Planning alone.
 pub const CLOSING: Mix = Mix {
@@ -17,7 +17,7 @@ pub const CLOSING: Mix = Mix {
     given: &[],
     outside: Outside::Nothing,
     kit: Kit::Full,
-    hopeless: Hopeless::Closed,
+    rules: Rules::BEFORE_CHEAP_FIRST,
     shares: &[
         (24, Maker::around_six_terms),
         (24, Maker::around_six_terms_and_signals),
@@ -72,8 +72,8 @@ impl Maker {
             let terms = write_terms(&system.terms);
             let plan = Case::plan(system.n as u64, cap, limit, MOST_CASE_BUFFER, terms);
             let plan = plan.kit_of(&system);
-            let closed = plan.answer().0;
-            if closed.code != 7 && plan.answer_by(Hopeless::Tried).0.code == 7 {
+            let closed = self.answer(&plan).0;
+            if closed.code != 7 && plan.answer_by(Rules::BEFORE_CLOSING).0.code == 7 {
                 break (plan, closed.steps, closed.count as usize);
             }
         };

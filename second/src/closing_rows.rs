@@ -13,7 +13,7 @@ use crate::rows::{
     bytes_of, cubic_bicycle, cubic_cycle, mutual_power, EXAMPLE_3, RABINOVICH_FABRIKANT,
 };
 use crate::system::{Set, System, Term};
-use crate::walk::Hopeless;
+use crate::walk::Rules;
 
 /// Five cubes of knobs, each by itself.
 pub const FIVE_CUBES: &str = "x1' = x2^3 + x3^3 + x4^3 + x5^3 + x6^3";
@@ -30,8 +30,8 @@ pub fn rows() -> Vec<Case> {
     let parts = [
         around_each_end(),
         around_each_end_with_signals(),
-        mark_rows::around_each_walk(Hopeless::Closed),
-        mark_rows::every_way_of_marking(Hopeless::Closed),
+        mark_rows::around_each_walk(Rules::BEFORE_CHEAP_FIRST),
+        mark_rows::every_way_of_marking(Rules::BEFORE_CHEAP_FIRST),
         as_many_as_can_be_made(),
         three_variables(),
     ];
@@ -73,7 +73,7 @@ fn around_each_end() -> Vec<Case> {
     for (n, text) in walks {
         for cap in [1, 2, 3, 4, CAP] {
             let plan = Case::plan(n, cap, FAR, 0, bytes_of(&text));
-            cases.extend(around_a_walk(Hopeless::Closed, plan));
+            cases.extend(around_a_walk(Rules::BEFORE_CHEAP_FIRST, plan));
         }
         let plan = |buffer| Case::plan(n, CAP, FAR, buffer, bytes_of(&text));
         cases.extend([0, 40 * SET_BYTES].map(plan));
@@ -111,7 +111,7 @@ fn around_each_end_with_signals() -> Vec<Case> {
         let marks = Marks::of(marked.iter().copied());
         for cap in [1, 2, 3, CAP] {
             let plan = Case::plan(n, cap, FAR, 0, bytes_of(text)).marked(marks);
-            cases.extend(around_a_walk(Hopeless::Closed, plan));
+            cases.extend(around_a_walk(Rules::BEFORE_CHEAP_FIRST, plan));
         }
     }
     cases
@@ -283,7 +283,7 @@ mod tests {
     fn three_variables_were_spent() {
         for (text, _) in THREE_VARIABLES {
             let plan = Case::plan(3, CAP, TOO_FEW, SET_BYTES, bytes_of(text));
-            assert_eq!(plan.answer_by(Hopeless::Tried).0.code, 7);
+            assert_eq!(plan.answer_by(Rules::TRYING).0.code, 7);
         }
     }
 

@@ -2,6 +2,7 @@
 //! the stored cases of the counting rule (document 02, [4]).
 
 use crate::batch::Case;
+use crate::cheap::{new_of, Order};
 use crate::maker::stored_closing;
 use crate::monomial::Monomial;
 use crate::panel::SET_BYTES;
@@ -194,11 +195,10 @@ impl Walk<'_> {
     }
 
     fn pairs(&mut self, set: &Set, chosen: Monomial, most: usize) -> Result<(), u64> {
-        for (m1, m2) in chosen.pairs().take(most) {
+        let v = self.system.signals(set);
+        for pair in Order::CheapFirst.pairs(chosen, &v).take(most) {
             self.step()?;
-            let v = self.system.signals(set);
-            let mut child = set.clone();
-            child.extend([m1, m2].into_iter().filter(|m| !v.contains(m)));
+            let child: Set = set.union(&new_of(pair, &v)).copied().collect();
             let marked = child.iter().any(|m| self.system.marks.touch(*m));
             if marked || child.len() > self.level {
                 continue;

@@ -20,7 +20,7 @@ use crate::setting::n_is_in_range;
 use crate::system::{Set, System, Term};
 use crate::thin_cover::Thinning;
 use crate::thinning::thinned;
-use crate::walk::{walk, Hopeless};
+use crate::walk::{walk, Rules};
 use crate::wire_cover::Derivatives;
 use std::collections::{BTreeMap, BTreeSet};
 
@@ -288,6 +288,7 @@ impl Cover {
             self.count("plan: the largest limit");
         }
         self.closed(case, reply);
+        self.ordered(case, reply);
         match code {
             0 => {
                 self.number("plan: counts of sets", reply.count);
@@ -317,7 +318,7 @@ impl Cover {
         let (system, _) = good_input(case).expect("the input is not refused");
         let room = case.buffer / SET_BYTES;
         let cap = case.cap as usize;
-        let walked = walk(&system, Hopeless::Closed, cap, case.limit, room);
+        let walked = walk(&system, Rules::NOW, cap, case.limit, room);
         let full = system.clone().limited(Degree::FULL);
         for (level, set) in walked.closed {
             let room = (level - set.len()) as u64;
@@ -331,12 +332,39 @@ impl Cover {
             }
         }
         if case.limit <= FAR {
-            let (tried, _) = case.answer_by(Hopeless::Tried);
+            let (tried, _) = case.answer_by(Rules::TRYING);
             if tried != *reply {
                 let (before, now) = (tried.code, reply.code);
                 self.count(format!("plan: code {before} by trying, {now} by closing"));
             }
         }
+    }
+
+    /// What the walk would say if all pairs came by ascending m1.
+    fn ordered(&mut self, case: &Case, reply: &Reply) {
+        if case.limit > FAR {
+            return;
+        }
+        let (before, _) = case.answer_by(Rules::BEFORE_CHEAP_FIRST);
+        if before == *reply {
+            return;
+        }
+        let change = match (before.code, reply.code) {
+            (6, 6) if reply.steps < before.steps => "full sooner".to_string(),
+            (6, 6) => "full later".to_string(),
+            (before, now) => format!("code {before} by ascending m1, {now}"),
+        };
+        self.count(format!("plan: {change} with cheap pairs first"));
+        let room = (case.buffer / SET_BYTES) as u64;
+        self.number("plan: rooms where the order shows", room);
+        if case.marks != 0 {
+            self.number("plan: rooms where the order shows, with signals", room);
+        }
+        if case.degree != Degree::FULL.0 {
+            self.number("plan: rooms where the order shows, with a junior kit", room);
+            self.number("plan: degrees where the order shows", case.degree);
+        }
+        self.number("plan: levels where the order shows", reply.order);
     }
 
     fn spent(&mut self, case: &Case, reply: &Reply) {
@@ -622,6 +650,37 @@ mod tests {
             "plan: room exactly taken: 1",
             "plan: room for one more: 1",
             "plan: full, one set short: 1",
+        ] {
+            assert!(text.lines().any(|l| l == line), "{line} in\n{text}");
+        }
+    }
+
+    /// Room for two sets of four: full at the eighth step, and once at the ninth.
+    #[test]
+    fn the_order_of_pairs_is_recognised() {
+        let input = write_terms(&terms("x1' = x2^2 x3^2"));
+        let plan = |limit, room| Case::plan(3, USUAL_CAP, limit, room * SET_BYTES, input.clone());
+        let text = report_of(&[
+            plan(90, 2),
+            plan(8, 2),
+            plan(7, 2),
+            plan(90, 1),
+            plan(90, 4),
+        ]);
+        for line in [
+            "plan: full sooner with cheap pairs first: 1",
+            "plan: code 7 by ascending m1, 6 with cheap pairs first: 1",
+            "plan: rooms where the order shows: 2 (1)",
+        ] {
+            assert!(text.lines().any(|l| l == line), "{line} in\n{text}");
+        }
+        let input = write_terms(&terms("x1' = x2 x3^3"));
+        let plan = |limit| Case::plan(3, USUAL_CAP, limit, 0, input.clone()).limited(Degree(2));
+        let text = report_of(&[plan(90), plan(11)]);
+        for line in [
+            "plan: full later with cheap pairs first: 1",
+            "plan: code 6 by ascending m1, 7 with cheap pairs first: 1",
+            "plan: degrees where the order shows: 2 (1)",
         ] {
             assert!(text.lines().any(|l| l == line), "{line} in\n{text}");
         }

@@ -12,7 +12,7 @@ use crate::panel::{CARDS, MOST_CAP, VARIABLES};
 use crate::records::write_places;
 use crate::system::Set;
 use crate::systems::{self, Kit, Outside};
-use crate::walk::Hopeless;
+use crate::walk::Rules;
 
 /// Every operation with a limit. Four fifths are stories of a system or a set.
 pub const JUNIOR: Mix = Mix {
@@ -20,7 +20,7 @@ pub const JUNIOR: Mix = Mix {
     given: &[Ask::Wire, Ask::Thin, Ask::Verdict],
     outside: Outside::NowAndThen,
     kit: Kit::Junior,
-    hopeless: Hopeless::Closed,
+    rules: Rules::BEFORE_CHEAP_FIRST,
     shares: &[
         (14, Maker::around_a_limited_plan),
         (8, Maker::around_limited_terms),

@@ -24,7 +24,7 @@ use crate::rows::{
 use crate::system::System;
 use crate::systems::power;
 use crate::thin_rows;
-use crate::walk::Hopeless;
+use crate::walk::Rules;
 use std::collections::HashSet;
 
 /// Both powers are products of x1^2 and x1^3, or of x1^3 and x1^4.
@@ -114,7 +114,7 @@ fn around(walks: &[Walks], caps: &[u64]) -> Vec<Case> {
             for &cap in caps {
                 let plan = Case::plan(*n, cap, FAR, 0, bytes_of(text)).marked(marks);
                 let plan = plan.limited(Degree(limit));
-                cases.extend(around_a_walk(Hopeless::Closed, plan));
+                cases.extend(around_a_walk(Rules::BEFORE_CHEAP_FIRST, plan));
             }
         }
     }

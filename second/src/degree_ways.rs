@@ -2,6 +2,7 @@
 //! some of the stored cases of the junior kit (document 02, [6]).
 
 use crate::batch::{Case, Operation};
+use crate::cheap::{new_of, Pair};
 use crate::closing::least;
 use crate::degree::Degree;
 use crate::maker::stored_junior;
@@ -11,8 +12,8 @@ use crate::records::{set_places, write_places};
 use crate::reply::Reply;
 use crate::system::Set;
 use crate::ways::{
-    fault_of_lengths, fault_of_records, fault_of_set, new_of, refused, Answer, Named, Opened,
-    Steps, Stored, Tried, Walks,
+    fault_of_lengths, fault_of_records, fault_of_set, refused, Answer, Named, Opened, Steps,
+    Stored, Tried, Walks,
 };
 use std::collections::{BTreeMap, BTreeSet};
 use std::sync::OnceLock;
@@ -411,7 +412,7 @@ impl Steps<'_, Way> {
     }
 
     /// Whether a pair of a nonsquare that would add these is forbidden for its degree.
-    fn pair_is_above(&self, set: &Set, pair: [Monomial; 2], new: &Set) -> bool {
+    fn pair_is_above(&self, set: &Set, pair: Pair, new: &Set) -> bool {
         let [m1, m2] = pair;
         let limit = self.limit();
         let child = set.union(new);
@@ -494,7 +495,7 @@ impl Walks for Way {
         }
     }
 
-    fn tried(walk: &Steps<Way>, set: &Set, pair: [Monomial; 2]) -> Tried {
+    fn tried(walk: &Steps<Way>, set: &Set, pair: Pair) -> Tried {
         let mut new = new_of(pair, &walk.system.signals(set));
         let marked = new.iter().any(|m| walk.system.marks.touch(*m));
         let above = !marked && walk.pair_is_above(set, pair, &new);

@@ -13,7 +13,7 @@ use crate::rows::{bytes_of, set_of};
 use crate::show::listed;
 use crate::system::{Set, System};
 use crate::systems::{self, Kit, Outside};
-use crate::walk::{walk, End, Hopeless, Walked};
+use crate::walk::{walk, End, Rules, Walked};
 use std::collections::{BTreeMap, BTreeSet};
 
 fn plan(n: u64, text: &str, degree: u64, cap: u64, limit: u64) -> Case {
@@ -140,8 +140,8 @@ fn refusals() {
 
 const ROOM: usize = 1_800;
 
-fn walked(system: &System, hopeless: Hopeless, cap: usize, limit: u64) -> Walked {
-    walk(system, hopeless, cap, limit, ROOM)
+fn walked(system: &System, rules: Rules, cap: usize, limit: u64) -> Walked {
+    walk(system, rules, cap, limit, ROOM)
 }
 
 /// Systems of all kinds, some with signals.
@@ -158,13 +158,13 @@ fn a_limit_leaves_what_is_within_it() {
     let (mut all, mut some, mut larger, mut none) = (0, 0, 0, 0);
     for _ in 0..500 {
         let system = any_system(&mut random);
-        let full = walked(&system, Hopeless::Closed, MOST_CAP as usize, 600);
+        let full = walked(&system, Rules::NOW, MOST_CAP as usize, 600);
         if full.end != End::Done {
             continue;
         }
         for degree in Degree::junior() {
             let junior = system.clone().limited(degree);
-            let junior = walked(&junior, Hopeless::Closed, MOST_CAP as usize, 600);
+            let junior = walked(&junior, Rules::NOW, MOST_CAP as usize, 600);
             let mut within = full.finds.clone();
             within.retain(|set| set.iter().all(|m| degree.reaches(*m)));
             match (within.is_empty(), junior.end) {
@@ -206,8 +206,8 @@ fn closing_within_a_limit_changes_no_find() {
         };
         let system = Kit::Junior.limit(&mut random, system);
         for cap in 0..=MOST_CAP as usize {
-            let of = |hopeless| walked(&system, hopeless, cap, 600);
-            let (tried, closed) = (of(Hopeless::Tried), of(Hopeless::Closed));
+            let of = |rules| walked(&system, rules, cap, 600);
+            let (tried, closed) = (of(Rules::TRYING), of(Rules::NOW));
             if tried.end == End::Spent {
                 break;
             }
@@ -272,7 +272,7 @@ fn no_smaller_set_within_the_limit_and_none_as_small_is_left_out() {
             sets.into_iter().map(|s| s.into_iter().collect()).collect()
         };
         let smallest = (0..=3).map(quadratic).find(|sets| !sets.is_empty());
-        let walked = walked(&system, Hopeless::Closed, 3, LIMIT);
+        let walked = walked(&system, Rules::NOW, 3, LIMIT);
         let order = smallest.as_ref().map(|_| walked.level);
         match smallest {
             Some(sets) => assert_eq!((walked.end, walked.finds), (End::Done, sets)),

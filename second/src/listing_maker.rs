@@ -14,7 +14,7 @@ use crate::random::Random;
 use crate::records::write_terms;
 use crate::system::{Set, System};
 use crate::systems::{self, Kit, Outside};
-use crate::walk::Hopeless;
+use crate::walk::Rules;
 
 /// Reading alone. A quarter of the texts are right, and as many are unreadable
 /// because of a byte or two.
@@ -23,7 +23,7 @@ pub const LISTINGS: Mix = Mix {
     given: &[Ask::Wire],
     outside: Outside::NowAndThen,
     kit: Kit::Full,
-    hopeless: Hopeless::Closed,
+    rules: Rules::BEFORE_CHEAP_FIRST,
     shares: &[
         (24, Maker::right_listing),
         (16, Maker::false_listing),

@@ -2,6 +2,13 @@
 //! and 02 alone. It is naive on purpose, so that it can be believed by reading it.
 
 mod batch;
+mod cheap;
+mod cheap_maker;
+mod cheap_rows;
+#[cfg(test)]
+mod cheap_ways;
+#[cfg(test)]
+mod cheap_worked;
 mod closing;
 mod closing_maker;
 mod closing_rows;
@@ -77,7 +84,7 @@ usage: second program            term records in, document 01's lines out
        second answer             a batch in, one line of answer per case out
        second rows               the batch of fixed rows out
        second batch SEED COUNT   a random batch out
-       second stored             the stored batch out: rows and random cases of each kit
+       second stored             the stored batch out: rows and random cases of each kind
        second show [NUMBER]      a batch in, its cases (or one) written for a person
        second cover              a batch in, what it covers out
 ";

@@ -5,6 +5,8 @@
 //! batch of some thousands of cases meets each of them.
 
 use crate::batch::{Case, Operation, MOST_CASE_BUFFER};
+use crate::cheap_maker::CHEAP;
+use crate::cheap_rows;
 use crate::closing_maker::CLOSING;
 #[cfg(test)]
 use crate::closing_rows;
@@ -31,7 +33,7 @@ use crate::system::{Set, System};
 use crate::systems::{self, Kit, Outside};
 use crate::thin_maker::THINNING;
 use crate::thin_rows::as_thinning;
-use crate::walk::Hopeless;
+use crate::walk::Rules;
 use crate::wire_maker::WIRING;
 
 /// The random cases that are stored with the fixed rows.
@@ -41,9 +43,11 @@ const STORED_MARKED: usize = 320;
 const STORED_CLOSING: usize = 400;
 const STORED_JUNIOR: usize = 300;
 const STORED_LISTINGS: usize = 300;
+const STORED_CHEAP: usize = 300;
 
 /// The batch that is stored: fixed rows, then random cases, of the full kit, after
-/// them those of the junior kit, and those of reading at the end.
+/// them those of the junior kit, those of reading, and those of the order of pairs at
+/// the end.
 pub fn stored() -> Vec<Case> {
     let mut cases = full_kit();
     cases.extend(first_unmarked(STORED_SEED, STORED_COUNT));
@@ -51,6 +55,14 @@ pub fn stored() -> Vec<Case> {
     cases.extend(first_closing(STORED_SEED, STORED_CLOSING));
     cases.extend(stored_junior());
     cases.extend(stored_listings());
+    cases.extend(stored_cheap());
+    cases
+}
+
+/// Of the stored cases those of the order of pairs.
+pub fn stored_cheap() -> Vec<Case> {
+    let mut cases = cheap_rows::rows();
+    cases.extend(first_cheap(STORED_SEED, STORED_CHEAP));
     cases
 }
 
@@ -84,11 +96,20 @@ pub fn stored_closing() -> Vec<Case> {
     cases
 }
 
-/// Of each five cases the last is one of reading.
-const LISTING_ROUND: usize = 5;
+/// Of each eight cases the last is one of the order of pairs.
+const CHEAP_ROUND: usize = 8;
 
 /// The first so many cases that a seed gives.
 pub fn batch(seed: u64, count: usize) -> Vec<Case> {
+    let cheap = count / CHEAP_ROUND;
+    let others = first_with_listings(seed, count - cheap);
+    with_last(CHEAP_ROUND, others, first_cheap(seed, cheap))
+}
+
+/// Of each five of the others the last is one of reading.
+const LISTING_ROUND: usize = 5;
+
+fn first_with_listings(seed: u64, count: usize) -> Vec<Case> {
     let listings = count / LISTING_ROUND;
     let others = first_sets(seed, count - listings);
     with_last(LISTING_ROUND, others, first_listings(seed, listings))
@@ -171,6 +192,11 @@ fn first_junior(seed: u64, count: usize) -> Vec<Case> {
     first_cases(!seed.rotate_left(48), &JUNIOR, count)
 }
 
+/// The cases of the order of pairs, with random numbers of their own.
+fn first_cheap(seed: u64, count: usize) -> Vec<Case> {
+    first_cases(seed.rotate_left(48), &CHEAP, count)
+}
+
 /// The cases of reading, with random numbers of their own.
 pub fn first_listings(seed: u64, count: usize) -> Vec<Case> {
     first_cases(seed.rotate_left(16), &LISTINGS, count)
@@ -222,9 +248,9 @@ pub struct Mix {
     pub given: &'static [Ask],
     pub outside: Outside,
     pub kit: Kit,
-    /// The walk that stories are laid around. Those from before document 02, [4]
-    /// stay where they were, whatever becomes of their answers.
-    pub hopeless: Hopeless,
+    /// The walk that stories are laid around. Those from before document 02, [4] and
+    /// [8] stay where they were, whatever becomes of their answers.
+    pub rules: Rules,
     /// How often each kind of group comes in a hundred.
     pub shares: &'static [(usize, Group)],
 }
@@ -236,7 +262,7 @@ const PLANNING: Mix = Mix {
     given: &[Ask::Verdict, Ask::Wire],
     outside: Outside::Nothing,
     kit: Kit::Full,
-    hopeless: Hopeless::Tried,
+    rules: Rules::BEFORE_CLOSING,
     shares: &[
         (15, Maker::around_a_plan),
         (8, Maker::around_a_set),
@@ -352,7 +378,7 @@ impl Maker {
 
     /// What a plan says in the walk that its story is laid around.
     pub fn answer(&self, plan: &Case) -> (Reply, Vec<u8>) {
-        plan.answer_by(self.mix.hopeless)
+        plan.answer_by(self.mix.rules)
     }
 
     /// How many variables there are, and which are marked.
@@ -448,7 +474,7 @@ impl Maker {
     }
 
     /// A buffer for so many sets, sometimes with bytes that hold none.
-    fn buffer(&mut self, sets: usize) -> usize {
+    pub fn buffer(&mut self, sets: usize) -> usize {
         let odd = match self.random.below(3) {
             0 => self.random.between(1, SET_BYTES - 1),
             _ => 0,
@@ -906,8 +932,17 @@ mod tests {
 
     #[test]
     fn each_run_of_cases_has_its_own_places_and_changes_no_other() {
+        let (mut cheap, mut rest) = (Vec::new(), Vec::new());
+        for (index, case) in batch(5, 704).into_iter().enumerate() {
+            match index % CHEAP_ROUND {
+                7 => cheap.push(case),
+                _ => rest.push(case),
+            }
+        }
+        assert!(cheap.iter().all(|case| case.operation == Operation::Plan));
+        assert_eq!(cheap, first_cheap(5, 88));
         let (mut listings, mut sets) = (Vec::new(), Vec::new());
-        for (index, case) in batch(5, 616).into_iter().enumerate() {
+        for (index, case) in rest.into_iter().enumerate() {
             match index % LISTING_ROUND {
                 4 => listings.push(case),
                 _ => sets.push(case),
@@ -1267,6 +1302,35 @@ mod tests {
         ];
         for name in kinds {
             assert_count(&report, name, 3);
+        }
+    }
+
+    #[test]
+    fn what_is_stored_of_the_order_of_pairs_covers_its_kinds() {
+        let report = report_of(&stored_cheap());
+        for name in [
+            "plan: rooms where the order shows",
+            "plan: rooms where the order shows, with signals",
+            "plan: rooms where the order shows, with a junior kit",
+        ] {
+            let first = report.split(&format!("\n{name}: 0-")).nth(1);
+            let last = first.and_then(|line| line.split(' ').next()?.parse::<u64>().ok());
+            assert!(last.is_some_and(|last| last > 2), "{name} in\n{report}");
+        }
+        let kinds = [
+            "plan: code 0 exactly at the limit",
+            "plan: code 6 by ascending m1, 7 with cheap pairs first",
+            "plan: code 6 exactly at the limit",
+            "plan: code 7 by ascending m1, 6 with cheap pairs first",
+            "plan: full later with cheap pairs first",
+            "plan: full sooner with cheap pairs first",
+            "plan: full without room",
+            "plan: full, one set short",
+            "plan: room exactly taken",
+            "plan: spent one step before code 6",
+        ];
+        for name in kinds {
+            assert_count(&report, name, 10);
         }
     }
 

@@ -9,7 +9,7 @@ use crate::monomial::Monomial;
 use crate::panel::{CARDS, MOST_TERMS, TERM_BYTES, VARIABLES};
 use crate::records::{write_places, write_terms};
 use crate::systems::{self, Kit, Outside};
-use crate::walk::Hopeless;
+use crate::walk::Rules;
 
 /// Every operation with marks. Two thirds are stories of a system or a set.
 pub const MARKED: Mix = Mix {
@@ -17,7 +17,7 @@ pub const MARKED: Mix = Mix {
     given: &[Ask::Wire, Ask::Thin, Ask::Verdict],
     outside: Outside::Signals,
     kit: Kit::Full,
-    hopeless: Hopeless::Tried,
+    rules: Rules::BEFORE_CLOSING,
     shares: &[
         (21, Maker::around_a_plan),
         (5, Maker::around_a_set),

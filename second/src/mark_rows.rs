@@ -17,7 +17,7 @@ use crate::rows::{
     unfed_products, EXAMPLE_3, RABINOVICH_FABRIKANT,
 };
 use crate::thin_rows::as_thinning;
-use crate::walk::Hopeless;
+use crate::walk::Rules;
 
 /// Document 02, [3]: the signal x2 multiplies a square.
 pub const SQUARE_TIMES_SIGNAL: &str = "x1' = x1^2 x2";
@@ -64,8 +64,8 @@ pub fn each_operation(n: usize, marks: Marks, terms: &[u8], set: &[u8]) -> [Case
 /// The fixed rows of signals fed from outside.
 pub fn rows() -> Vec<Case> {
     let parts = [
-        around_each_walk(Hopeless::Tried),
-        every_way_of_marking(Hopeless::Tried),
+        around_each_walk(Rules::BEFORE_CLOSING),
+        every_way_of_marking(Rules::BEFORE_CLOSING),
         long_walks(),
         beside_marks(),
         marks_and_n(),
@@ -88,14 +88,14 @@ pub fn rows() -> Vec<Case> {
 
 /// A plan with limits and rooms on both sides of what its walk needs, and on both
 /// sides of the step that finds no room.
-pub fn around_a_walk(hopeless: Hopeless, plan: Case) -> Vec<Case> {
+pub fn around_a_walk(rules: Rules, plan: Case) -> Vec<Case> {
     let with = |limit, buffer| Case {
         limit,
         buffer,
         ..plan.clone()
     };
     let generous = with(FAR, 40 * SET_BYTES);
-    let (reply, _) = generous.answer_by(hopeless);
+    let (reply, _) = generous.answer_by(rules);
     let (steps, count) = (reply.steps, reply.count as usize);
     let exact = count * SET_BYTES;
     let mut cases = vec![with(steps, exact), with(steps + 1, exact + SET_BYTES)];
@@ -103,7 +103,7 @@ pub fn around_a_walk(hopeless: Hopeless, plan: Case) -> Vec<Case> {
         cases.push(with(steps - 1, exact));
     }
     if count > 0 {
-        let full = with(FAR, exact - 1).answer_by(hopeless).0.steps;
+        let full = with(FAR, exact - 1).answer_by(rules).0.steps;
         cases.push(with(full, exact - 1));
         if full > 1 {
             cases.push(with(full - 1, exact - 1));
@@ -113,7 +113,7 @@ pub fn around_a_walk(hopeless: Hopeless, plan: Case) -> Vec<Case> {
 }
 
 /// Systems with a signal, the rows of the request first and with every K.
-pub fn around_each_walk(hopeless: Hopeless) -> Vec<Case> {
+pub fn around_each_walk(rules: Rules) -> Vec<Case> {
     let mut cases = Vec::new();
     let walks: [(u64, &str, &[usize]); 20] = [
         (2, SQUARE_TIMES_SIGNAL, &[2]),
@@ -148,14 +148,14 @@ pub fn around_each_walk(hopeless: Hopeless) -> Vec<Case> {
         };
         for cap in caps {
             let plan = Case::plan(n, cap, FAR, 0, bytes_of(text)).marked(marks);
-            cases.extend(around_a_walk(hopeless, plan));
+            cases.extend(around_a_walk(rules, plan));
         }
     }
     cases
 }
 
 /// Small systems with each set of marks, the records of marked variables left out.
-pub fn every_way_of_marking(hopeless: Hopeless) -> Vec<Case> {
+pub fn every_way_of_marking(rules: Rules) -> Vec<Case> {
     let four = "x1' = x2 x3 x4; x2' = x1 x3 x4; x3' = x1 x2 x4; x4' = x1 x2 x3";
     let systems: [(usize, String); 8] = [
         (2, "x1' = x1^2 x2; x2' = - x1 x2^2".to_string()),
@@ -175,7 +175,7 @@ pub fn every_way_of_marking(hopeless: Hopeless) -> Vec<Case> {
         for marks in Marks::all_of(n) {
             let terms = without_marked(&text, marks);
             let plan = Case::plan(n as u64, CAP, FAR, 0, terms).marked(marks);
-            let around = around_a_walk(hopeless, plan);
+            let around = around_a_walk(rules, plan);
             // Of six variables there are many ways, and each has one case.
             let few = if n == VARIABLES { 1 } else { around.len() };
             cases.extend(around.into_iter().take(few));

@@ -2,6 +2,7 @@
 //! stored cases with marks (document 02, [3]).
 
 use crate::batch::{Case, Operation};
+use crate::cheap::{new_of, Pair};
 use crate::closing::lacks;
 use crate::maker::stored_marked;
 use crate::marks::Marks;
@@ -12,10 +13,10 @@ use crate::records::{read_set, read_terms, read_wires, set_places, write_places,
 use crate::reply::Reply;
 use crate::setting::Setting;
 use crate::system::{squares, Set, System};
-use crate::walk::Hopeless;
+use crate::walk::Rules;
 use crate::ways::{
-    below, fault_of_lengths, fault_of_records, fault_of_set, new_of, refused, Answer, Named,
-    Opened, Steps, Stored, Tried, Walks,
+    below, fault_of_lengths, fault_of_records, fault_of_set, refused, Answer, Named, Opened, Steps,
+    Stored, Tried, Walks,
 };
 use crate::wiring::Wire;
 use std::collections::BTreeSet;
@@ -134,9 +135,7 @@ fn read_with(case: &Case, records: Marks, set: Marks) -> Answer {
                 ..system
             };
             match case.operation {
-                Operation::Plan => {
-                    planned(Hopeless::Closed, &system, case.cap, case.limit, &mut answer)
-                }
+                Operation::Plan => planned(Rules::NOW, &system, case.cap, case.limit, &mut answer),
                 _ => match read_set(with(set), &case.given) {
                     Err(refusal) => refusal,
                     Ok(set) => wired(&system, &set, &mut answer),
@@ -346,21 +345,14 @@ impl Steps<'_, Way> {
         self.system.marks.touch(monomial)
     }
 
-    /// V in this way.
-    fn v(&self, set: &Set) -> Vec<Monomial> {
-        let mut v = self.system.signals(set);
-        v.retain(|m| self.way != Way::NotInV || !self.marked(*m));
-        v
-    }
-
     /// The nonsquares in this way.
     fn over(&self, set: &Set) -> BTreeSet<Monomial> {
-        let mut squares = squares(&self.v(set));
+        let mut squares = squares(&Way::v(self, set));
         if self.way == Way::NoProduct {
             let marked = |i: usize| self.system.marks.mark(i);
             let others = |m: &Monomial| (1..=VARIABLES).any(|i| m.0[i - 1] > 0 && !marked(i));
             squares.retain(others);
-            squares.extend(self.v(set));
+            squares.extend(Way::v(self, set));
         }
         let lefts = self.system.left_variables(set).into_iter();
         let derivatives = lefts.flat_map(|(_, left)| self.system.derivative(left));
@@ -388,6 +380,12 @@ impl Steps<'_, Way> {
 }
 
 impl Walks for Way {
+    fn v(walk: &Steps<Way>, set: &Set) -> Vec<Monomial> {
+        let mut v = walk.system.signals(set);
+        v.retain(|m| walk.way != Way::NotInV || !walk.marked(*m));
+        v
+    }
+
     fn opened(walk: &Steps<Way>, set: &Set) -> Opened {
         let over = walk.over(set);
         let slope = walk.way == Way::Slope && walk.system.marks != Marks::NONE;
@@ -401,9 +399,9 @@ impl Walks for Way {
         }
     }
 
-    fn tried(walk: &Steps<Way>, set: &Set, pair: [Monomial; 2]) -> Tried {
+    fn tried(walk: &Steps<Way>, set: &Set, pair: Pair) -> Tried {
         let [m1, m2] = pair;
-        let mut new = new_of(pair, &walk.v(set));
+        let mut new = new_of(pair, &Way::v(walk, set));
         let judged: Vec<Monomial> = match walk.way {
             Way::Knob => Vec::new(),
             Way::ByMembers => vec![m1, m2],

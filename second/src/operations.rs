@@ -1,5 +1,5 @@
 //! The four operations, with the checks in their sequence
-//! (document 01, What the box says; document 02, [1] to [4], [6] and [7]).
+//! (document 01, What the box says; document 02, [1] to [4] and [6] to [8]).
 
 use crate::listing::{read, Unreadable};
 use crate::monomial::Monomial;
@@ -12,7 +12,7 @@ use crate::reply::Reply;
 use crate::setting::Setting;
 use crate::system::{Set, System};
 use crate::thinning::thinned;
-use crate::walk::{walk, End, Hopeless};
+use crate::walk::{walk, End, Rules};
 use crate::wiring::wiring;
 use std::collections::BTreeSet;
 
@@ -26,12 +26,12 @@ pub fn limit_is_in_range(limit: u64) -> bool {
 
 /// Planning. Whatever the code, every byte of the answer is written.
 pub fn plan(setting: Setting, cap: u64, limit: u64, terms: &[u8], answer: &mut [u8]) -> Reply {
-    plan_by(Hopeless::Closed, setting, cap, limit, terms, answer)
+    plan_by(Rules::NOW, setting, cap, limit, terms, answer)
 }
 
-/// The same by a walk that does so with hopeless sets.
+/// The same by a walk of other rules.
 pub fn plan_by(
-    hopeless: Hopeless,
+    rules: Rules,
     setting: Setting,
     cap: u64,
     limit: u64,
@@ -46,26 +46,14 @@ pub fn plan_by(
         return Reply::bare(2);
     }
     match read_terms(setting, terms) {
-        Ok(system) => planned(hopeless, &system, cap, limit, answer),
+        Ok(system) => planned(rules, &system, cap, limit, answer),
         Err(refusal) => refusal,
     }
 }
 
 /// Planning of a system that is taken, into a buffer of zeros.
-pub fn planned(
-    hopeless: Hopeless,
-    system: &System,
-    cap: u64,
-    limit: u64,
-    answer: &mut [u8],
-) -> Reply {
-    let walked = walk(
-        system,
-        hopeless,
-        cap as usize,
-        limit,
-        answer.len() / SET_BYTES,
-    );
+pub fn planned(rules: Rules, system: &System, cap: u64, limit: u64, answer: &mut [u8]) -> Reply {
+    let walked = walk(system, rules, cap as usize, limit, answer.len() / SET_BYTES);
     let order = walked.level as u64;
     let steps = walked.steps;
     let (code, order, count) = match walked.end {
@@ -287,7 +275,7 @@ mod tests {
                 marked += 1;
             }
             let mut again = vec![0; ROOM];
-            let walked = super::planned(Hopeless::Closed, &moved, MOST_CAP, 2_000, &mut again);
+            let walked = super::planned(Rules::NOW, &moved, MOST_CAP, 2_000, &mut again);
             assert_eq!(walked, reply);
             assert!(again == sets);
             let set = read_set(system.setting(), &sets[..SET_BYTES]).unwrap();
@@ -329,7 +317,7 @@ mod tests {
             let smallest: BTreeSet<Vec<u8>> =
                 sets.iter().map(|set| write_set(set).to_vec()).collect();
             let mut answer = vec![0; ROOM];
-            let reply = super::planned(Hopeless::Closed, &system, 2, MOST_LIMIT, &mut answer);
+            let reply = super::planned(Rules::NOW, &system, 2, MOST_LIMIT, &mut answer);
             let found: BTreeSet<Vec<u8>> = answer
                 .chunks(SET_BYTES)
                 .take(reply.count as usize)

@@ -1,9 +1,11 @@
 //! The fixed rows: document 01's worked sums, both sides of each limit, every
 //! place of code 9, and larger systems from documents 000 and 001. Those of
 //! verdict and room together, those of thinning, those with marks, those of the
-//! counting rule, those of the junior kit and those of reading come after them.
+//! counting rule, those of the junior kit, those of reading and those of the order of
+//! pairs come after them.
 
 use crate::batch::{Case, MOST_CASE_BUFFER};
+use crate::cheap_rows;
 use crate::closing_rows;
 use crate::degree_rows;
 use crate::listing_rows;
@@ -45,6 +47,7 @@ pub fn rows() -> Vec<Case> {
     let mut rows = full_kit();
     rows.extend(degree_rows::rows());
     rows.extend(listing_rows::rows());
+    rows.extend(cheap_rows::rows());
     rows
 }
 

@@ -9,7 +9,7 @@ use crate::random::Random;
 use crate::records::{read_set, write_set, write_terms};
 use crate::system::{Set, System};
 use crate::systems::{self, Kit, Outside};
-use crate::walk::Hopeless;
+use crate::walk::Rules;
 
 /// Thinning. With these shares some 500 cases go through every turn of places,
 /// and more than half of them are stories of a given set.
@@ -18,7 +18,7 @@ pub const THINNING: Mix = Mix {
     given: &[Ask::Thin],
     outside: Outside::Nothing,
     kit: Kit::Full,
-    hopeless: Hopeless::Tried,
+    rules: Rules::BEFORE_CLOSING,
     shares: &[
         (18, Maker::thin_found_sets),
         (14, Maker::thin_closed_set),

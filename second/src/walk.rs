@@ -1,5 +1,6 @@
-//! The walk, level by level (document 01, The walk; document 02, [3], [4] and [6]).
+//! The walk, level by level (document 01, The walk; document 02, [3], [4], [6] and [8]).
 
+use crate::cheap::{new_of, Order};
 use crate::closing::lacks;
 use crate::monomial::Monomial;
 use crate::system::{Set, System};
@@ -10,9 +11,42 @@ use std::collections::BTreeSet;
 pub enum Hopeless {
     /// It is closed after its opening step.
     Closed,
-    /// Its pairs are tried, as before document 02, [4]. No operation walks so: the
-    /// cases from that time are laid around these walks, and tests compare the two.
+    /// Its pairs are tried, as before document 02, [4].
     Tried,
+}
+
+/// What document 02 has changed in the walk.
+#[derive(Clone, Copy, PartialEq, Eq, Debug)]
+pub struct Rules {
+    pub hopeless: Hopeless,
+    pub order: Order,
+}
+
+impl Rules {
+    /// The walk of every operation.
+    pub const NOW: Rules = Rules {
+        hopeless: Hopeless::Closed,
+        order: Order::CheapFirst,
+    };
+
+    /// The walk before document 02, [8]. No operation walks so: the cases from that
+    /// time are laid around such walks, and tests compare them with those of now.
+    pub const BEFORE_CHEAP_FIRST: Rules = Rules {
+        order: Order::Ascending,
+        ..Rules::NOW
+    };
+
+    /// The walk before document 02, [4], for the same.
+    pub const BEFORE_CLOSING: Rules = Rules {
+        hopeless: Hopeless::Tried,
+        ..Rules::BEFORE_CHEAP_FIRST
+    };
+
+    /// The walk of now, but for what becomes of hopeless sets.
+    pub const TRYING: Rules = Rules {
+        hopeless: Hopeless::Tried,
+        ..Rules::NOW
+    };
 }
 
 /// How a walk ended.
@@ -35,10 +69,10 @@ pub struct Walked {
 }
 
 /// Walks up to the cap, within the limit, with room for so many sets.
-pub fn walk(system: &System, hopeless: Hopeless, cap: usize, limit: u64, room: usize) -> Walked {
+pub fn walk(system: &System, rules: Rules, cap: usize, limit: u64, room: usize) -> Walked {
     let mut walk = Walk {
         system,
-        hopeless,
+        rules,
         level: 0,
         limit,
         room,
@@ -64,7 +98,7 @@ enum Stop {
 
 struct Walk<'a> {
     system: &'a System,
-    hopeless: Hopeless,
+    rules: Rules,
     level: usize,
     limit: u64,
     room: usize,
@@ -113,7 +147,7 @@ impl Walk<'_> {
 
     /// Whether a set lacks more monomials than the level has room for.
     fn closes(&self, set: &Set, nonsquares: &BTreeSet<Monomial>) -> bool {
-        match self.hopeless {
+        match self.rules.hopeless {
             Hopeless::Closed => set.len() + lacks(self.system, set, nonsquares) > self.level,
             Hopeless::Tried => false,
         }
@@ -124,15 +158,13 @@ impl Walk<'_> {
     /// which is in V, forbids nothing. Nothing in V is above the limit.
     fn try_pairs(&mut self, set: &Set, nonsquare: Monomial) -> Result<(), Stop> {
         let signals = self.system.signals(set);
-        for (m1, m2) in nonsquare.pairs() {
+        for pair in self.rules.order.pairs(nonsquare, &signals) {
             self.step()?;
-            let mut new = vec![m1, m2];
-            new.retain(|m| !signals.contains(m));
+            let new = new_of(pair, &signals);
             if new.iter().any(|m| !self.system.takes(*m)) {
                 continue;
             }
-            let mut child = set.clone();
-            child.extend(new);
+            let child: Set = set.union(&new).copied().collect();
             if child.len() <= self.level {
                 self.open(&child)?;
             }

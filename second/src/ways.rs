@@ -2,6 +2,7 @@
 //! what tells a way from the right one.
 
 use crate::batch::{Case, Operation};
+use crate::cheap::{Order, Pair};
 use crate::marks::Marks;
 use crate::monomial::Monomial;
 use crate::panel::SET_BYTES;
@@ -134,11 +135,32 @@ pub fn fault_of_set(case: &Case) -> Option<Reply> {
 /// One step of a walk: its level, and what it finds.
 type Step = (usize, Option<Vec<Monomial>>);
 
-/// A way of walking: what it makes of a set, and of a pair.
+/// A way of walking: what it makes of a set, and of a pair, and in which order it tries
+/// the pairs.
 pub trait Walks: Copy {
     fn opened(walk: &Steps<Self>, set: &Set) -> Opened;
 
-    fn tried(walk: &Steps<Self>, set: &Set, pair: [Monomial; 2]) -> Tried;
+    fn tried(walk: &Steps<Self>, set: &Set, pair: Pair) -> Tried;
+
+    /// V, which says whether a pair is cheap.
+    fn v(walk: &Steps<Self>, set: &Set) -> Vec<Monomial> {
+        walk.system.signals(set)
+    }
+
+    /// The pairs as they are tried.
+    fn pairs(self, chosen: Chosen) -> Box<dyn Iterator<Item = Pair> + '_> {
+        Order::CheapFirst.pairs(chosen.nonsquare, chosen.v)
+    }
+}
+
+/// A nonsquare whose pairs are tried: that of a set with so much room below the level.
+#[derive(Clone, Copy)]
+pub struct Chosen<'a> {
+    pub system: &'a System,
+    pub set: &'a Set,
+    pub v: &'a [Monomial],
+    pub room: usize,
+    pub nonsquare: Monomial,
 }
 
 /// What becomes of an opened set: whether it is found, and the nonsquare whose pairs
@@ -187,15 +209,25 @@ impl<W: Walks> Steps<'_, W> {
         let Opened { found, chosen } = W::opened(self, set);
         let members = set.iter().copied().collect();
         self.steps.push((self.level, found.then_some(members)));
-        for (m1, m2) in chosen.iter().flat_map(|m| m.pairs()) {
-            if self.is_over() || !self.pair(set, [m1, m2]) {
+        let Some(nonsquare) = chosen else {
+            return;
+        };
+        let chosen = Chosen {
+            system: self.system,
+            set,
+            v: &W::v(self, set),
+            room: self.level - set.len(),
+            nonsquare,
+        };
+        for pair in self.way.pairs(chosen) {
+            if self.is_over() || !self.pair(set, pair) {
                 return;
             }
         }
     }
 
     /// Tries a pair. Whether the next one is tried after it.
-    fn pair(&mut self, set: &Set, pair: [Monomial; 2]) -> bool {
+    fn pair(&mut self, set: &Set, pair: Pair) -> bool {
         let tried = W::tried(self, set, pair);
         self.steps.extend(vec![(self.level, None); tried.costs]);
         if let Some(added) = tried.added {
@@ -206,11 +238,6 @@ impl<W: Walks> Steps<'_, W> {
         }
         !tried.ends_pairs
     }
-}
-
-/// Of a pair those that are not in V.
-pub fn new_of(pair: [Monomial; 2], v: &[Monomial]) -> Set {
-    pair.into_iter().filter(|m| !v.contains(m)).collect()
 }
 
 /// What a planner says who takes these steps.

@@ -8,7 +8,7 @@ use crate::panel::{MOST_TERMS, MOST_WIRES_BYTES, WIRE_BYTES};
 use crate::records::{write_set, write_terms};
 use crate::system::{Set, System};
 use crate::systems::{self, Kit, Outside};
-use crate::walk::Hopeless;
+use crate::walk::Rules;
 use crate::wire_cover::Derivatives;
 
 /// Wiring, a fair share of it for the verdict alone.
@@ -17,7 +17,7 @@ pub const WIRING: Mix = Mix {
     given: &[Ask::Verdict, Ask::Wire],
     outside: Outside::Nothing,
     kit: Kit::Full,
-    hopeless: Hopeless::Tried,
+    rules: Rules::BEFORE_CLOSING,
     shares: &[
         (14, Maker::wire_found_set),
         (18, Maker::wire_closed_set),

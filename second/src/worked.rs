@@ -177,7 +177,7 @@ fn four_sets_of_one() {
 fn example_3_lies_outside_the_box() {
     let names = ["x2^3", "x1 x2^2", "x1^3"];
     plain(2, EXAMPLE_3, [0, 3, 1, 145, 0], &[&names]);
-    row(2, EXAMPLE_3, (CAP, LIMIT, 0), [6, 3, 0, 109, 0], &[]);
+    row(2, EXAMPLE_3, (CAP, LIMIT, 0), [6, 3, 0, 107, 0], &[]);
     assert_eq!(verdict(2, EXAMPLE_3, &names), [6, 3, 0, 0, 0]);
     // Signals: 3 is x2^3, 4 is x1 x2^2, 5 is x1^3 (document 001, Example 3).
     let (numbers, list) = wires(2, EXAMPLE_3, &names);

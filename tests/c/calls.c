@@ -600,7 +600,20 @@ static void closing(void) {
     static const uint8_t two_powers_set[SIRAGUMON_SET_BYTES] = {1, 3, 0, 0, 0, 0, 3, 0, 0, 0, 0, 0};
     plan("x1^4+x1^2 x2^3, x1^3 x2", 2, NO_MARKS, FULL_KIT, CAP, 24, BYTES(two_powers), ROOM, FIVE(0, 2, 1, 24, 0), BYTES(two_powers_set));
     plan("the same, limit 23", 2, NO_MARKS, FULL_KIT, CAP, 23, BYTES(two_powers), ROOM, FIVE(7, 2, 0, 23, 0), NO_BYTES);
-    plan("the same, no room", 2, NO_MARKS, FULL_KIT, CAP, LIMIT, BYTES(two_powers), 35, FIVE(6, 2, 0, 21, 0), NO_BYTES);
+    plan("the same, no room", 2, NO_MARKS, FULL_KIT, CAP, LIMIT, BYTES(two_powers), 35, FIVE(6, 2, 0, 19, 0), NO_BYTES);
+
+    /* the pairs that add a single monomial come first: full sooner, and where it was spent */
+    static const uint8_t example_3[] = {TERM(1, 0, 4, 0, 1), TERM(2, 2, 0, 0, 1)};
+    plan("Example 3, no room", 2, NO_MARKS, FULL_KIT, CAP, LIMIT, BYTES(example_3), 35, FIVE(6, 3, 0, 107, 0), NO_BYTES);
+    plan("the same, limit 107", 2, NO_MARKS, FULL_KIT, CAP, 107, BYTES(example_3), 35, FIVE(6, 3, 0, 107, 0), NO_BYTES);
+    plan("the same, limit 106", 2, NO_MARKS, FULL_KIT, CAP, 106, BYTES(example_3), 35, FIVE(7, 3, 0, 106, 0), NO_BYTES);
+    static const uint8_t ninths[] = {TERM(1, 9, 9, 0, 1)};
+    plan("x1^9 x2^9, no room", 2, NO_MARKS, FULL_KIT, CAP, LIMIT, BYTES(ninths), 35, FIVE(6, 1, 0, 8, 0), NO_BYTES);
+    plan("the same, limit 54", 2, NO_MARKS, FULL_KIT, CAP, 54, BYTES(ninths), 36, FIVE(7, 1, 0, 54, 0), NO_BYTES);
+    /* the last pair is one of equal factors, and cheap: so it comes before the rest */
+    static const uint8_t eighths[] = {TERM(1, 0, 8, 8, 1)};
+    plan("x2^8 x3^8, room 3", 3, NO_MARKS, FULL_KIT, CAP, LIMIT, BYTES(eighths), 108, FIVE(6, 1, 0, 10, 0), NO_BYTES);
+    plan("the same, limit 9", 3, NO_MARKS, FULL_KIT, CAP, 9, BYTES(eighths), 108, FIVE(7, 1, 0, 9, 0), NO_BYTES);
 
     /* more than 1,000,000 steps where nothing is closed */
     static const uint8_t three[] = {

@@ -1,16 +1,17 @@
 -- Lists without repeats: they are no longer than any list that has their entries, and two with the same entries are one list in another order.
 -- Assumes nothing.
-use mathlib.Core.Path.{_≡_, refl, sym, ap, subst}
+use mathlib.Core.Path.{_≡_, refl, sym, ap, _∙_, subst}
 use mathlib.Core.Logic.{inl, inr, ⊎-elim}
 use mathlib.Core.Bool.{Bool}
 use mathlib.Core.List.{List, [], _∷_, _++_, map, List·Memᴰ·head, List·Memᴰ·cases-cons, List·Memᴰ·not-nil, Memᴰ·cast, Memᴰ·of-map, List·Memᴰ·append-cases}
 use Prim.Native.Nat.{ℕ, zero, suc, _+_, _≤_}
 use native.Mathlib.Omega.{arith}
-use lib.ListN.{length, take}
+use lib.Dec.{T}
+use lib.ListN.{length, take, length-map}
 use Rattle.monomial.specs.Lists.{keep}
 use Rattle.monomial.specs.Claims.{_∈_, _⊆_, Ascending, Different, Rearranged, Order}
 use Rattle.monomial.proofs.Tests.{Tested, passed, failed, test}
-use Rattle.monomial.proofs.Members.{here, there, keep-out, take-in}
+use Rattle.monomial.proofs.Members.{here, there, keep-in, keep-out, take-in}
 use Rattle.monomial.proofs.Rearranged.{between-in, between-out, between-length}
 use Rattle.monomial.proofs.order.Ascending.{head-first, tail-asc}
 
@@ -119,3 +120,26 @@ different-map f (x ∷ l) one d = (out, different-map f l (λ y z h k e. one y z
   where
     out : f x ∈ map f l → ⊥
     out h = let p = Memᴰ·of-map f l h in d .0 (Memᴰ·cast (one x (p .0) here (there (p .1)) (sym (p .2))) (p .1))
+
+module _ {A : Type 0} where
+  -- f leads from l into l and back. Where it takes what passes p to what passes q, no more pass p than q
+  pub turn-length : (f : A → A) (p q : A → Bool) (l : List A) → Different l → ((x : A) → x ∈ l → f x ∈ l) → ((x : A) → x ∈ l → f (f x) ≡ x)
+      → ((x : A) → x ∈ l → T (p x) → T (q (f x))) → length (keep p l) ≤ length (keep q l)
+  turn-length f p q l d into back turns =
+      let s : length (map f (keep p l)) ≤ length (keep q l) = different-length (map f (keep p l)) (keep q l) (different-map f (keep p l) one (different-keep p l d)) sub in
+      omega (arith, length-map (keep p l) f)
+    where
+      one : (x y : A) → x ∈ keep p l → y ∈ keep p l → f x ≡ f y → x ≡ y
+      one x y h k e = sym (back x (keep-out p l h .0)) ∙ ap f e ∙ back y (keep-out p l k .0)
+
+      sub : map f (keep p l) ⊆ keep q l
+      sub y h =
+          let r : (x : A) × (x ∈ keep p l) × (f x ≡ y) = Memᴰ·of-map f (keep p l) h in
+          let k = keep-out p l (r .1) in
+          subst (λ z. z ∈ keep q l) (r .2) (keep-in q l (into (r .0) (k .0)) (turns (r .0) (k .0) (k .1)))
+
+  -- all entries are one
+  pub one-length : (l : List A) → Different l → ((x y : A) → x ∈ l → y ∈ l → x ≡ y) → length l ≤ 1
+  one-length [] d e = omega arith
+  one-length (x ∷ []) d e = omega arith
+  one-length (x ∷ y ∷ l) d e = absurd (d .0 (Memᴰ·cast (e x y here (there here)) here))

@@ -59,6 +59,10 @@ module _ {A : Type 0} where
   some-out [] t = absurd t
   some-out (x ∷ l) t = (x, here)
 
+  pub no-length : (l : List A) → length l ≡ 0 → l ≡ []
+  no-length [] e = refl
+  no-length (x ∷ l) e = let z : ⊥ = omega arith in absurd z
+
   -- ---- all
   pub all-out : (f : A → Bool) {x : A} {l : List A} → T (all f l) → x ∈ l → T (f x)
   unfolding all

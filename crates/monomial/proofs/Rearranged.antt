@@ -1,13 +1,14 @@
 -- A list in another order: the same entries, each as often. Assumes nothing.
 use mathlib.Core.Path.{_≡_, refl, sym, ap, _∙_, subst}
 use mathlib.Core.Logic.{_⊎_, inl, inr, ⊎-elim}
-use mathlib.Core.Bool.{Bool}
+use mathlib.Core.Bool.{Bool, not}
 use mathlib.Core.List.{List, [], _∷_, _++_, List·Memᴰ·head, List·Memᴰ·cases-cons, List·Memᴰ·not-nil, Memᴰ·append-left, Memᴰ·append-right, List·Memᴰ·append-cases}
 use Prim.Native.Nat.{ℕ, suc, _+_}
 use native.Mathlib.Omega.{arith}
 use lib.ListN.{length, length-append}
 use Rattle.monomial.specs.Lists.{keep, gather}
 use Rattle.monomial.specs.Claims.{_∈_, Rearranged}
+use Rattle.monomial.proofs.Tests.{Tested, passed, failed, test}
 use Rattle.monomial.proofs.Members.{there, keep-append, gather-append}
 
 module _ {A : Type 0} where
@@ -28,6 +29,16 @@ module _ {A : Type 0} where
   pub rearranged-self : (l : List A) → Rearranged l l
   rearranged-self [] = refl
   rearranged-self (x ∷ l) = ([], l, refl, rearranged-self l)
+
+  -- those that pass a test first, then the others, each in their order
+  pub first-rearranged : (f : A → Bool) (l : List A) → Rearranged l (keep f l ++ keep (λ x. not (f x)) l)
+  unfolding keep
+  first-rearranged f [] = refl
+  first-rearranged f (x ∷ l) = go (test (f x)) (first-rearranged f l)
+    where
+      go : Tested (f x) → Rearranged l (keep f l ++ keep (λ y. not (f y)) l) → Rearranged (x ∷ l) (keep f (x ∷ l) ++ keep (λ y. not (f y)) (x ∷ l))
+      go (passed e) ih = rw e ([], keep f l ++ keep (λ y. not (f y)) l, refl, ih)
+      go (failed e) ih = rw e (keep f l, keep (λ y. not (f y)) l, refl, ih)
 
   -- the same entries
   pub rearranged-in : (l l' : List A) → Rearranged l l' → (y : A) → y ∈ l → y ∈ l'
@@ -68,3 +79,12 @@ module _ {A B : Type 0} (f : B → Bool) (g : A → List B) where
       let ih : kept l ≡ kept (q .0 ++ q .1) = kept-rearranged l (q .0 ++ q .1) (q .3) in
       let e : kept l' ≡ kept (q .0 ++ (x ∷ q .1)) = ap kept (q .2) in
       omega (arith, kept-more x l, kept-append (q .0) (q .1), kept-append (q .0) (x ∷ q .1), kept-more x (q .1))
+
+-- and of what two such lists give, where it keeps as many for each entry
+module _ {A B : Type 0} (f : B → Bool) (g h : A → List B) where
+  pub kept-even : (l : List A) → ((x : A) → length (keep f (g x)) ≡ length (keep f (h x))) → length (keep f (gather g l)) ≡ length (keep f (gather h l))
+  unfolding gather
+  kept-even [] e = refl
+  kept-even (x ∷ l) e =
+      let ih : kept f g l ≡ kept f h l = kept-even l e in
+      omega (arith, kept-more f g x l, kept-more f h x l, e x)

@@ -21,7 +21,8 @@ use Rattle.wiring.specs.Kit.{degreeRight}
 use Rattle.wiring.specs.Sockets.{fullPanel, halved, marked, countRight, panelRight, free, mayBe}
 use Rattle.wiring.specs.Answers.{firstUnmet, judged, recordJudged, verdict, listed, told, wired}
 use Rattle.counting.specs.Counting.{quotientsOf, count, insertDown, sortDown, counts, sum, mayDo, leastFrom, needed, closes}
-use Rattle.walk.specs.Walk.{added, child, opens, ends, tried, after, opened, level, kept, onward, run}
+use Rattle.lister.specs.Cheap.{added, cheap, cheapFirst}
+use Rattle.walk.specs.Walk.{child, opens, ends, tried, after, opened, level, kept, onward, run}
 use Rattle.walk.specs.Plan.{settled, levels, plan, setsBytes, said, settingsRight, planned}
 use Rattle.walk.proofs.Worked.{padded, plus, minus}
 use Rattle.thin.specs.Subsets.{subsets}
@@ -151,7 +152,7 @@ sampled : map (λ r. r .got) table ≡ map (λ r. r .want) table
 unfolding table row powersOf thinRow wireRow padded plus minus example wiring-set written line report thinReport wireReport linesOf setLines wireLines slots resultsOf results thinResults
     wireResults wiringOf decimalWithin decimal
     signedText joined replyLine exponents setText wireLine planned thinned thinnedBy thinning thinnest least quadraticOnes leastSize subsets settingsRight said setsBytes plan levels settled run onward
-    kept level opened after ends tried opens child added cheaper chosen pairs divisors score setRecord wired told listed verdict recordJudged judged firstUnmet
+    kept level opened after ends tried opens child added cheap cheapFirst cheaper chosen pairs divisors score setRecord wired told listed verdict recordJudged judged firstUnmet
     halved marked countRight degreeRight panelRight free degree mayBe records lengthRight exponentsRight coefficientRight termRight faultFrom equation system places sizeOf setOf ascending monomialRight
     setRight firstOf secondOf rowOf rowsFrom wiring wireRecord signals factor inV2 unmet nonsquares partsFrom derivative coeff times support signed
     unsigned isZero vars any some all keep place gather below pairwise pointwise dictionary insertBy arrangeBy closes needed leastFrom mayDo sum counts

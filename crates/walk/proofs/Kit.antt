@@ -32,11 +32,11 @@ use Rattle.wiring.proofs.sockets.Laws.{unmarked-free}
 use Rattle.wiring.proofs.kit.Full.{full-can}
 use Rattle.wiring.proofs.kit.Laws.{may-can, can-buildable, buildable-can, may-buildable}
 use Rattle.counting.proofs.Largest.{closes-tested}
-use Rattle.walk.specs.Walk.{Rules, Step, allowing, bare, counted, rulesOf, kitRules, opens, ends, level}
+use Rattle.walk.specs.Walk.{Rules, Step, allowing, bare, cheaply, counted, rulesOf, kitRules, opens, ends, level}
 use Rattle.walk.specs.Plan.{plan}
 use Rattle.walk.specs.Turns.{Walked}
 use Rattle.walk.specs.Claims.{Counts, Sparing, Agree, distinct, Barren, QuadraticList, NoneSmaller}
-use Rattle.walk.proofs.Rules.{allowing-orderly, at-its-level, below-its-level, counted-counts, counts-counted}
+use Rattle.walk.proofs.Rules.{cheaply-orderly, at-its-level, below-its-level, counted-counts, counts-counted}
 use Rattle.walk.proofs.Agree.{level-agree, plan-agree}
 use Rattle.walk.proofs.Limits.{keeps-walked}
 use Rattle.walk.proofs.Counting.{counted-sparing}
@@ -100,11 +100,11 @@ module _ (panel : Panel) where
 
     pub kit-level : (k : ℕ) → k ≤ cards → level (rulesOf panel) n fs k ≡ level (kitRules panel) n fs k
     kit-level k low =
-        let o = allowing-orderly (mayBe panel) in
+        let o = cheaply-orderly (allowing (mayBe panel)) in
         level-agree (rulesOf panel) (kitRules panel) o n n fs k Walked (keeps-walked (rulesOf panel) o empty-walked n terms clean k low) (kit-agrees k low) refl empty-walked
 
     pub kit-plan : (cap : ℕ) → cap ≤ cards → (limit room : ℕ) → plan (rulesOf panel) n fs limit room cap ≡ plan (kitRules panel) n fs limit room cap
-    kit-plan cap low = plan-agree (rulesOf panel) (kitRules panel) (allowing-orderly (mayBe panel)) n n fs cap (λ k h. kit-level k (omega arith))
+    kit-plan cap low = plan-agree (rulesOf panel) (kitRules panel) (cheaply-orderly (allowing (mayBe panel))) n n fs cap (λ k h. kit-level k (omega arith))
 
     -- ---- so what is shown of the rules of the kit, of any powers with the full one, holds of the panel's walk
     module _ (j : ℕ) (low : j ≤ suc cards) (barren : Barren (rulesOf panel) n fs j) where
@@ -112,16 +112,16 @@ module _ (panel : Panel) where
       kit-barren i h = ap distinct (sym (kit-level i (omega arith))) ∙ barren i h
 
       spares : Sparing (kitRules panel) n fs
-      spares = counted-sparing (allowing (canBuild panel)) n fs
+      spares = counted-sparing (cheaply (allowing (canBuild panel))) n fs
 
       pub none-smaller-limit : NoneSmaller (kitRules panel) n (derivative plain fs) j
-      none-smaller-limit = none-smaller (kitRules panel) (allowing-orderly (canBuild panel)) empty n fs spares j kit-barren
+      none-smaller-limit = none-smaller (kitRules panel) (cheaply-orderly (allowing (canBuild panel))) empty n fs spares j kit-barren
 
       pub all-limit : j ≤ cards → (s : List Mono) → Wide s → Counts (kitRules panel) s → QuadraticList n (derivative plain fs) s → length s ≡ j
           → arrangeBy same before s ∈ distinct (level (rulesOf panel) n fs j)
       all-limit at s w c q e =
           subst (λ (es : List Step). arrangeBy same before s ∈ distinct es) (sym (kit-level j at))
-          (all-found (kitRules panel) (allowing-orderly (canBuild panel)) empty n fs spares j kit-barren s w c q e)
+          (all-found (kitRules panel) (cheaply-orderly (allowing (canBuild panel))) empty n fs spares j kit-barren s w c q e)
 
 -- ---- the full kit knows no limit, and with no marks everything may be
 full-open : (n marks : ℕ) → allowing (canBuild (panelOf n marks fullDegree)) ≡ allowing (free marks)
@@ -136,12 +136,12 @@ unmarked-open = ap allowing unmarked-may
 -- so its walk is the one without a limit, step by step
 module _ (n marks : ℕ) (terms : List ℕ) (clean : CleanTerms terms) where
   pub full-level : (k : ℕ) → k ≤ cards
-      → level (rulesOf (panelOf n marks fullDegree)) n (system (records terms)) k ≡ level (counted (allowing (free marks))) n (system (records terms)) k
+      → level (rulesOf (panelOf n marks fullDegree)) n (system (records terms)) k ≡ level (counted (cheaply (allowing (free marks)))) n (system (records terms)) k
   full-level k low =
-      kit-level (panelOf n marks fullDegree) n terms clean k low ∙ ap (λ (r : Rules). level (counted r) n (system (records terms)) k) (full-open n marks)
+      kit-level (panelOf n marks fullDegree) n terms clean k low ∙ ap (λ (r : Rules). level (counted (cheaply r)) n (system (records terms)) k) (full-open n marks)
 
   pub full-plan : (cap : ℕ) → cap ≤ cards → (limit room : ℕ)
-      → plan (rulesOf (panelOf n marks fullDegree)) n (system (records terms)) limit room cap ≡ plan (counted (allowing (free marks))) n (system (records terms)) limit room cap
+      → plan (rulesOf (panelOf n marks fullDegree)) n (system (records terms)) limit room cap ≡ plan (counted (cheaply (allowing (free marks)))) n (system (records terms)) limit room cap
   full-plan cap low limit room =
       kit-plan (panelOf n marks fullDegree) n terms clean cap low limit room
-      ∙ ap (λ (r : Rules). plan (counted r) n (system (records terms)) limit room cap) (full-open n marks)
+      ∙ ap (λ (r : Rules). plan (counted (cheaply r)) n (system (records terms)) limit room cap) (full-open n marks)

@@ -12,6 +12,7 @@ pub mod Begins
 pub mod Alike
 pub mod Closing
 pub mod Counting
+pub mod Trying
 pub mod Smallest
 pub mod Kit
 pub mod Heedless

@@ -19,7 +19,8 @@ use Rattle.monomial.proofs.order.Laws.{mono-order}
 use Rattle.monomial.proofs.order.Ascending.{among-in, among-out}
 use Rattle.wiring.specs.Signals.{signals}
 use Rattle.wiring.proofs.signals.Laws.{set-in}
-use Rattle.walk.specs.Walk.{Rules, allowing, bare, counted, child, opens, ends}
+use Rattle.lister.proofs.Order.{cheap-first-rearranged}
+use Rattle.walk.specs.Walk.{Rules, allowing, bare, cheaply, counted, child, opens, ends}
 use Rattle.walk.specs.Claims.{Orderly, Extends, Counts}
 use Rattle.walk.proofs.children.Laws.{child-sub, Grown, old, left, right, child-out, Placed, was, now, child-left, child-right}
 
@@ -110,6 +111,10 @@ module _ (r : Rules) (n k : ℕ) (s ns : List Mono) where
       go (passed t) = absurd (is→nT (ends r n k s ns) e (is→T (ends r n k s ns) (at-its-level (leb-true k (length s) t))))
       go (failed t) = leb-false k (length s) t
 
+-- ---- cheap pairs first: an order as any other
+pub cheaply-orderly : (r : Rules) → Orderly (cheaply r)
+cheaply-orderly r = cheap-first-rearranged
+
 -- ---- document 01's rules with a test of its own for new monomials
 module _ (may : Mono → Bool) where
   pub allowing-orderly : Orderly (allowing may)
@@ -126,10 +131,10 @@ module _ (may : Mono → Bool) where
 pub bare-extends : (s : List Mono) → Counts bare s
 bare-extends s = allowing-counts (λ m. true) s (λ m h. tt)
 
--- closing by counting is no part of what counts
+-- the order of the pairs and closing by counting are no part of what counts
 module _ (may : Mono → Bool) (s : List Mono) where
-  pub counted-counts : ((m : Mono) → m ∈ s → T (may m)) → Counts (counted (allowing may)) s
-  counted-counts f = extends-by (allowing may) (counted (allowing may)) (λ m t. t) [] s (allowing-counts may s f)
+  pub counted-counts : ((m : Mono) → m ∈ s → T (may m)) → Counts (counted (cheaply (allowing may))) s
+  counted-counts f = extends-by (allowing may) (counted (cheaply (allowing may))) (λ m t. t) [] s (allowing-counts may s f)
 
-  pub counts-counted : Counts (counted (allowing may)) s → (m : Mono) → m ∈ s → T (may m)
-  counts-counted c = counts-allowed may s (extends-by (counted (allowing may)) (allowing may) (λ m t. t) [] s c)
+  pub counts-counted : Counts (counted (cheaply (allowing may))) s → (m : Mono) → m ∈ s → T (may m)
+  counts-counted c = counts-allowed may s (extends-by (counted (cheaply (allowing may))) (allowing may) (λ m t. t) [] s c)

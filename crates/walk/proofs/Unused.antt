@@ -41,31 +41,15 @@ use Rattle.wiring.proofs.sockets.Laws.{may-same}
 use Rattle.wiring.proofs.answers.Exact.{panel-in}
 use Rattle.wiring.proofs.terms.Laws.{Fields, fields-out, clean-right, clean-widens, clean-for}
 use Rattle.wiring.proofs.signals.Laws.{base-in, set-in, signals-cases, signals-wide}
-use Rattle.walk.specs.Walk.{Rules, allowing, counted, rulesOf, added, child, opens, ends, level}
+use Rattle.lister.specs.Cheap.{added}
+use Rattle.walk.specs.Walk.{Rules, allowing, cheaply, counted, rulesOf, child, opens, ends, level}
 use Rattle.walk.specs.Plan.{plan, settingsRight, planned}
 use Rattle.walk.specs.Claims.{Orderly, Proper, Heedless, Agree}
 use Rattle.walk.proofs.children.Laws.{Grown, old, left, right, child-out, nonsquare-wide}
-use Rattle.walk.proofs.Rules.{allowing-orderly}
+use Rattle.walk.proofs.Rules.{cheaply-orderly}
 use Rattle.walk.proofs.Agree.{level-agree, plan-agree}
 use Rattle.walk.proofs.Sound.{within-base, gap-within, keeps-proper}
-use Rattle.walk.proofs.Heedless.{allowing-heedless, counted-heedless}
-
--- V has more in it, but nothing more that says nothing of the further variables
-module _ (n b : ℕ) (more : n ≤ b) (s : List Mono) where
-  grow : signals width n s ⊆ signals width b s
-  grow x h = ⊎-elim (λ j. base-in b s (take-more (suc n) (suc b) (constants width) (omega arith) j)) (λ j. set-in b s j) (signals-cases n s h)
-
-  shrink : (x : Mono) → x ∈ signals width b s → Within n x → x ∈ signals width n s
-  shrink x h w = ⊎-elim (λ j. base-in n s (within-base n x (take-in (suc b) (constants width) j) w)) (λ j. set-in n s j) (signals-cases b s h)
-
-  pub signal-same : (x : Mono) → Within n x → any (same x) (signals width n s) ≡ any (same x) (signals width b s)
-  signal-same x w =
-      same-test (any (same x) (signals width n s)) (any (same x) (signals width b s))
-      (λ t. among-in mono-order (grow x (among-out mono-order x (signals width n s) t)))
-      (λ t. among-in mono-order (shrink x (among-out mono-order x (signals width b s) t) w))
-
-pub factor-within : (n : ℕ) (m x y : Mono) → Within n m → length x ≡ length y → mul x y ≡ m → Within n x
-factor-within n m x y w l e = within-divides n x m (subst (λ (z : Mono). T (divides x z)) e (factor-divides x y l)) w
+use Rattle.walk.proofs.Heedless.{allowing-heedless, counted-heedless, cheaply-heedless, signals-more, signals-fewer, signal-same, factor-within, factors-within}
 
 module _ (n b : ℕ) (terms : List ℕ) (more : n ≤ b) (few : b ≤ width) (clean : CleanFor n terms) where
   abbrev fs : List (Poly Mono)
@@ -76,18 +60,18 @@ module _ (n b : ℕ) (terms : List ℕ) (more : n ≤ b) (few : b ≤ width) (cl
 
   module _ (s : List Mono) (q : Proper n s) (wide : Wide s) where
     factors-grow : (m : Mono) → Factors plain mono-order (signals width n s) m → Factors plain mono-order (signals width b s) m
-    factors-grow m f = record { a = f .a; b = f .b; a-in = grow n b more s (f .a) (f .a-in); b-in = grow n b more s (f .b) (f .b-in); is = f .is }
+    factors-grow m f = record { a = f .a; b = f .b; a-in = signals-more n b more s (f .a) (f .a-in); b-in = signals-more n b more s (f .b) (f .b-in); is = f .is }
 
     factors-shrink : (m : Mono) → Within n m → Factors plain mono-order (signals width b s) m → Factors plain mono-order (signals width n s) m
     factors-shrink m w f =
         let long : length (f .a) ≡ length (f .b) = signals-wide b s wide (f .a) (f .a-in) ∙ sym (signals-wide b s wide (f .b) (f .b-in)) in
         let first : Within n (f .a) = factor-within n m (f .a) (f .b) w long (f .is) in
         let second : Within n (f .b) = factor-within n m (f .b) (f .a) w (sym long) (mul-comm (f .b) (f .a) ∙ f .is) in
-        record { a = f .a; b = f .b; a-in = shrink n b more s (f .a) (f .a-in) first; b-in = shrink n b more s (f .b) (f .b-in) second; is = f .is }
+        record { a = f .a; b = f .b; a-in = signals-fewer n b more s (f .a) (f .a-in) first; b-in = signals-fewer n b more s (f .b) (f .b-in) second; is = f .is }
 
     -- a member of V whose derivative has a monomial holds a variable with a record
     derived-member : (z m : Mono) → z ∈ signals width b s → m ∈ support plain (derivative plain fs z) → z ∈ signals width n s
-    derived-member z m h k = shrink n b more s z h (⊎-elim constant (q .within z) (signals-cases b s h))
+    derived-member z m h k = signals-fewer n b more s z h (⊎-elim constant (q .within z) (signals-cases b s h))
       where
         from : Derived (records terms) z m
         from = derived (records terms) z m (support-out plain mono-order (derivative plain fs z) m k .0)
@@ -108,7 +92,7 @@ module _ (n b : ℕ) (terms : List ℕ) (more : n ≤ b) (few : b ≤ width) (cl
         let u = unmet-out plain mono-order (signals width n s) (d (w .of)) m (w .missing) in
         let out : T (inV2 plain (signals width b s) m) → ⊥ = λ t.
         u .1 (inV2-in plain mono-order (signals width n s) m (factors-shrink m (gap-within n terms clean six s q m h) (inV2-out plain mono-order (signals width b s) m t))) in
-        nonsquares-in plain mono-order (signals width b s) d (w .of) m (grow n b more s (w .of) (w .of-in)) (unmet-in plain mono-order (signals width b s) (d (w .of)) m (u .0) out)
+        nonsquares-in plain mono-order (signals width b s) d (w .of) m (signals-more n b more s (w .of) (w .of-in)) (unmet-in plain mono-order (signals width b s) (d (w .of)) m (u .0) out)
 
     gaps-shrink : missing b fs s ⊆ missing n fs s
     gaps-shrink m h =
@@ -137,9 +121,8 @@ module _ (n b : ℕ) (terms : List ℕ) (more : n ≤ b) (few : b ≤ width) (cl
 
       pair-same : child n s p ≡ child b s p
       pair-same =
-          let w : Within n m = gap-within n terms clean six s q m h in
-          let long : length (p .0) ≡ length (p .1) = two .left ∙ sym (two .right) in
-          child-same p (factor-within n m (p .0) (p .1) w long (two .product)) (factor-within n m (p .1) (p .0) w (sym long) (mul-comm (p .1) (p .0) ∙ two .product))
+          let both = factors-within n m p (gap-within n terms clean six s q m h) k in
+          child-same p (both .0) (both .1)
 
       child-wide : Wide (child n s p)
       child-wide x i = go (child-out n s p i)
@@ -218,7 +201,7 @@ planned-same panel b cap limit terms size ranged more few clean =
     let low : 1 ≤ n = ranged .low in
     let wide : Ranged (widened panel b) = record { low = omega arith; high = few; known = λ i h. ranged .known i (omega arith); kit = ranged .kit } in
     let own : CleanFor n terms = clean-for panel n terms (omega arith) clean in
-    let heed : Heedless (rulesOf panel) n b = counted-heedless (allowing (mayBe panel)) n b more (allowing-heedless (mayBe panel) n b) in
-    let plans = plan-same (rulesOf panel) (allowing-orderly (mayBe panel)) n b heed terms more few own limit (size / setBytes) cap in
-    let rules = ap (λ (may : Mono → Bool). plan (counted (allowing may)) b (system (records terms)) limit (size / setBytes) cap) (may-same (panel .n) b (panel .marks) (panel .degree)) in
+    let heed : Heedless (rulesOf panel) n b = counted-heedless (cheaply (allowing (mayBe panel))) n b more (cheaply-heedless (allowing (mayBe panel)) n b more (allowing-heedless (mayBe panel) n b)) in
+    let plans = plan-same (rulesOf panel) (cheaply-orderly (allowing (mayBe panel))) n b heed terms more few own limit (size / setBytes) cap in
+    let rules = ap (λ (may : Mono → Bool). plan (counted (cheaply (allowing may))) b (system (records terms)) limit (size / setBytes) cap) (may-same (panel .n) b (panel .marks) (panel .degree)) in
     rw (panel-in panel ranged, panel-in (widened panel b) wide, clean, clean-widens panel (widened panel b) more (λ i e. e) (records terms) clean, plans ∙ rules)

@@ -1,6 +1,6 @@
 -- Planning computed by the definitions from the bytes of the term records: document 01's sums worked by hand, marked P, with every byte of the
--- buffer and the wiring of the first set, then each refusal and both sides of the limits, then signals, what counting closes and kits. The rows marked P
--- keep their steps. One table, one claim. Assumes nothing.
+-- buffer and the wiring of the first set, then each refusal and both sides of the limits, then signals, what counting closes, cheap pairs and kits. The
+-- rows marked P keep their steps. One table, one claim. Assumes nothing.
 use mathlib.Core.Path.{_≡_, refl, sym, ap, _∙_}
 use mathlib.Core.List.{List, [], _∷_, _++_, map}
 use Prim.Native.Nat.{ℕ, _*_, _-_}
@@ -26,7 +26,8 @@ use Rattle.wiring.specs.Wires.{firstOf, secondOf, row as rowOf, rowsFrom, wirin
 use Rattle.wiring.specs.Answers.{firstUnmet, judged, recordJudged, verdict, listed, told, wired}
 use Rattle.wiring.specs.Panel.{setBytes, fullDegree}
 use Rattle.counting.specs.Counting.{quotientsOf, count, insertDown, sortDown, counts, sum, mayDo, leastFrom, needed, closes}
-use Rattle.walk.specs.Walk.{allowing, added, child, opens, ends, tried, after, opened, level, kept, onward, run}
+use Rattle.lister.specs.Cheap.{added, cheap, cheapFirst}
+use Rattle.walk.specs.Walk.{allowing, cheaply, child, opens, ends, tried, after, opened, level, kept, onward, run}
 use Rattle.walk.specs.Plan.{settled, levels, plan, setsBytes, said, settingsRight, planned}
 
 record Row : Type 0 where
@@ -83,7 +84,7 @@ junior n limit = kitted n 0 limit 6 1000000 36000
 -- the same by the walk that closes nothing
 unclosing : ℕ → ℕ → List ℕ → Numbers → List (List (List ℕ)) → Row
 unclosing n marks terms numbers sets = record {
-  got = said (plan (allowing (mayBe (panelOf n marks fullDegree))) n (system (records terms)) 1000000 1000 6) 36000;
+  got = said (plan (cheaply (allowing (mayBe (panelOf n marks fullDegree)))) n (system (records terms)) 1000000 1000 6) 36000;
   want = record { said = numbers; bytes = gather set sets ++ replicate (36000 - 36 * length sets) 0 };
 }
 
@@ -202,7 +203,7 @@ table =
     ∷ unclosing 2 0 saving (five 0 2 1 37 0) (((1 ∷ 3 ∷ []) ∷ (3 ∷ []) ∷ []) ∷ [])
     ∷ planning 2 6 24 36 saving (five 0 2 1 24 0) (((1 ∷ 3 ∷ []) ∷ (3 ∷ []) ∷ []) ∷ [])
     ∷ planning 2 6 23 36 saving (five 7 2 0 23 0) []
-    ∷ planning 2 6 1000000 0 saving (five 6 2 0 21 0) []
+    ∷ planning 2 6 1000000 0 saving (five 6 2 0 19 0) []
     -- x1' = x1^3 + u^2 x1 again
     ∷ unclosing 2 2 (plus 1 (3 ∷ []) ++ plus 1 (1 ∷ 2 ∷ [])) (five 5 7 0 61 0) []
     -- document 001's example 2, Rabinovich-Fabrikant with a = b = 1
@@ -210,7 +211,12 @@ table =
     ∷ unclosing 3 0 fabrikant (five 0 3 1 88 0) (((0 ∷ 2 ∷ []) ∷ (1 ∷ 1 ∷ []) ∷ (2 ∷ []) ∷ []) ∷ [])
     -- document 001's example 3, and with room for no set
     ∷ usual 2 (plus 1 (0 ∷ 4 ∷ []) ++ plus 2 (2 ∷ [])) (five 0 3 1 145 0) (((0 ∷ 3 ∷ []) ∷ (1 ∷ 2 ∷ []) ∷ (3 ∷ []) ∷ []) ∷ [])
-    ∷ planning 2 6 1000000 0 (plus 1 (0 ∷ 4 ∷ []) ++ plus 2 (2 ∷ [])) (five 6 3 0 109 0) []
+    ∷ planning 2 6 1000000 0 (plus 1 (0 ∷ 4 ∷ []) ++ plus 2 (2 ∷ [])) (five 6 3 0 107 0) []
+    ∷ planning 2 6 107 0 (plus 1 (0 ∷ 4 ∷ []) ++ plus 2 (2 ∷ [])) (five 6 3 0 107 0) []
+    ∷ planning 2 6 106 0 (plus 1 (0 ∷ 4 ∷ []) ++ plus 2 (2 ∷ [])) (five 7 3 0 106 0) []
+    -- x1' = x2^8 x3^8: of 41 pairs the cheap ones first, the middle pair among them
+    ∷ planning 3 6 1000000 108 (plus 1 (0 ∷ 8 ∷ 8 ∷ [])) (five 6 1 0 10 0) []
+    ∷ planning 3 6 9 108 (plus 1 (0 ∷ 8 ∷ 8 ∷ [])) (five 7 1 0 9 0) []
     -- x' = x^4 + x^3 with junior kits, and with the full one by its number
     ∷ junior 1 2 quartic (five 5 7 0 40 0) []
     ∷ junior 1 3 quartic (five 0 2 1 19 0) (((2 ∷ []) ∷ (3 ∷ []) ∷ []) ∷ [])
@@ -231,7 +237,7 @@ table =
 -- replies, buffers and lists are as written
 worked : map (λ r. r .got) table ≡ map (λ r. r .want) table
 unfolding table usual planning marking kitted junior wiringOf unclosing quartic saving fabrikant plus minus term set wire back padded planned settingsRight said setsBytes plan levels settled run onward
-    kept level opened after ends tried opens child added cheaper chosen pairs divisors score setRecord wired told listed verdict recordJudged judged firstUnmet
+    kept level opened after ends tried opens child added cheap cheapFirst cheaper chosen pairs divisors score setRecord wired told listed verdict recordJudged judged firstUnmet
     halved marked countRight degreeRight panelRight free degree mayBe records lengthRight exponentsRight coefficientRight termRight faultFrom equation system places sizeOf setOf ascending monomialRight
     setRight firstOf secondOf rowOf rowsFrom wiring wireRecord signals factor inV2 unmet nonsquares partsFrom derivative coeff times support signed
     unsigned isZero vars any some all keep place gather below pairwise pointwise dictionary insertBy arrangeBy closes needed leastFrom mayDo sum counts
@@ -244,7 +250,7 @@ pub record TwoSystems : Type 0 where
   pub cube : planned (fullPanel 1) 0 1 (plus 1 (3 ∷ [])) setBytes .said ≡ five 5 1 0 1 0
 
 pub two-systems : TwoSystems
-unfolding plus padded planned settingsRight said setsBytes plan levels settled run onward kept level opened after ends tried opens child added cheaper
+unfolding plus padded planned settingsRight said setsBytes plan levels settled run onward kept level opened after ends tried opens child added cheap cheapFirst cheaper
     chosen pairs divisors score setRecord halved marked countRight degreeRight panelRight free degree mayBe records lengthRight exponentsRight coefficientRight termRight faultFrom equation system signals
     factor inV2 unmet nonsquares partsFrom derivative coeff times support signed isZero vars any some all keep gather below pairwise pointwise
     dictionary insertBy arrangeBy closes needed leastFrom mayDo sum

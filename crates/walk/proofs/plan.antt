@@ -5,3 +5,4 @@ pub mod Kit
 pub mod Records
 pub mod Sockets
 pub mod Closing
+pub mod Order

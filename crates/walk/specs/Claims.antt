@@ -1,12 +1,12 @@
 -- What is claimed of planning: the sets that a walk finds, when it ends and how, and that they are all smallest quadratic sets. Assumes nothing.
 use mathlib.Core.Path.{_≡_}
 use mathlib.Core.Logic.{_⊎_}
-use mathlib.Core.Bool.{true, false, cond}
+use mathlib.Core.Bool.{Bool, true, false, cond}
 use mathlib.Core.List.{List, [], _∷_, _++_}
 use Prim.Native.Nat.{ℕ, suc, _+_, _*_, _-_, _/_, _≤_, _<_}
 use lib.Dec.{T, eqb}
 use lib.ListN.{length, getD, take, drop, replicate}
-use Rattle.monomial.specs.Lists.{any, insertBy, arrangeBy}
+use Rattle.monomial.specs.Lists.{any, keep, insertBy, arrangeBy}
 use Rattle.monomial.specs.Monomial.{Mono, width}
 use Rattle.monomial.specs.Order.{same, before, sameSet, beforeSet}
 use Rattle.monomial.specs.Divisors.{pairs}
@@ -184,6 +184,10 @@ module _ (r : Rules) (n : ℕ) (fs : List (Poly Mono)) (room cap : ℕ) where
     pub is : plan r n fs limit room cap ≡ spentAt level limit
 
 -- ---- two walks
+-- each step as often: as many of the two lists pass any test
+abbrev pub Even : List Step → List Step → Type 0
+Even es fs = (f : Step → Bool) → length (keep f es) ≡ length (keep f fs)
+
 -- the same steps but for some that find nothing, which the first list leaves out
 pub data Pruned : List Step → List Step → Type 0 where
   no-steps : Pruned [] []

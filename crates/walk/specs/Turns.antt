@@ -2,7 +2,7 @@
 use mathlib.Core.Path.{_≡_}
 use mathlib.Core.Bool.{Bool, true, false}
 use mathlib.Core.List.{List, [], _∷_}
-use Prim.Native.Nat.{ℕ, _*_, _/_, _≤_, _<_}
+use Prim.Native.Nat.{ℕ, _+_, _*_, _/_, _≤_, _<_}
 use lib.ListN.{length}
 use Rattle.monomial.specs.Lists.{some}
 use Rattle.monomial.specs.Monomial.{Mono, width}
@@ -131,3 +131,9 @@ module _ (r : Rules) (n : ℕ) (terms : List ℕ) (level limit : ℕ) (set : Lis
 
   abbrev pub Stepped : Opened → List ℕ → Type 0
   Stepped o out = SteppedBy (o .split) o out
+
+-- ---- what passing pairs by tells, each of which costs a step and opens nothing
+abbrev pub PassedBy : ℕ → State → ℕ → Turn → Type 0
+PassedBy limit st pairs (Going next) = (next .steps ≡ st .steps + pairs) × (next .count ≡ st .count) × (0 < pairs → st .steps + pairs ≤ limit)
+PassedBy limit st pairs Spent = (0 < pairs) × (limit < st .steps + pairs)
+PassedBy limit st pairs (Full steps) = ⊥

@@ -1,5 +1,6 @@
 -- The walk as the list of its steps, by given rules and without a limit; and a run of that list under a limit of steps and of room. Document 01's
--- walk is that by the rules `bare`, which close nothing; a panel's is that by `rulesOf`, which close by counting. Assumes nothing.
+-- walk is that by the rules `bare`, which close nothing and try pairs by ascending m1; a panel's is that by `rulesOf`, which try cheap pairs first and
+-- close by counting. Assumes nothing.
 use mathlib.Core.Bool.{Bool, true, false, cond, _&&_, _||_}
 use mathlib.Core.List.{List, [], _∷_}
 use Prim.Native.Nat.{ℕ, zero, suc, _+_, _-_}
@@ -7,7 +8,7 @@ use lib.Dec.{leb}
 use lib.ListN.{length}
 use Rattle.monomial.specs.Lists.{any, gather, insertBy}
 use Rattle.monomial.specs.Monomial.{Mono, width}
-use Rattle.monomial.specs.Order.{same, before, sameSet, beforeSet}
+use Rattle.monomial.specs.Order.{same, sameSet, beforeSet}
 use Rattle.monomial.specs.Divisors.{pairs}
 use Rattle.wiring.specs.Sockets.{mayBe, canBuild}
 use Rattle.wiring.specs.declared.panel.Panel.{Panel}
@@ -17,18 +18,15 @@ use Rattle.wiring.specs.Quadratic.{nonsquares}
 use Rattle.wiring.specs.Signals.{signals}
 use Rattle.wiring.specs.Choice.{chosen}
 use Rattle.counting.specs.Counting.{closes}
+use Rattle.lister.specs.Cheap.{joined, cheapFirst}
 
 -- a list of sets
 abbrev pub Finds : Type 0
 Finds = List (List Mono)
 
--- the set with m in it, unless m is in V already
-unfoldable pub added : List Mono → Mono → List Mono → List Mono
-added v m s = cond (any (same m) v) s (insertBy same before m s)
-
 -- the child of a pair: the set plus those of m1, m2 not in V
 unfoldable pub child : ℕ → List Mono → Mono × Mono → List Mono
-child n s p = let v = signals width n s in added v (p .0) (added v (p .1) s)
+child n s p = joined (signals width n s) p s
 
 -- the rules of a walk
 pub record Rules : Type 0 where
@@ -49,18 +47,26 @@ allowing may = record { may = may; closed = λ room v ns. false; tries = λ v m.
 abbrev pub bare : Rules
 bare = allowing (λ m. true)
 
+-- given rules with another order of the pairs
+abbrev pub trying : (List Mono → Mono → List (Mono × Mono)) → Rules → Rules
+trying order r = record { may = r .may; closed = r .closed; tries = order; start = r .start }
+
+-- document 02, [8]: first the pairs that add a single monomial
+abbrev pub cheaply : Rules → Rules
+cheaply = trying cheapFirst
+
 -- given rules with the counting rule of document 001, section 5.1: a set is closed where its nonsquares need more monomials, of those that may be,
 -- than there is room for below the level
 abbrev pub counted : Rules → Rules
 counted r = record { may = r .may; closed = closes (r .may); tries = r .tries; start = r .start }
 
--- a panel's: no new monomial holds a signal or passes the kit's limit, and sets are closed by counting
+-- a panel's: no new monomial holds a signal or passes the kit's limit, cheap pairs are tried first, and sets are closed by counting
 abbrev pub rulesOf : Panel → Rules
-rulesOf panel = counted (allowing (mayBe panel))
+rulesOf panel = counted (cheaply (allowing (mayBe panel)))
 
 -- as the code asks: by what the kit can build, of any powers with the full one. The walk is the same, step by step (`kit-level`)
 abbrev pub kitRules : Panel → Rules
-kitRules panel = counted (allowing (canBuild panel))
+kitRules panel = counted (cheaply (allowing (canBuild panel)))
 
 -- a step without a find: a pair is tried, or a set is opened that is not quadratic
 pub data Taken : Type 0 where

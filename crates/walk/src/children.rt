@@ -1,12 +1,12 @@
 // The child of a set by a factor pair, in a lent buffer. Sets lie side by side in lent bytes, ascending.
+use lister::cheap::Held;
 use monomial::Monomial;
 use monomial::width::WIDTH;
 use wiring::buffer;
 use wiring::panel::Panel;
-use wiring::signals;
 use wiring::sockets;
 ghost use mathlib.Core.Path.{_≡_};
-ghost use mathlib.Core.Bool.{false, _&&_, _||_};
+ghost use mathlib.Core.Bool.{false, _&&_};
 ghost use Prim.Native.Nat.{_+_, _*_, _≤_};
 ghost use lib.Dec.{leb};
 ghost use lib.ListN.{length};
@@ -16,6 +16,7 @@ ghost use Rattle.monomial.specs.Order.{same, before};
 ghost use Rattle.monomial.specs.Claims.{Ascending};
 ghost use Rattle.wiring.specs.Sockets.{canBuild};
 ghost use Rattle.wiring.specs.Signals.{tabled, listed, signalsAt};
+ghost use Rattle.lister.specs.Cheap.{Holds};
 ghost use Rattle.walk.specs.Walk.{kitRules, child, opens};
 ghost use Rattle.walk.specs.Turns.{Child, Growing};
 
@@ -98,18 +99,8 @@ fn with_two(
     }
 }
 
-// Whether the first of a pair adds nothing to the second: they are one, or V has it.
-fn is_met(n: usize, set: &[u8], a: Monomial, b: Monomial) -> bool
-    ensures { λ r. ⌜ r ≡ same (a .e) (b .e) || any (same (a .e)) (signalsAt n (now (set .entry))) ⌝ }
-{
-    if a.same(b) {
-        return true;
-    }
-    signals::is_signal(n, set, a)
-}
-
-// The set plus those of a, b not in V, where these may be and it has at most level monomials. What is to be added is known before anything is copied,
-// and one monomial is added in one place: laid into the pair runner so, it copies no set where nothing is opened.
+// The set plus those of a, b not in V, where these may be and it has at most level monomials. What V holds of the pair is known before anything is
+// copied, and one monomial is added in one place: laid into the pair runner so, it copies no set where nothing is opened.
 pub(crate) fn offer(
     level: usize,
     panel: Panel,
@@ -117,14 +108,14 @@ pub(crate) fn offer(
     next: &mut [u8],
     a: Monomial,
     b: Monomial,
+    held: Held,
 ) -> Tried
-    requires { ⌜ Growing level (now set) (now next) ⌝ }
+    requires { ⌜ Growing level (now set) (now next) × Holds (signalsAt (panel .n) (now set)) (a .e, b .e) held ⌝ }
     ensures { λ r. ⌜ Child (opens (kitRules panel) (panel .n) level (tabled (now (set .entry))) (a .e, b .e)) (child (panel .n) (tabled (now (set .entry))) (a .e, b .e)) r (now (next .exit)) ⌝ }
 {
-    let known = signals::is_signal(panel.n, set, b);
     let mut m = b;
-    if is_met(panel.n, set, a, b) {
-        if known {
+    if held.first {
+        if held.second {
             buffer::put(next, 0, set);
             return Tried {
                 go: true,
@@ -132,7 +123,7 @@ pub(crate) fn offer(
             };
         }
     } else {
-        if !known {
+        if !held.second {
             return with_two(level, panel, set, next, a, b);
         }
         m = a;

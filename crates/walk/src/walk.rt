@@ -4,6 +4,7 @@ use super::listing;
 use super::listing::Kept;
 use counting::verdict;
 use counting::verdict::Verdict;
+use lister::passes;
 use monomial::Monomial;
 use monomial::width::WIDTH;
 use wiring::panel::Panel;
@@ -17,7 +18,7 @@ ghost use Rattle.wiring.specs.Terms.{records, system};
 ghost use Rattle.wiring.specs.Signals.{tabled};
 ghost use Rattle.walk.specs.Walk.{Finds, kitRules, opened, triedAll, run, kept};
 ghost use Rattle.walk.specs.Listing.{Shown};
-ghost use Rattle.walk.specs.Turns.{Tells, Openable, Ready, Means, Splits, Found, Weighed, Stepped};
+ghost use Rattle.walk.specs.Turns.{Tells, Openable, Ready, Means, Splits, Found, Weighed, Stepped, PassedBy};
 
 // What stays the same through a level; cancels, where a total may be 0.
 pub struct Frame {
@@ -143,7 +144,29 @@ pub(crate) fn open(
     pairs(terms, out, list, f, set, m, next)
 }
 
-// Runs the factor pairs of m: one step each, and a child is walked to its end before the next pair. So one buffer serves all children.
+// Pairs that open nothing: one step each, and nothing else is done.
+fn pass_by(limit: u64, st: State, pairs: u64) -> Turn
+    ensures { λ r. ⌜ PassedBy limit st pairs r ⌝ }
+{
+    let steps = st.steps;
+    let count = st.count;
+    if pairs < 1 {
+        return Turn::Going(State { steps, count });
+    }
+    if limit < pairs {
+        return Turn::Spent;
+    }
+    if limit - pairs < steps {
+        return Turn::Spent;
+    }
+    Turn::Going(State {
+        steps: steps + pairs,
+        count,
+    })
+}
+
+// Runs the factor pairs of m, the cheap ones first: one step each, and a child is walked to its end before the next pair. So one buffer serves all
+// children. Where there is room for one more signal only, the rest of the pairs opens nothing and is only counted.
 fn pairs(
     terms: &[u8],
     out: &mut [u8],
@@ -160,10 +183,18 @@ fn pairs(
         (triedAll (kitRules (f .panel)) (f .panel .n) (system (records (now (terms .entry)))) (f .level) (opened (kitRules (f .panel)) (f .panel .n) (system (records (now (terms .entry)))) (f .level) d) (tabled (now (set .entry))) (m .e))
         (st .steps) finds)) ⌝ }
 {
+    let all = set.len() / WIDTH + 1 < f.level;
     let mut child = [0u8; SET_BYTES];
     let mut cur = st;
-    let mut a = Monomial::ONE;
-    while a.leads(m) {
+    let mut at = passes::start(m);
+    loop {
+        let p = passes::find(f.panel.n, set, m, all, at);
+        if !p.some {
+            if all {
+                return Turn::Going(cur);
+            }
+            return pass_by(f.limit, cur, passes::left(m, p.at.listed));
+        }
         let taken = cur.steps;
         if f.limit <= taken {
             return Turn::Spent;
@@ -173,7 +204,8 @@ fn pairs(
             steps: taken + 1,
             count: seen,
         };
-        let t = children::offer(f.level, f.panel, set, &mut child, a, m.over(a));
+        let a = p.at.a;
+        let t = children::offer(f.level, f.panel, set, &mut child, a, m.over(a), p.held);
         if t.go {
             // Made anew for the call: handed on as it came, it would lie twice in the frame of each opening.
             let below = Frame {
@@ -198,7 +230,6 @@ fn pairs(
                 }
             }
         }
-        a = a.next_divisor(m);
+        at = passes::behind(m, p.at);
     }
-    Turn::Going(cur)
 }

@@ -15,7 +15,7 @@ use Rattle.monomial.specs.Order.{same, before}
 use Rattle.monomial.specs.Product.{mul}
 use Rattle.monomial.specs.Claims.{_∈_, _⊆_, Ascending, Different, Rearranged}
 use Rattle.monomial.proofs.Tests.{is-not}
-use Rattle.monomial.proofs.Members.{keep-out, keep-none, Gathered, gather-out}
+use Rattle.monomial.proofs.Members.{keep-out, keep-none, Gathered, gather-out, no-length}
 use Rattle.monomial.proofs.Different.{different-length, different-keep, ascending-different}
 use Rattle.monomial.proofs.order.Laws.{mono-order}
 use Rattle.monomial.proofs.order.Ascending.{arrange-out}
@@ -123,11 +123,7 @@ module _ {terms set : List ℕ} {n room : ℕ} {cancels : Bool} (w : Weighing te
 -- ---- the answers
 module _ (may : Mono → Bool) (room : ℕ) (v ns : List Mono) (r : Verdict) where
   pub judged-found : r .found ≡ true → length ns ≡ 0 → Judged may room v ns r
-  judged-found f e = record { finds = λ t. none ns e; shuts = λ t u. absurd (is-not (r .found) f t); splits = λ t u. absurd (is-not (r .found) f t) }
-    where
-      none : (l : List Mono) → length l ≡ 0 → l ≡ []
-      none [] z = refl
-      none (x ∷ l) z = let n : ⊥ = omega arith in absurd n
+  judged-found f e = record { finds = λ t. no-length ns e; shuts = λ t u. absurd (is-not (r .found) f t); splits = λ t u. absurd (is-not (r .found) f t) }
 
   pub judged-closed : r .found ≡ false → r .split ≡ false → closes may room v ns ≡ true → Judged may room v ns r
   judged-closed f s e = record {

@@ -9,6 +9,8 @@ use native.Mathlib.Numerals.{add-one}
 use lib.Dec.{T, ltb, eqb-refl}
 use lib.ListN.{length, drop, getD, length-append, length-map, drop-of-length-le}
 use lib.Seq.{drop-cons}
+use mir.Val.{Fits}
+use mir.Syntax.{w8}
 use Rattle.monomial.specs.Lists.{gather, pairwise, below}
 use Rattle.monomial.specs.Monomial.{Mono}
 use Rattle.monomial.specs.Order.{before}
@@ -16,6 +18,7 @@ use Rattle.monomial.specs.Product.{AtMost}
 use Rattle.monomial.specs.Quotient.{divides}
 use Rattle.monomial.specs.Divisors.{score, divisors}
 use Rattle.monomial.specs.Claims.{_∈_, Ascending, empty, first}
+use Rattle.monomial.proofs.product.Laws.{atMost-all}
 use Rattle.monomial.proofs.Members.{here, gather-in, gather-out, Gathered}
 use Rattle.monomial.proofs.order.Laws.{ℕ-order, smaller, tied, ahead-is}
 use Rattle.monomial.proofs.Counting.{below-in, below-out, below-asc, below-length}
@@ -112,3 +115,7 @@ pub score-bound : (b : ℕ) (m : Mono) → AtMost b m → score m ≤ suc b ^ le
 unfolding score
 score-bound b [] h = omega (arith, pow-zero (suc b))
 score-bound b (e ∷ m) h = rw (pow-succ' (suc b) (length m)) (mul-le-mul (omega arith) (score-bound b m (h .1)))
+
+-- of bytes
+pub score-bytes : (m : Mono) (w : ℕ) → length m ≡ w → ((k : ℕ) → Fits w8 (getD m k 0)) → score m ≤ 256 ^ w
+score-bytes m w l bytes = rw l at (score-bound 255 m (atMost-all 255 m (λ k. omega (arith, bytes k))))

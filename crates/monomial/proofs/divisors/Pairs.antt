@@ -81,7 +81,7 @@ pub pairs-once : (p : Pair) (m : Mono) → p ∈ pairs m → keep (same (p .0)) 
 pairs-once p m h = once mono-order (p .0) (map (λ (q : Pair). q .0) (pairs m)) (pairs-asc m) (Memᴰ·map (λ (q : Pair). q .0) h)
 
 -- ---- an initial run: the smaller the divisor, the larger the quotient
-quo-descends : (c d m : Mono) → T (divides c m) → T (divides d m) → T (before c d) → T (before (quo m d) (quo m c))
+pub quo-descends : (c d m : Mono) → T (divides c m) → T (divides d m) → T (before c d) → T (before (quo m d) (quo m c))
 unfolding pairwise dictionary pointwise
 quo-descends [] [] m s t u = absurd u
 quo-descends [] (y ∷ d) [] s t u = absurd t

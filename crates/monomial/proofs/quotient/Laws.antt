@@ -1,5 +1,5 @@
 -- Quotients of monomials of any width, and division. Assumes nothing.
-use mathlib.Core.Path.{_≡_, refl, ap, ap₂}
+use mathlib.Core.Path.{_≡_, refl, sym, ap, ap₂, _∙_}
 use mathlib.Core.List.{[], _∷_}
 use Prim.Native.Nat.{ℕ, zero, suc, _+_, _-_, _≤_}
 use native.Mathlib.Omega.{arith}
@@ -10,6 +10,7 @@ use Rattle.monomial.specs.Monomial.{Mono, one}
 use Rattle.monomial.specs.Product.{mul, AtMost}
 use Rattle.monomial.specs.Quotient.{quo, divides}
 use Rattle.monomial.proofs.Tests.{and-l, and-r, and-i}
+use Rattle.monomial.proofs.product.Laws.{mul-comm}
 
 -- ---- the quotient undoes it
 pub quo-mul : (a b : Mono) → length a ≡ length b → quo (mul a b) a ≡ b
@@ -83,6 +84,13 @@ quo-divides [] [] t = tt
 quo-divides [] (e ∷ m) t = absurd t
 quo-divides (x ∷ d) [] t = absurd t
 quo-divides (x ∷ d) (e ∷ m) t = divides-cons (e - x) e (quo m d) m (omega arith) (quo-divides d m (divides-tail x e d m t))
+
+-- d and m/d change places
+pub quo-quo : (d m : Mono) → T (divides d m) → quo m (quo m d) ≡ d
+quo-quo d m t =
+    let q = quo m d in
+    let width : length q ≡ length d = divides-length q m (quo-divides d m t) ∙ sym (divides-length d m t) in
+    ap (λ (z : Mono). quo z q) (sym (mul-quo d m t) ∙ mul-comm d q) ∙ quo-mul q d width
 
 pub quo-self : (m : Mono) → quo m m ≡ one (length m)
 unfolding pointwise

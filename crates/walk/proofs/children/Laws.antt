@@ -38,7 +38,8 @@ use Rattle.wiring.proofs.signals.Laws.{base-in, set-in, signals-cases, signals-
 use Rattle.wiring.proofs.terms.Laws.{Rightful, clean-in}
 use Rattle.wiring.proofs.derivative.Records.{Derived, derived}
 use Rattle.wiring.proofs.choice.Laws.{chosen-best}
-use Rattle.walk.specs.Walk.{added, child}
+use Rattle.lister.specs.Cheap.{added}
+use Rattle.walk.specs.Walk.{child}
 use Rattle.walk.specs.Turns.{Walked}
 
 -- ---- the one to split is one of them

@@ -22,7 +22,8 @@ use Rattle.wiring.specs.Signals.{signals, tabled, listed}
 use Rattle.wiring.proofs.signals.Tables.{tabled-length, listed-length, listed-at, listed-less, listed-put, listed-copied}
 use Rattle.wiring.proofs.signals.Laws.{set-in}
 use Rattle.walk.specs.declared.children.Tried.{Tried}
-use Rattle.walk.specs.Walk.{Rules, added, child, opens}
+use Rattle.lister.specs.Cheap.{added}
+use Rattle.walk.specs.Walk.{Rules, child, opens}
 use Rattle.walk.specs.Turns.{Child}
 use Rattle.walk.proofs.children.Laws.{added-asc}
 
@@ -358,6 +359,11 @@ module _ (n : ℕ) (s : List Mono) (left right : Mono) where
       ⊎-elim (λ q. apart (subst (λ (z : Mono). T (same left z)) q (mono-order .same-refl left)))
       (λ k. is→nT (any (same left) s) (first-lacks e) (among-in mono-order k))
       (insert-out mono-order right s (among-out mono-order left (insertBy same before right s) t)))
+
+  -- two more
+  pub both-longer : any (same right) v ≡ false → met ≡ false → length whole ≡ suc (suc (length s))
+  both-longer k e =
+      ap length (child-both k e) ∙ insert-more left (insertBy same before right s) (both-lack e) ∙ ap suc (insert-more right s (set-lacks right k))
 
   -- ---- whether the child is opened, by any rules
   module _ (r : Rules) (k : ℕ) where

@@ -1,5 +1,6 @@
 -- Closing by counting changes no listing and adds no step: beside the panel's walk that closes nothing, each level of planning finds the same sets in
--- no more steps, planning ends as that walk does, in no more steps, and back. With no marks and the full kit that walk is document 01's. Assumes nothing.
+-- no more steps, planning ends as that walk does, in no more steps, and back. With no marks and the full kit that walk is document 01's with the cheap
+-- pairs first. Assumes nothing.
 use mathlib.Core.Path.{_≡_, sym, ap, _∙_, subst}
 use mathlib.Core.Bool.{true}
 use mathlib.Core.List.{List, _++_}
@@ -14,10 +15,10 @@ use Rattle.wiring.specs.Terms.{records, system, CleanTerms}
 use Rattle.wiring.specs.Reply.{outcome, refused}
 use Rattle.wiring.specs.declared.panel.Panel.{Panel}
 use Rattle.wiring.specs.declared.reply.Reply.the-variants.{Done, Nothing, Full}
-use Rattle.walk.specs.Walk.{Finds, Rules, Step, allowing, bare, counted, rulesOf, level, walked}
+use Rattle.walk.specs.Walk.{Finds, Rules, Step, allowing, bare, cheaply, counted, rulesOf, level, walked}
 use Rattle.walk.specs.Plan.{Ending, done, none, fullAt, plan, setsBytes, said, planned}
 use Rattle.walk.specs.Claims.{Pruned, Alike, NoMore, Accepted}
-use Rattle.walk.proofs.Rules.{allowing-orderly}
+use Rattle.walk.proofs.Rules.{cheaply-orderly}
 use Rattle.walk.proofs.Kit.{full-level, unmarked-open}
 use Rattle.walk.proofs.Alike.{alike-of, plan-alike, done-back, none-back}
 use Rattle.walk.proofs.Counting.{counted-alike}
@@ -31,10 +32,10 @@ module _ (panel : Panel) (cap limit : ℕ) (terms : List ℕ) (a : Accepted pane
 
   -- the panel's rules, where nothing is closed
   abbrev open-rules : Rules
-  open-rules = allowing (mayBe panel)
+  open-rules = cheaply (allowing (mayBe panel))
 
   pub plan-closing : Alike open-rules (rulesOf panel) (panel .n) fs cap
-  plan-closing = counted-alike open-rules (allowing-orderly (mayBe panel)) (panel .n) terms (accepted-clean panel cap limit terms a) empty-walked cap (a .range .capped)
+  plan-closing = counted-alike open-rules (cheaply-orderly (allowing (mayBe panel))) (panel .n) terms (accepted-clean panel cap limit terms a) empty-walked cap (a .range .capped)
 
   module _ (size : ℕ) where
     -- how planning ends, and the walk that closes nothing, under any limit
@@ -76,20 +77,20 @@ module _ (panel : Panel) (cap limit : ℕ) (terms : List ℕ) (a : Accepted pane
         let d = subst (NoMore closed-plan) e closing-ends in
         (d .0, d .1, said-full o (d .0) size ∙ answered (fullAt o (d .0)) (d .2))
 
--- with no marks and the full kit this is beside document 01's walk
+-- with no marks and the full kit this is beside document 01's walk, the cheap pairs first
 pub unmarked-closing : (n cap limit : ℕ) (terms : List ℕ) → Accepted (fullPanel n) cap limit terms
-    → Alike bare (rulesOf (fullPanel n)) n (system (records terms)) cap
+    → Alike (cheaply bare) (rulesOf (fullPanel n)) n (system (records terms)) cap
 unmarked-closing n cap limit terms a =
     let capped : cap ≤ cards = a .range .capped in
     let six : CleanTerms terms = accepted-clean (fullPanel n) cap limit terms a in
-    let beside : Alike bare (counted bare) n (system (records terms)) cap =
-    counted-alike bare (allowing-orderly (λ m. true)) n terms six empty-walked cap capped in
-    alike-of bare (rulesOf (fullPanel n)) n (system (records terms)) cap
-    (λ k h. subst (λ (es : List Step). Pruned es (level bare n (system (records terms)) k)) (sym (bare-level k (omega arith) six)) (beside .pruned k h))
+    let beside : Alike (cheaply bare) (counted (cheaply bare)) n (system (records terms)) cap =
+    counted-alike (cheaply bare) (cheaply-orderly bare) n terms six empty-walked cap capped in
+    alike-of (cheaply bare) (rulesOf (fullPanel n)) n (system (records terms)) cap
+    (λ k h. subst (λ (es : List Step). Pruned es (level (cheaply bare) n (system (records terms)) k)) (sym (bare-level k (omega arith) six)) (beside .pruned k h))
   where
-    bare-level : (k : ℕ) → k ≤ cards → CleanTerms terms → level (rulesOf (fullPanel n)) n (system (records terms)) k ≡ level (counted bare) n (system (records terms)) k
-    bare-level k low six = full-level n 0 terms six k low ∙ ap (λ (r : Rules). level (counted r) n (system (records terms)) k) unmarked-open
+    bare-level : (k : ℕ) → k ≤ cards → CleanTerms terms → level (rulesOf (fullPanel n)) n (system (records terms)) k ≡ level (counted (cheaply bare)) n (system (records terms)) k
+    bare-level k low six = full-level n 0 terms six k low ∙ ap (λ (r : Rules). level (counted (cheaply r)) n (system (records terms)) k) unmarked-open
 
 pub unmarked-ends : (n cap limit : ℕ) (terms : List ℕ) → Accepted (fullPanel n) cap limit terms → (room : ℕ)
-    → NoMore (plan (rulesOf (fullPanel n)) n (system (records terms)) limit room cap) (plan bare n (system (records terms)) limit room cap)
-unmarked-ends n cap limit terms a = plan-alike bare (rulesOf (fullPanel n)) n (system (records terms)) cap (unmarked-closing n cap limit terms a) limit
+    → NoMore (plan (rulesOf (fullPanel n)) n (system (records terms)) limit room cap) (plan (cheaply bare) n (system (records terms)) limit room cap)
+unmarked-ends n cap limit terms a = plan-alike (cheaply bare) (rulesOf (fullPanel n)) n (system (records terms)) cap (unmarked-closing n cap limit terms a) limit

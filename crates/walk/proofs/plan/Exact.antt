@@ -36,11 +36,11 @@ use Rattle.wiring.proofs.quadratic.Definition1.{quadratic-same}
 use Rattle.wiring.proofs.sockets.Slopes.{slope-is}
 use Rattle.wiring.proofs.terms.Laws.{clean-for}
 use Rattle.wiring.proofs.answers.Exact.{panel-in, panel-out}
-use Rattle.walk.specs.Walk.{allowing, rulesOf}
+use Rattle.walk.specs.Walk.{allowing, cheaply, rulesOf}
 use Rattle.walk.specs.Plan.{Ending, done, none, fullAt, spentAt, plan, setsBytes, said, settingsRight, planned}
 use Rattle.walk.specs.Claims.{Barren, Ends, Lacks, Fills, Spends, Fate, Listed, InRange, Accepted, setsAt, PlanSays, planLeaves, NoneBelow, Planned, Finished, QuadraticList}
 use Rattle.walk.proofs.Stops.{fate, fate-exact, done-exact}
-use Rattle.walk.proofs.Rules.{allowing-orderly}
+use Rattle.walk.proofs.Rules.{cheaply-orderly}
 use Rattle.walk.proofs.Kit.{buildable-counts, counts-built, none-smaller-limit, all-limit}
 use Rattle.walk.proofs.Counting.{counted-sparing}
 use Rattle.walk.proofs.children.Laws.{empty-walked}
@@ -285,8 +285,8 @@ module _ (panel : Panel) (cap limit : ℕ) (terms : List ℕ) (size : ℕ) where
           let ending = done-exact (rulesOf panel) (panel .n) fs limit (size / setBytes) cap o k (setsAt panel terms o) .1 ends in
           finished-by (rulesOf panel) (panel .n) (derivative plain fs) (derivativeIn panel terms) (λ s x. slope-built panel cap limit terms a s (counts-built panel s x))
           fs cap limit (size / setBytes) o k (setsAt panel terms o)
-          (plan-done (rulesOf panel) (allowing-orderly (mayBe panel)) empty-walked (panel .n) (empty-proper (panel .n)) terms few
-          (clean-for panel (panel .n) terms (omega arith) (clean-of panel cap limit terms a)) (counted-sparing (allowing (mayBe panel)) (panel .n) fs)
+          (plan-done (rulesOf panel) (cheaply-orderly (allowing (mayBe panel))) empty-walked (panel .n) (empty-proper (panel .n)) terms few
+          (clean-for panel (panel .n) terms (omega arith) (clean-of panel cap limit terms a)) (counted-sparing (cheaply (allowing (mayBe panel))) (panel .n) fs)
           cap limit (size / setBytes) (a .range .capped) o k (setsAt panel terms o) ending)
 
   -- the buffer keeps its length

@@ -18,7 +18,7 @@ use Rattle.wiring.specs.Terms.{records, lengthRight, fault, system}
 use Rattle.wiring.specs.Answers.{unlessFault}
 use Rattle.wiring.proofs.kit.Full.{full-kit}
 use Rattle.wiring.proofs.terms.Laws.{clean-for}
-use Rattle.walk.specs.Walk.{allowing, counted, rulesOf}
+use Rattle.walk.specs.Walk.{allowing, cheaply, counted, rulesOf}
 use Rattle.walk.specs.Plan.{plan, said, settingsRight, planned}
 use Rattle.walk.specs.Claims.{InRange}
 use Rattle.walk.proofs.Kit.{full-plan}
@@ -33,7 +33,7 @@ module _ (n marks cap limit : ℕ) (terms : List ℕ) (size : ℕ) where
   limited = said (plan (rulesOf full) n (system (records terms)) limit (size / setBytes) cap) size
 
   abbrev unlimited : Outcome
-  unlimited = said (plan (counted (allowing (free marks))) n (system (records terms)) limit (size / setBytes) cap) size
+  unlimited = said (plan (counted (cheaply (allowing (free marks)))) n (system (records terms)) limit (size / setBytes) cap) size
 
   -- of clean records both are one
   read-same : InRange full cap limit → (f : Fault) → fault full (records terms) ≡ f → unlessFault (λ r. refused r size) f limited ≡ unlessFault (λ r. refused r size) f unlimited
@@ -46,7 +46,7 @@ module _ (n marks cap limit : ℕ) (terms : List ℕ) (size : ℕ) where
   settings-full = ap (λ (b : Bool). b && leb cap cards && leb 1 limit && leb limit mostSteps) (full-kit n marks .settings)
 
   pub full-planned : planned (panelOf n marks fullDegree) cap limit terms size
-      ≡ (let walk = said (plan (counted (allowing (free marks))) n (system (records terms)) limit (size / setBytes) cap) size in
+      ≡ (let walk = said (plan (counted (cheaply (allowing (free marks)))) n (system (records terms)) limit (size / setBytes) cap) size in
       let read = unlessFault (λ r. refused r size) (fault (panelOf n marks fullDegree) (records terms)) walk in
       let long = cond (lengthRight terms) read (refused Length size) in
       cond (countRight n && eqb (halved marks n) 0 && leb cap cards && leb 1 limit && leb limit mostSteps) long (refused Setting size))

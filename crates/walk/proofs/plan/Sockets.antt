@@ -20,7 +20,7 @@ use Rattle.wiring.specs.Answers.{unlessFault}
 use Rattle.wiring.specs.Claims.{Wide, Buildable, LeftLinked, Driven}
 use Rattle.wiring.proofs.sockets.Driven.{quadratic-driven}
 use Rattle.wiring.proofs.sockets.Laws.{halved-zero}
-use Rattle.walk.specs.Walk.{bare, counted}
+use Rattle.walk.specs.Walk.{bare, cheaply, counted}
 use Rattle.walk.specs.Plan.{plan, said, planned}
 use Rattle.walk.specs.Claims.{setsAt, NoneBelow, Planned, DrivenPlan}
 use Rattle.walk.proofs.Kit.{unmarked-may}
@@ -42,9 +42,9 @@ module _ (panel : Panel) (terms : List ℕ) (gs : List (Poly Mono)) (d : Driven 
     all = λ s w b l. p .all s w b (quadratic-driven (panel .marks) (system (records terms)) gs d (signals width (panel .n) s) .1 l);
   }
 
--- ---- no marks, and the full kit: the settings are document 01's, and the walk is by its rules, closed by counting; the tests of the records are those of `Unmarked`
+-- ---- no marks, and the full kit: the settings are document 01's, and the walk is by its rules, the cheap pairs first, closed by counting; the tests of the records are those of `Unmarked`
 pub unmarked-planned : (n cap limit : ℕ) (terms : List ℕ) (size : ℕ) → planned (fullPanel n) cap limit terms size
-    ≡ (let walk = said (plan (counted bare) n (system (records terms)) limit (size / setBytes) cap) size in
+    ≡ (let walk = said (plan (counted (cheaply bare)) n (system (records terms)) limit (size / setBytes) cap) size in
     let read = unlessFault (λ r. refused r size) (fault (fullPanel n) (records terms)) walk in
     let long = cond (lengthRight terms) read (refused Length size) in
     cond (countRight n && leb cap cards && leb 1 limit && leb limit mostSteps) long (refused Setting size))

@@ -1,30 +1,29 @@
 -- One turn of the pair runner: what is known of the nonsquare, of the pair, and of the child that is offered; and how the words of the opener and
 -- of the runner fit together. Assumes nothing.
 use mathlib.Core.Path.{_≡_, sym, ap, _∙_, subst}
-use mathlib.Core.Bool.{Bool, true}
+use mathlib.Core.Logic.{⊎-elim}
+use mathlib.Core.Bool.{Bool, true, false}
 use mathlib.Core.List.{List, [], _∷_, List·Memᴰ·not-nil}
 use Prim.Native.Nat.{ℕ, _+_, _-_, _*_, _/_, _<_, _≤_}
 use native.Mathlib.Omega.{arith}
 use lib.Dec.{T, T-not}
 use lib.ListN.{length, take}
 use lib.Seq.{length-take-le}
-use Rattle.monomial.proofs.Tests.{is→T}
 use Rattle.monomial.specs.Monomial.{Mono, one, width}
-use Rattle.monomial.specs.Quotient.{quo, divides}
-use Rattle.monomial.specs.Divisors.{leads, next, pairs, divisors}
-use Rattle.monomial.specs.Order.{before}
-use Rattle.monomial.specs.Claims.{_∈_, from}
-use Rattle.monomial.proofs.Members.{here}
+use Rattle.monomial.specs.Divisors.{pairs}
+use Rattle.monomial.specs.Claims.{_∈_, Pair}
+use Rattle.monomial.proofs.Tests.{is→T, nT→is}
+use Rattle.monomial.proofs.Members.{here, keep-out}
 use Rattle.monomial.proofs.product.Laws.{mul-one}
-use Rattle.monomial.proofs.quotient.Laws.{divides-length, mul-quo, quo-divides}
-use Rattle.monomial.proofs.divisors.Following.{divisors-next}
-use Rattle.monomial.proofs.divisors.Pairs.{pairs-in, leads-last}
 use Rattle.wiring.specs.Panel.{cards, setBytes}
 use Rattle.wiring.specs.Choice.{chosen}
 use Rattle.wiring.specs.Terms.{records, system, CleanTerms}
-use Rattle.wiring.specs.Signals.{tabled, listed}
+use Rattle.wiring.specs.Signals.{signals, tabled, listed}
 use Rattle.wiring.proofs.signals.Laws.{base-in}
 use Rattle.wiring.proofs.signals.Tables.{tabled-none}
+use Rattle.lister.specs.Cheap.{cheap, ofKind}
+use Rattle.lister.specs.Passes.{kind}
+use Rattle.lister.proofs.cheap.Laws.{dear-out}
 use Rattle.walk.specs.declared.children.Tried.{Tried}
 use Rattle.walk.specs.declared.walk.State.{State}
 use Rattle.walk.specs.declared.walk.Turn.{Turn}
@@ -33,25 +32,12 @@ use Rattle.walk.specs.Listing.{Shown}
 use Rattle.walk.specs.Turns.{Child, Tells, Showing, Openable, Ready, Means, PairsFollow, Splits}
 use Rattle.walk.proofs.Rules.{opens-fits, below-its-level}
 use Rattle.walk.proofs.children.Laws.{not-both, split-longer, nonsquare-fits, child-walked, child-new, empty-walked}
+use Rattle.walk.proofs.children.Offers.{child-none, both-longer}
 use Rattle.walk.proofs.walk.Laws.{open-tells, choice-member}
 
 -- a list of the same length does as well
 pub means-kept : (cancels : Bool) (terms list list' : List ℕ) → length list' ≡ length list → Means cancels terms list → Means cancels terms list'
 means-kept cancels terms list list' e m = record { summed = m .summed; roomy = omega (arith, m .roomy) }
-
--- a divisor that leads its pair, and the pair
-pair-member : (a m : Mono) → T (divides a m) → T (leads m a) → (a, quo m a) ∈ pairs m
-pair-member a m t l =
-    let long : length a ≡ length (quo m a) = divides-length a m t ∙ sym (divides-length (quo m a) m (quo-divides a m t)) in
-    subst (λ (x : Mono). (a, quo m a) ∈ pairs x) (mul-quo a m t) (pairs-in a (quo m a) long (T-not (before (quo m a) a) l))
-
--- fewer divisors are left behind a divisor that leads
-pub fewer-left : (a m b : Mono) → T (divides a m) → (m ≡ one (length m) → ⊥) → T (leads m a) → b ≡ next m a
-    → length (from before b (divisors m)) < length (from before a (divisors m))
-fewer-left a m b t p l e =
-    let turn = ap length (divisors-next a m t (leads-last a m p l)) in
-    let same = ap (λ (x : Mono). length (from before x (divisors m))) e in
-    omega arith
 
 module _ (n : ℕ) (terms : List ℕ) (level : ℕ) (set : List ℕ) (m : Mono) (count : ℕ) (out₀ : List ℕ)
     (ready : Ready n terms level set count out₀) (splits : Splits n terms level set m) where
@@ -65,43 +51,60 @@ module _ (n : ℕ) (terms : List ℕ) (level : ℕ) (set : List ℕ) (m : Mono) 
       not-both n (system (records terms)) (tabled set) m (splits .member) (one width, one width) (mul-one (one width) ∙ sym is)
       (base-in n (tabled set) here, base-in n (tabled set) here)
 
-  module _ (a : Mono) (t : T (divides a m)) (l : T (leads m a)) (rules : Rules) (r : Tried) (bytes : List ℕ)
-      (c : Child (opens rules n level (tabled set) (a, quo m a)) (child n (tabled set) (a, quo m a)) r bytes) (go : r .go ≡ true) where
+  -- the child by a pair of it, where it is opened
+  module _ (p : Pair) (i : p ∈ pairs m) where
     abbrev born : List Mono
-    born = child n (tabled set) (a, quo m a)
+    born = child n (tabled set) p
 
-    born-within : length born ≤ level
-    born-within = opens-fits rules n level (tabled set) (a, quo m a) (is→T (opens rules n level (tabled set) (a, quo m a)) (sym (c .go) ∙ go))
+    born-longer : length (tabled set) < length born
+    born-longer = split-longer n (system (records terms)) (tabled set) m (ready .opening .walked .recorded .ascending) (splits .member) p i
 
-    -- the child that is opened is larger, and again a set of the walk
-    pub child-more : length (tabled set) < r .len
-    child-more =
-        let longer = split-longer n (system (records terms)) (tabled set) m (ready .opening .walked .recorded .ascending) (splits .member) (a, quo m a) (pair-member a m t l) in
-        omega (arith, c .size go)
+    module _ (rules : Rules) (r : Tried) (bytes : List ℕ) (c : Child (opens rules n level (tabled set) p) (child n (tabled set) p) r bytes) (go : r .go ≡ true) where
+      born-within : length born ≤ level
+      born-within = opens-fits rules n level (tabled set) p (is→T (opens rules n level (tabled set) p) (sym (c .go) ∙ go))
 
-    pub child-within : r .len ≤ level
-    child-within = omega (arith, c .size go, born-within)
+      -- it is larger, and again a set of the walk
+      pub child-more : length (tabled set) < r .len
+      child-more = omega (arith, c .size go, born-longer)
 
-    pub child-long : length (listed (r .len) bytes) ≡ r .len
-    child-long = ap length (c .is go) ∙ sym (c .size go)
+      pub child-within : r .len ≤ level
+      child-within = omega (arith, c .size go, born-within)
 
-    pub child-ready : setBytes ≤ length bytes → (count' : ℕ) (out : List ℕ) → Showing count' out → Ready n terms level (take (width * r .len) bytes) count' out
-    child-ready room count' out showing =
-        let few : length born ≤ cards = omega (arith, ready .opening .low, born-within) in
-        let w = child-walked terms (ready .opening .clean) n (tabled set) (ready .opening .walked) m (splits .member) (a, quo m a) (pair-member a m t l) few in
-        let fits : width * r .len ≤ length bytes = omega (arith, child-within, ready .opening .low) in
-        record {
-          opening = record {
-            whole = length-take-le (width * r .len) bytes fits ∙ ap (λ (k : ℕ). width * k) (sym child-long);
-            within = omega (arith, child-long, child-within);
-            low = ready .opening .low;
-            few = ready .opening .few;
-            clean = ready .opening .clean;
-            walked = rw (c .is go) w;
-            new = rw (c .is go) (child-new n (tabled set) (a, quo m a) (ready .opening .new));
-          };
-          showing = showing;
-        }
+      pub child-long : length (listed (r .len) bytes) ≡ r .len
+      child-long = ap length (c .is go) ∙ sym (c .size go)
+
+      pub child-ready : setBytes ≤ length bytes → (count' : ℕ) (out : List ℕ) → Showing count' out → Ready n terms level (take (width * r .len) bytes) count' out
+      child-ready room count' out showing =
+          let few : length born ≤ cards = omega (arith, ready .opening .low, born-within) in
+          let w = child-walked terms (ready .opening .clean) n (tabled set) (ready .opening .walked) m (splits .member) p i few in
+          let fits : width * r .len ≤ length bytes = omega (arith, child-within, ready .opening .low) in
+          record {
+            opening = record {
+              whole = length-take-le (width * r .len) bytes fits ∙ ap (λ (k : ℕ). width * k) (sym child-long);
+              within = omega (arith, child-long, child-within);
+              low = ready .opening .low;
+              few = ready .opening .few;
+              clean = ready .opening .clean;
+              walked = rw (c .is go) w;
+              new = rw (c .is go) (child-new n (tabled set) p (ready .opening .new));
+            };
+            showing = showing;
+          }
+
+  -- with room for one more only, a pair of the rest opens nothing: it would add two, for what adds none is no pair of a nonsquare
+  pub rest-shut : level ≤ length (tabled set) + 1 → (rules : Rules) (p : Pair) → p ∈ kind (signals width n (tabled set)) m true → opens rules n level (tabled set) p ≡ false
+  rest-shut tight rules p h =
+      let v : List Mono = signals width n (tabled set) in
+      let k = keep-out (ofKind v true) (pairs m) h in
+      let dear : cheap v p ≡ false = nT→is (cheap v p) (T-not (cheap v p) (k .1)) in
+      let up = ready .opening .walked .recorded .ascending in
+      let longer : length (tabled set) < length (child n (tabled set) p) = born-longer p (k .0) in
+      nT→is (opens rules n level (tabled set) p) (λ t.
+      let fits = opens-fits rules n level (tabled set) p t in
+      ⊎-elim
+      (λ both. omega (arith, ap length (child-none n (tabled set) (p .0) (p .1) up (both .1) (both .0))))
+      (λ neither. omega (arith, both-longer n (tabled set) (p .0) (p .1) (neither .1) (neither .0)))
+      (dear-out v p dear))
 
 -- the empty set, with which every level begins
 pub empty-openable : (n : ℕ) (terms : List ℕ) (level : ℕ) → level ≤ cards → n ≤ width → CleanTerms terms → Openable n terms level []

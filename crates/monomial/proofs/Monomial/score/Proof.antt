@@ -5,10 +5,8 @@ use native.Mathlib.Omega.{arith}
 use lib.ListN.{length, getD, drop}
 use mir.Val.{Fits}
 use mir.Syntax.{w8}
-use Rattle.monomial.specs.Product.{AtMost}
 use Rattle.monomial.specs.Divisors.{score}
-use Rattle.monomial.proofs.product.Laws.{atMost-all}
-use Rattle.monomial.proofs.divisors.Laws.{score-on, score-end, score-part, score-bound}
+use Rattle.monomial.proofs.divisors.Laws.{score-on, score-end, score-part, score-bytes}
 use borrow.Author.Needs.{needs}
 use Rattle.monomial.specs.Monomial.{width}
 use Rattle.monomial.proofs.Monomial.score.Statement.{statement}
@@ -38,11 +36,10 @@ mul-r c =
     let es = s .args .self .e in
     let l : length es ≡ width = search needs in
     let bytes : (k : ℕ) → Fits w8 (getD es k 0) = λ k. search needs in
-    let small : AtMost 255 es = atMost-all 255 es (λ k. omega (arith, bytes k)) in
     let k = c .before .before .loop in
     let more = score-on es (k .i) (k .r) (omega arith) (k .inv .1) in
     let part : (c .wide .result + 1) * k .r ≤ score es = rw (c .wide .ensures .0) (score-part es (k .i + 1) ((getD es (k .i) 0 + 1) * k .r) more) in
-    let most : score es ≤ 256 ^ width = rw l at (score-bound 255 es small) in
+    let most : score es ≤ 256 ^ width = score-bytes es width l bytes in
     record { fits = omega arith }
 
 add-i : tie.Need-add-i Inv-loop μ-loop

@@ -1,4 +1,4 @@
--- `offer` meets its contract: what is to be added is told by the two tests, and the child is the set with just that. Assumes nothing.
+-- `offer` meets its contract: what is to be added is told by what V holds of the pair, and the child is the set with just that. Assumes nothing.
 use mathlib.Core.Path.{refl, sym, _∙_}
 use mathlib.Core.Logic.{⊎-elim}
 use borrow.Author.Tests.{not-true, not-false}
@@ -10,12 +10,6 @@ use borrow.Author.Needs.{needs}
 use Rattle.walk.proofs.children.offer.Statement.{statement}
 use Rattle.walk.proofs.children.offer.Tie as tie
 
-is-signal-requires : tie.Need-is-signal-requires
-is-signal-requires c κs = search needs
-
-is-met-requires : tie.Need-is-met-requires
-is-met-requires c κs = search needs
-
 put-requires : tie.Need-put-requires
 put-requires c κs = search needs
 
@@ -26,16 +20,14 @@ returns : tie.Need-returns
 returns c =
     let at-put = c .before .before in
     let at-if2 = at-put .before .before in
-    let at-is-met = at-if2 .before .before in
-    let at-is-signal = at-is-met .before in
-    let start = at-is-signal .before .before .before in
+    let start = at-if2 .before .before .before .before in
     let a = start .args in
     let s = tabled (a .set .now) in
-    let has = sym (at-is-signal .is-signal .ensures) ∙ at-if2 .if2 .taken in
-    let met = sym (at-is-met .is-met .ensures) ∙ at-if2 .before .if1 .taken in
-    let up = start .pre .ascending in
-    same-child (opens-none (a .panel .n) s (a .a .e) (a .b .e) (kitRules (a .panel)) (a .level) up (start .pre .within) has met)
-    (child-none (a .panel .n) s (a .a .e) (a .b .e) up has met) (made-own (a .set .now) (start .pre .whole) _ _ (at-put .put .ensures) _ refl refl)
+    let has = sym (start .pre .1 .second) ∙ at-if2 .if2 .taken in
+    let met = sym (start .pre .1 .first) ∙ at-if2 .before .if1 .taken in
+    let up = start .pre .0 .ascending in
+    same-child (opens-none (a .panel .n) s (a .a .e) (a .b .e) (kitRules (a .panel)) (a .level) up (start .pre .0 .within) has met)
+    (child-none (a .panel .n) s (a .a .e) (a .b .e) up has met) (made-own (a .set .now) (start .pre .0 .whole) _ _ (at-put .put .ensures) _ refl refl)
 
 with-two-requires : tie.Need-with-two-requires
 with-two-requires c κs = search needs
@@ -47,13 +39,11 @@ returns-2 : tie.Need-returns-2
 returns-2 c =
     let at-with-two = c .before .before in
     let at-if3 = at-with-two .before .before in
-    let at-is-met = at-if3 .before .before in
-    let at-is-signal = at-is-met .before in
-    let start = at-is-signal .before .before .before in
+    let start = at-if3 .before .before .before .before .before in
     let a = start .args in
     let s = tabled (a .set .now) in
-    let lacks = sym (at-is-signal .is-signal .ensures) ∙ not-true _ (at-if3 .if3 .taken) in
-    let unmet = sym (at-is-met .is-met .ensures) ∙ at-if3 .before .if1 .left in
+    let lacks = sym (start .pre .1 .second) ∙ not-true _ (at-if3 .if3 .taken) in
+    let unmet = sym (start .pre .1 .first) ∙ at-if3 .before .before .if1 .left in
     same-child (opens-both (a .panel .n) s (a .a .e) (a .b .e) (kitRules (a .panel)) (a .level) lacks unmet)
     (child-both (a .panel .n) s (a .a .e) (a .b .e) lacks unmet)
     (at-with-two .with-two .ensures (set-lacks (a .panel .n) s (a .a .e) (a .b .e) (a .b .e) lacks) (both-lack (a .panel .n) s (a .a .e) (a .b .e) unmet))
@@ -68,24 +58,22 @@ returns-3 : tie.Need-returns-3
 returns-3 c =
     let at-with-one = c .before .before in
     let at-if1 = at-with-one .before .before in
-    let at-is-met = at-if1 .before in
-    let at-is-signal = at-is-met .before in
-    let start = at-is-signal .before .before .before in
+    let start = at-if1 .before .before .before in
     let a = start .args in
     let s = tabled (a .set .now) in
-    let up = start .pre .ascending in
+    let up = start .pre .0 .ascending in
     ⊎-elim
     (λ w.
-    let lacks = sym (at-is-signal .is-signal .ensures) ∙ w .1 .left in
-    let met = sym (at-is-met .is-met .ensures) ∙ w .0 .taken in
+    let lacks = sym (start .pre .1 .second) ∙ w .1 .left in
+    let met = sym (start .pre .1 .first) ∙ w .0 .taken in
     let told = rw (w .2) at (at-with-one .with-one .ensures) in
     same-child (opens-second (a .panel .n) s (a .a .e) (a .b .e) (kitRules (a .panel)) (a .level) up lacks met)
     (child-second (a .panel .n) s (a .a .e) (a .b .e) up lacks met)
     (told (set-lacks (a .panel .n) s (a .a .e) (a .b .e) (a .b .e) lacks)))
     (λ w.
-    let has = sym (at-is-signal .is-signal .ensures) ∙ not-false _ (w .1 .left) in
-    let unmet = sym (at-is-met .is-met .ensures) ∙ w .0 .left in
-    let told = rw (w .2) at (at-with-one .with-one .ensures) in
+    let has = sym (start .pre .1 .second) ∙ not-false _ (w .2 .left) in
+    let unmet = sym (start .pre .1 .first) ∙ w .0 .left in
+    let told = rw (w .3) at (at-with-one .with-one .ensures) in
     same-child (opens-first (a .panel .n) s (a .a .e) (a .b .e) (kitRules (a .panel)) (a .level) has unmet)
     (child-first (a .panel .n) s (a .a .e) (a .b .e) has unmet)
     (told (first-lacks (a .panel .n) s (a .a .e) (a .b .e) unmet)))
@@ -95,8 +83,6 @@ pub offer-spec : {M : Type 1} → statement M
 offer-spec =
     tie.close
     (tie.spec
-    is-signal-requires
-    is-met-requires
     put-requires
     same-length
     returns

@@ -11,10 +11,13 @@ use Rattle.walk.proofs.walk.+open+pairs.Lts-open as opener-lts
 use Rattle.walk.proofs.walk.pairs.Reads as runner
 use Rattle.walk.proofs.walk.pairs.Kinds as runner-kinds
 use Rattle.walk.proofs.walk.+open+pairs.Lts-pairs as runner-lts
-use Rattle.monomial.proofs.Monomial.leads.Reads as leads-reads
-use Rattle.monomial.proofs.Monomial.next_divisor.Reads as next-divisor-reads
 use Rattle.monomial.proofs.Monomial.over.Reads as over-reads
+use Rattle.lister.proofs.passes.start.Reads as start-reads
+use Rattle.lister.proofs.passes.find.Reads as find-reads
+use Rattle.lister.proofs.passes.left.Reads as left-reads
+use Rattle.lister.proofs.passes.behind.Reads as behind-reads
 use Rattle.walk.proofs.children.offer.Reads as offer-reads
+use Rattle.walk.proofs.walk.pass_by.Reads as pass-by-reads
 use Rattle.walk.proofs.walk.take_step.Reads as take-step-reads
 
 abbrev pub μ-opener : Measures 4 opener-kinds.ps ℕ
@@ -41,14 +44,20 @@ opener-claims t = (take-step-reads.Asked, take-step-reads.Learnt, runner-below t
 
 abbrev pub runner-claims : ℕ → runner-lts.Claims
 runner-claims t = (
-  leads-reads.Asked,
-  leads-reads.Learnt,
+  start-reads.Asked,
+  start-reads.Learnt,
+  find-reads.Asked,
+  find-reads.Learnt,
+  left-reads.Asked,
+  left-reads.Learnt,
+  pass-by-reads.Asked,
+  pass-by-reads.Learnt,
   over-reads.Asked,
   over-reads.Learnt,
   offer-reads.Asked,
   offer-reads.Learnt,
   opener-below t,
   opener.Post,
-  next-divisor-reads.Asked,
-  next-divisor-reads.Learnt,
+  behind-reads.Asked,
+  behind-reads.Learnt,
 )

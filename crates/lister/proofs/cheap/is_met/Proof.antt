@@ -5,8 +5,8 @@ use Rattle.monomial.specs.Lists.{any}
 use Rattle.monomial.specs.Order.{same}
 use Rattle.wiring.specs.Signals.{signalsAt}
 use borrow.Author.Needs.{needs}
-use Rattle.walk.proofs.children.is_met.Statement.{statement}
-use Rattle.walk.proofs.children.is_met.Tie as tie
+use Rattle.lister.proofs.cheap.is_met.Statement.{statement}
+use Rattle.lister.proofs.cheap.is_met.Tie as tie
 
 same-requires : tie.Need-same-requires
 same-requires c κs = search needs

@@ -1,0 +1,2 @@
+-- What a pair adds.
+pub mod Laws

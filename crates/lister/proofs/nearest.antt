@@ -1,0 +1,2 @@
+-- Cheap pairs by V.
+pub mod Laws

@@ -1,0 +1,2 @@
+-- The passes of the lister.
+pub mod Laws
