@@ -1,16 +1,16 @@
 -- Cheap pairs first: a pair is cheap exactly where just one of the two is not in V, or they are one that is not; each factor pair has one place in the
 -- order, and the cheap ones ascend by m1, and so do the others. Assumes nothing.
-use mathlib.Core.Path.{_≡_, refl, sym, ap, _∙_, subst}
-use mathlib.Core.Logic.{_⊎_, inl, inr, _↔_}
+use mathlib.Core.Path.{_≡_, refl, _∙_, subst}
+use mathlib.Core.Logic.{inl, inr, _↔_}
 use mathlib.Core.Bool.{Bool, true, false, cond, not, _||_}
-use mathlib.Core.List.{List, [], _∷_, _++_, map, Memᴰ·cast, Memᴰ·map, Memᴰ·of-map}
+use mathlib.Core.List.{List, [], _∷_, map, Memᴰ·cast, Memᴰ·map, Memᴰ·of-map}
 use lib.Dec.{T}
 use Rattle.monomial.specs.Lists.{any, keep}
 use Rattle.monomial.specs.Monomial.{Mono}
 use Rattle.monomial.specs.Order.{same, before}
 use Rattle.monomial.specs.Divisors.{pairs}
 use Rattle.monomial.specs.Claims.{_∈_, Ascending, empty, first, Pair, Rearranged}
-use Rattle.monomial.proofs.Tests.{Tested, passed, failed, test, T→is, is→T, is→nT}
+use Rattle.monomial.proofs.Tests.{Tested, passed, failed, test, is→T, is→nT}
 use Rattle.monomial.proofs.Members.{keep-out}
 use Rattle.monomial.proofs.Rearranged.{first-rearranged}
 use Rattle.monomial.proofs.order.Laws.{mono-order}

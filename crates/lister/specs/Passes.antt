@@ -19,7 +19,7 @@ abbrev pub Proper : Mono → Type 0
 Proper m = m ≡ one (length m) → ⊥
 
 -- the place before the first pair
-pub record Starting (m : Mono) (at : Place) : Type 0 where
+pub record Starting (at : Place) : Type 0 where
   pub cheap : at .rest ≡ false
   pub first : at .a .e ≡ one width
   pub none : at .listed ≡ 0

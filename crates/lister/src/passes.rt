@@ -39,7 +39,7 @@ fn count(m: Monomial) -> u64
 
 // The place before the first pair.
 pub fn start(m: Monomial) -> Place
-    ensures { λ r. ⌜ Starting (m .e) r ⌝ }
+    ensures { λ r. ⌜ Starting r ⌝ }
 {
     Place {
         rest: false,

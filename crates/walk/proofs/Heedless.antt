@@ -8,7 +8,7 @@ use Prim.Native.Nat.{ℕ, suc, _≤_}
 use native.Mathlib.Omega.{arith}
 use lib.Dec.{T}
 use lib.ListN.{length}
-use Rattle.monomial.specs.Lists.{any, keep}
+use Rattle.monomial.specs.Lists.{any}
 use Rattle.monomial.specs.Monomial.{Mono, constants, width}
 use Rattle.monomial.specs.Order.{same}
 use Rattle.monomial.specs.Product.{mul}

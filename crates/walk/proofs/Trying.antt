@@ -1,16 +1,15 @@
 -- The order in which pairs are tried changes neither finds nor the number of steps: by two orders, each of which tries every pair once, a level takes
 -- each step as often, and so finds the same sets in as many steps, and a plan that ends is the same. Assumes nothing.
 use mathlib.Core.Path.{_≡_, refl, sym, ap, ap₂, _∙_, subst}
-use mathlib.Core.Logic.{_↔_}
 use mathlib.Core.Bool.{Bool, true, false, cond}
 use mathlib.Core.List.{List, [], _∷_}
 use Prim.Native.Nat.{ℕ, zero, suc, _+_, _≤_}
 use native.Mathlib.Omega.{arith}
 use lib.Dec.{T, leb}
 use lib.ListN.{length}
-use Rattle.monomial.specs.Lists.{keep, gather}
+use Rattle.monomial.specs.Lists.{keep}
 use Rattle.monomial.specs.Monomial.{Mono, width}
-use Rattle.monomial.specs.Order.{sameSet, beforeSet}
+use Rattle.monomial.specs.Order.{sameSet}
 use Rattle.monomial.specs.Divisors.{pairs}
 use Rattle.monomial.specs.Claims.{_∈_, _⊆_}
 use Rattle.monomial.proofs.Members.{here, keep-out, keep-all, keep-some}

@@ -1,6 +1,6 @@
 -- Unused variables change neither sets nor steps, by rules that heed none of them: records that are clean for n variables plan alike for any
 -- larger number. The further variables have no derivative, and no monomial that the walk meets holds them. Assumes nothing.
-use mathlib.Core.Path.{_≡_, refl, sym, ap, _∙_, subst}
+use mathlib.Core.Path.{_≡_, refl, sym, ap, _∙_}
 use mathlib.Core.Logic.{⊎-elim}
 use mathlib.Core.Bool.{Bool}
 use mathlib.Core.List.{List, []}
@@ -12,17 +12,14 @@ use Rattle.monomial.specs.Lists.{any}
 use Rattle.monomial.specs.Monomial.{Mono, constants, width}
 use Rattle.monomial.specs.Order.{same}
 use Rattle.monomial.specs.Product.{mul}
-use Rattle.monomial.specs.Quotient.{divides}
 use Rattle.monomial.specs.Divisors.{pairs}
 use Rattle.monomial.specs.Claims.{_∈_, _⊆_, IsPair, Within}
-use Rattle.monomial.proofs.Tests.{same-test}
-use Rattle.monomial.proofs.Members.{take-in, take-more}
+use Rattle.monomial.proofs.Members.{take-in}
 use Rattle.monomial.proofs.order.Laws.{mono-order}
-use Rattle.monomial.proofs.order.Ascending.{sub-length, sub-equal, among-in, among-out}
+use Rattle.monomial.proofs.order.Ascending.{sub-length, sub-equal}
 use Rattle.monomial.proofs.product.Laws.{mul-comm}
-use Rattle.monomial.proofs.quotient.Laws.{factor-divides}
 use Rattle.monomial.proofs.divisors.Pairs.{pairs-out}
-use Rattle.monomial.proofs.Within.{within-divides, constant-within}
+use Rattle.monomial.proofs.Within.{constant-within}
 use Rattle.wiring.specs.Panel.{setBytes}
 use Rattle.wiring.specs.Poly.{Poly, plain, support}
 use Rattle.wiring.specs.Quadratic.{inV2}
@@ -40,7 +37,7 @@ use Rattle.wiring.proofs.derivative.Records.{Derived, derived}
 use Rattle.wiring.proofs.sockets.Laws.{may-same}
 use Rattle.wiring.proofs.answers.Exact.{panel-in}
 use Rattle.wiring.proofs.terms.Laws.{Fields, fields-out, clean-right, clean-widens, clean-for}
-use Rattle.wiring.proofs.signals.Laws.{base-in, set-in, signals-cases, signals-wide}
+use Rattle.wiring.proofs.signals.Laws.{signals-cases, signals-wide}
 use Rattle.lister.specs.Cheap.{added}
 use Rattle.walk.specs.Walk.{Rules, allowing, cheaply, counted, rulesOf, child, opens, ends, level}
 use Rattle.walk.specs.Plan.{plan, settingsRight, planned}
@@ -48,7 +45,7 @@ use Rattle.walk.specs.Claims.{Orderly, Proper, Heedless, Agree}
 use Rattle.walk.proofs.children.Laws.{Grown, old, left, right, child-out, nonsquare-wide}
 use Rattle.walk.proofs.Rules.{cheaply-orderly}
 use Rattle.walk.proofs.Agree.{level-agree, plan-agree}
-use Rattle.walk.proofs.Sound.{within-base, gap-within, keeps-proper}
+use Rattle.walk.proofs.Sound.{gap-within, keeps-proper}
 use Rattle.walk.proofs.Heedless.{allowing-heedless, counted-heedless, cheaply-heedless, signals-more, signals-fewer, signal-same, factor-within, factors-within}
 
 module _ (n b : ℕ) (terms : List ℕ) (more : n ≤ b) (few : b ≤ width) (clean : CleanFor n terms) where

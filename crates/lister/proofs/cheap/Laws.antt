@@ -2,9 +2,7 @@
 use mathlib.Core.Path.{_≡_, refl, sym, ap, _∙_}
 use mathlib.Core.Logic.{_⊎_, inl, inr}
 use mathlib.Core.Bool.{Bool, true, false, cond, not, _||_}
-use mathlib.Core.List.{List, [], _∷_}
-use lib.Dec.{T, eqb}
-use lib.ListN.{length}
+use mathlib.Core.List.{List}
 use Rattle.monomial.specs.Lists.{any, insertBy}
 use Rattle.monomial.specs.Monomial.{Mono}
 use Rattle.monomial.specs.Order.{same, before}

@@ -1,17 +1,17 @@
 -- The first factors of cheap pairs are found by V and the root: each of them is the lead of one that is asked, and a loop over these keeps the nearest.
 -- Assumes nothing.
 use mathlib.Core.Path.{_≡_, refl, sym, ap, ap₂, _∙_, subst}
-use mathlib.Core.Logic.{_⊎_, inl, inr, ⊎-elim}
-use mathlib.Core.Bool.{Bool, true, false, cond, not, _&&_, _||_}
-use mathlib.Core.List.{List, [], _∷_, _++_, map, List·Memᴰ·head, List·Memᴰ·tail, Memᴰ·append-left, Memᴰ·append-right}
-use Prim.Native.Nat.{ℕ, zero, suc, _+_, _/_, _<_, _≤_}
+use mathlib.Core.Logic.{_⊎_, ⊎-elim}
+use mathlib.Core.Bool.{true, false, not, _&&_, _||_}
+use mathlib.Core.List.{List, [], _∷_, List·Memᴰ·head, List·Memᴰ·tail, Memᴰ·append-left, Memᴰ·append-right}
+use Prim.Native.Nat.{ℕ, suc, _+_, _<_, _≤_}
 use native.Mathlib.Omega.{arith}
 use borrow.Author.Tests.{leb-true, leb-false}
 use lib.Dec.{T, T-not, not-T, leb}
-use lib.ListN.{length, getD, length-append}
-use Rattle.monomial.specs.Lists.{pairwise, pointwise}
+use lib.ListN.{length, getD}
+use Rattle.monomial.specs.Lists.{pointwise}
 use Rattle.monomial.specs.Monomial.{Mono, one, width}
-use Rattle.monomial.specs.Order.{same, before}
+use Rattle.monomial.specs.Order.{before}
 use Rattle.monomial.specs.Product.{mul}
 use Rattle.monomial.specs.Quotient.{quo, divides}
 use Rattle.monomial.specs.Divisors.{leads}

@@ -1,19 +1,19 @@
 -- A pass of the lister over the factor pairs of a monomial other than 1, by any test, and what is listed by two passes. Assumes nothing.
 use mathlib.Core.Path.{_≡_, refl, sym, ap, ap₂, _∙_, subst}
 use mathlib.Core.Bool.{Bool, true, false, cond, not, _&&_}
-use mathlib.Core.List.{List, [], _∷_, _++_, map, append-nil, Memᴰ·of-map}
+use mathlib.Core.List.{List, [], _∷_, _++_, map, append-nil}
 use Prim.Native.Nat.{ℕ, suc, _+_, _≤_, _<_}
 use native.Mathlib.Omega.{arith}
 use lib.Dec.{T, T-not, not-T}
 use lib.ListN.{length, length-map}
 use Rattle.monomial.specs.Lists.{keep}
-use Rattle.monomial.specs.Monomial.{Mono, one, width}
-use Rattle.monomial.specs.Order.{same, before}
+use Rattle.monomial.specs.Monomial.{Mono, one}
+use Rattle.monomial.specs.Order.{before}
 use Rattle.monomial.specs.Quotient.{quo, divides}
 use Rattle.monomial.specs.Divisors.{divisors, score, leads, pairs, next}
-use Rattle.monomial.specs.Claims.{_∈_, from, Compared, less, equal, more, Pair, split, pairsFrom}
-use Rattle.monomial.proofs.Tests.{Tested, passed, failed, test, T→is, nT→is, is-not, is→T, is→nT, same-test, and-l, and-r, and-i}
-use Rattle.monomial.proofs.Members.{no-length, keep-yes, keep-no, keep-none, keep-out, keep-length, keep-split, keep-map, keep-both, keep-same}
+use Rattle.monomial.specs.Claims.{_∈_, from, Pair, split, pairsFrom}
+use Rattle.monomial.proofs.Tests.{T→is, is-not, is→T, is→nT, same-test, and-l, and-r, and-i}
+use Rattle.monomial.proofs.Members.{no-length, keep-yes, keep-no, keep-none, keep-length, keep-split, keep-map, keep-both, keep-same}
 use Rattle.monomial.proofs.order.Laws.{mono-order, before-le}
 use Rattle.monomial.proofs.quotient.Laws.{one-divides, divides-length, mul-quo, quo-divides}
 use Rattle.monomial.proofs.divisors.Laws.{divisors-out, divisors-length}
@@ -23,8 +23,8 @@ use Rattle.lister.specs.declared.passes.Place.{Place}
 use Rattle.lister.specs.declared.passes.Hand.{Hand}
 use Rattle.lister.specs.declared.nearest.Near.{Near}
 use Rattle.lister.specs.Cheap.{cheap, ofKind, cheapFirst, Holds}
-use Rattle.lister.specs.Nearest.{CheapFrom, Nearest}
-use Rattle.lister.specs.Passes.{Proper, Starting, kindFrom, kind, Standing, Picked, Sought, listFrom, putOff, Found}
+use Rattle.lister.specs.Nearest.{Nearest}
+use Rattle.lister.specs.Passes.{Proper, kindFrom, kind, Standing, Picked, Sought, listFrom, putOff, Found}
 
 -- ---- as many pairs as divisors, at most
 pub pairs-few : (m : Mono) → length (pairs m) ≤ score m

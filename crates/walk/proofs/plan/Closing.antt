@@ -2,7 +2,6 @@
 -- no more steps, planning ends as that walk does, in no more steps, and back. With no marks and the full kit that walk is document 01's with the cheap
 -- pairs first. Assumes nothing.
 use mathlib.Core.Path.{_≡_, sym, ap, _∙_, subst}
-use mathlib.Core.Bool.{true}
 use mathlib.Core.List.{List, _++_}
 use Prim.Native.Nat.{ℕ, suc, _*_, _-_, _/_, _≤_}
 use native.Mathlib.Omega.{arith}

@@ -1,6 +1,6 @@
 -- `nearer` meets its contract: c is not nearer, or begins no cheap pair, or is taken. Assumes nothing.
 use mathlib.Core.Path.{_≡_, refl, sym, _∙_, subst}
-use mathlib.Core.Bool.{true, false}
+use mathlib.Core.Bool.{true}
 use mathlib.Core.List.{List}
 use borrow.Author.Tests.{not-true, not-false}
 use lib.Dec.{T}
@@ -10,7 +10,7 @@ use Rattle.monomial.specs.Claims.{split}
 use Rattle.monomial.proofs.Tests.{is→T, is→nT}
 use Rattle.wiring.specs.Signals.{signalsAt}
 use Rattle.lister.specs.Cheap.{cheap, Holds}
-use Rattle.lister.specs.Nearest.{CheapFrom, tried, Nearing}
+use Rattle.lister.specs.Nearest.{CheapFrom}
 use Rattle.lister.proofs.nearest.Laws.{nearing-by, nearing-take, nearer-out, nearer-not}
 use borrow.Author.Needs.{needs}
 use Rattle.lister.proofs.nearest.nearer.Statement.{statement}

@@ -1,11 +1,11 @@
 -- `find` meets its contract: one pass ends with a pair, or with nothing more to list, or the rest begins. Assumes nothing.
-use mathlib.Core.Path.{_≡_, refl, sym, ap, _∙_, subst}
-use mathlib.Core.Bool.{Bool, true, false, cond}
-use Prim.Native.Nat.{ℕ, _≤_}
+use mathlib.Core.Path.{_≡_, refl, sym, ap, _∙_}
+use mathlib.Core.Bool.{true, false, cond}
+use Prim.Native.Nat.{_≤_}
 use native.Mathlib.Omega.{arith}
 use lib.ListN.{length}
 use borrow.Author.Tests.{not-true, not-false}
-use Rattle.monomial.specs.Monomial.{Mono, one, width}
+use Rattle.monomial.specs.Monomial.{one, width}
 use Rattle.monomial.specs.Divisors.{pairs}
 use Rattle.monomial.proofs.Tests.{is-not}
 use Rattle.monomial.proofs.Members.{keep-length}

@@ -1,6 +1,5 @@
 -- `seek` meets its contract: the loop goes from divisor to divisor, and has met no pair of the kind that is sought (`Seeking`). Assumes nothing.
 use mathlib.Core.Path.{_≡_, refl, sym, _∙_, subst}
-use mathlib.Core.Bool.{Bool, false}
 use mathlib.Core.List.{List}
 use Prim.Native.Nat.{ℕ, _^_, _≤_}
 use native.Mathlib.Omega.{arith}

@@ -1,8 +1,8 @@
 -- The pair runner meets its contract at a measure, where the opener meets its own below it. Assumes nothing.
 use mathlib.Core.Path.{_≡_, refl, sym, ap, _∙_, subst}
 use mathlib.Core.Logic.{⊎-elim}
-use mathlib.Core.Bool.{Bool, true, false}
-use mathlib.Core.List.{List, [], _∷_, _++_}
+use mathlib.Core.Bool.{true, false}
+use mathlib.Core.List.{_++_}
 use Prim.Native.Nat.{ℕ, _+_, _*_, _-_, _/_, _<_, _≤_}
 use native.Mathlib.Omega.{arith}
 use borrow.Author.Needs.{needs}
@@ -11,7 +11,6 @@ use lib.Dec.{ltb}
 use lib.ListN.{length}
 use lib.Seq.{length-take-le}
 use Rattle.monomial.specs.Monomial.{Mono, one, width}
-use Rattle.monomial.specs.Claims.{Pair}
 use Rattle.wiring.specs.Signals.{tabled, listed, signalsAt}
 use Rattle.wiring.proofs.signals.Tables.{tabled-length}
 use Rattle.lister.specs.Cheap.{cheapFirst, Holds}
@@ -20,12 +19,12 @@ use Rattle.lister.proofs.passes.Laws.{standing-start, listed-first, kinds-count
 use Rattle.walk.specs.Walk.{kitRules}
 use Rattle.walk.specs.Turns.{PassedBy}
 use Rattle.walk.specs.declared.walk.Turn.the-variants.{Going, Spent, Full}
-use Rattle.walk.proofs.walk.Laws.{Running, running-start, running-showing, running-end, running-spent, running-shut, running-going, running-child-spent, running-child-full, running-by}
+use Rattle.walk.proofs.walk.Laws.{running-start, running-showing, running-end, running-spent, running-shut, running-going, running-child-spent, running-child-full, running-by}
 use Rattle.walk.proofs.walk.Runner.{means-kept, gap-wide, gap-proper, child-ready, rest-shut}
 use Rattle.walk.proofs.walk.pairs.Reads as runner
 use Rattle.walk.proofs.walk.+open+pairs.Lts-pairs as runner-lts
 use Rattle.walk.proofs.walk.+open+pairs.Proof.Cycle.{runner-at, runner-claims}
-use Rattle.walk.proofs.walk.+open+pairs.Proof.Offered.{Inv-loop, μ-loop, Seen, at-loop, begun, v, gap, all, Runs, held, later, seen-picked, seen-member, seen-runs, seen-end, seen, offered-some, offered-child, offered-opens, offered-low, offered-more, offered-within, offered-told, offered-long, nursery, nursery-long, offering, returned-go, returned-told, returned-long, returned-list}
+use Rattle.walk.proofs.walk.+open+pairs.Proof.Offered.{Inv-loop, μ-loop, at-loop, begun, v, gap, Runs, held, seen-picked, seen-member, seen-runs, seen-end, seen, offered-some, offered-child, offered-opens, offered-low, offered-more, offered-within, offered-told, offered-long, nursery, nursery-long, offering, returned-go, returned-told, returned-long, returned-list}
 
 -- ---- the loop begins before the first pair
 add-all : (t : ℕ) → runner-lts.Need-add-all (runner-claims t) (runner-at t) runner.Post Inv-loop μ-loop
