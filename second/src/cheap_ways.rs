@@ -7,7 +7,7 @@ use crate::closing::lacks;
 use crate::maker::stored_cheap;
 use crate::monomial::Monomial;
 use crate::system::Set;
-use crate::ways::{Answer, Chosen, Opened, Steps, Stored, Tried, Walks};
+use crate::ways::{named, Answer, Chosen, Opened, Steps, Stored, Tried, Walks};
 use std::cmp::Reverse;
 use std::sync::OnceLock;
 
@@ -281,19 +281,14 @@ fn the_right_way_gives_the_right_answers() {
     }
 }
 
-/// The ways of ordering, each under its own name.
-fn named() -> [(Way, Way); WAYS.len()] {
-    WAYS.map(|way| (way, way))
-}
-
 #[test]
 fn orders_that_go_astray() {
-    stored().assert_told(&named(), |way, case| walked(case, *way));
+    stored().assert_told(&named(WAYS), |way, case| walked(case, *way));
 }
 
 /// How many answers tell each way; for looking at, with `--ignored --nocapture`.
 #[test]
 #[ignore = "it walks all cases in all ways"]
 fn how_many_answers_tell_each_way() {
-    stored().count_told(&named(), |way, case| walked(case, *way));
+    stored().count_told(&named(WAYS), |way, case| walked(case, *way));
 }

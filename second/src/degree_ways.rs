@@ -12,7 +12,7 @@ use crate::records::{set_places, write_places};
 use crate::reply::Reply;
 use crate::system::Set;
 use crate::ways::{
-    fault_of_lengths, fault_of_records, fault_of_set, refused, Answer, Named, Opened, Steps,
+    fault_of_lengths, fault_of_records, fault_of_set, named, refused, Answer, Named, Opened, Steps,
     Stored, Tried, Walks,
 };
 use std::collections::{BTreeMap, BTreeSet};
@@ -543,14 +543,9 @@ fn nothing_in_v_is_above_the_limit() {
     }
 }
 
-/// The ways of walking, each under its own name.
-fn named_walks() -> [(Way, Way); WAYS.len()] {
-    WAYS.map(|way| (way, way))
-}
-
 #[test]
 fn walks_that_go_astray() {
-    stored().assert_told(&named_walks(), |way, case| walked(case, *way));
+    stored().assert_told(&named(WAYS), |way, case| walked(case, *way));
 }
 
 /// The full kit is planned for, and of its list what is within the limit stays.
@@ -605,5 +600,5 @@ fn how_many_answers_tell_each_way() {
     stored().count_told(&MISREAD, |way, case| right(&way(case)));
     stored().count_told(&JUDGED, |way, case| way(case));
     stored().count_told(&FILTERED, |way, case| way(case));
-    stored().count_told(&named_walks(), |way, case| walked(case, *way));
+    stored().count_told(&named(WAYS), |way, case| walked(case, *way));
 }

@@ -15,8 +15,8 @@ use crate::setting::Setting;
 use crate::system::{squares, Set, System};
 use crate::walk::Rules;
 use crate::ways::{
-    below, fault_of_lengths, fault_of_records, fault_of_set, refused, Answer, Named, Opened, Steps,
-    Stored, Tried, Walks,
+    below, fault_of_lengths, fault_of_records, fault_of_set, named, refused, Answer, Named, Opened,
+    Steps, Stored, Tried, Walks,
 };
 use crate::wiring::Wire;
 use std::collections::BTreeSet;
@@ -467,6 +467,5 @@ fn walks_that_go_astray() {
         Way::NoProduct,
         Way::Slope,
     ];
-    let named = ways.map(|way| (way, way));
-    stored().assert_told(&named, |way, case| walked(case, *way));
+    stored().assert_told(&named(ways), |way, case| walked(case, *way));
 }

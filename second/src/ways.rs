@@ -19,6 +19,11 @@ pub type Answer = (Reply, Vec<u8>);
 /// A way with its name: what it makes of a case.
 pub type Named<T> = (&'static str, fn(&Case) -> T);
 
+/// Ways that have no words for a name, each under itself.
+pub fn named<W: Copy, const N: usize>(ways: [W; N]) -> [(W, W); N] {
+    ways.map(|way| (way, way))
+}
+
 /// So many cases at least show that a way is hasty.
 pub const ENOUGH: usize = 3;
 

@@ -3,18 +3,17 @@
 use mathlib.Core.Path.{_≡_, refl, _∙_, subst}
 use mathlib.Core.Logic.{inl, inr, _↔_}
 use mathlib.Core.Bool.{Bool, true, false, cond, not, _||_}
-use mathlib.Core.List.{List, [], _∷_, map, Memᴰ·cast, Memᴰ·map, Memᴰ·of-map}
+use mathlib.Core.List.{List, map, Memᴰ·cast}
 use lib.Dec.{T}
 use Rattle.monomial.specs.Lists.{any, keep}
 use Rattle.monomial.specs.Monomial.{Mono}
 use Rattle.monomial.specs.Order.{same, before}
 use Rattle.monomial.specs.Divisors.{pairs}
-use Rattle.monomial.specs.Claims.{_∈_, Ascending, empty, first, Pair, Rearranged}
+use Rattle.monomial.specs.Claims.{_∈_, Ascending, Pair, Rearranged}
 use Rattle.monomial.proofs.Tests.{Tested, passed, failed, test, is→T, is→nT}
-use Rattle.monomial.proofs.Members.{keep-out}
 use Rattle.monomial.proofs.Rearranged.{first-rearranged}
 use Rattle.monomial.proofs.order.Laws.{mono-order}
-use Rattle.monomial.proofs.order.Ascending.{among-in, among-out}
+use Rattle.monomial.proofs.order.Ascending.{among-in, among-out, keep-image-asc}
 use Rattle.monomial.proofs.divisors.Pairs.{pairs-asc}
 use Rattle.lister.specs.Cheap.{cheap, cheapFirst}
 use Rattle.lister.specs.Claims.{AddsOne}
@@ -78,23 +77,9 @@ unfolding cheapFirst
 cheap-first-rearranged v m = first-rearranged (cheap v) (pairs m)
 
 -- ---- each kind by ascending m1
-kept-asc : (f : Pair → Bool) (l : List Pair) → Ascending before (map (λ (p : Pair). p .0) l) → Ascending before (map (λ (p : Pair). p .0) (keep f l))
-unfolding keep
-kept-asc f [] a = empty
-kept-asc f (p ∷ l) (first h a) = go (test (f p)) (kept-asc f l a)
-  where
-    ahead : (y : Mono) → y ∈ map (λ (q : Pair). q .0) (keep f l) → T (before (p .0) y)
-    ahead y i =
-        let q = Memᴰ·of-map (λ (q : Pair). q .0) (keep f l) i in
-        h y (subst (λ (z : Mono). z ∈ map (λ (q : Pair). q .0) l) (q .2) (Memᴰ·map (λ (q : Pair). q .0) (keep-out f l (q .1) .0)))
-
-    go : Tested (f p) → Ascending before (map (λ (q : Pair). q .0) (keep f l)) → Ascending before (map (λ (q : Pair). q .0) (keep f (p ∷ l)))
-    go (passed e) b = rw e (first ahead b)
-    go (failed e) b = rw e b
-
 module _ (v : List Mono) (m : Mono) where
   pub cheap-ascend : Ascending before (map (λ (p : Pair). p .0) (keep (cheap v) (pairs m)))
-  cheap-ascend = kept-asc (cheap v) (pairs m) (pairs-asc m)
+  cheap-ascend = keep-image-asc (λ (p : Pair). p .0) (cheap v) (pairs m) (pairs-asc m)
 
   pub rest-ascend : Ascending before (map (λ (p : Pair). p .0) (keep (λ p. not (cheap v p)) (pairs m)))
-  rest-ascend = kept-asc (λ p. not (cheap v p)) (pairs m) (pairs-asc m)
+  rest-ascend = keep-image-asc (λ (p : Pair). p .0) (λ p. not (cheap v p)) (pairs m) (pairs-asc m)

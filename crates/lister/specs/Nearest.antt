@@ -13,9 +13,9 @@ use Rattle.monomial.specs.Claims.{split}
 use Rattle.lister.specs.declared.nearest.Near.{Near}
 use Rattle.lister.specs.Cheap.{cheap, Holds}
 
--- every exponent halved
-abbrev pub halved : Mono → Mono
-halved m = map (λ e. e / 2) m
+-- every exponent halved: the root of a square
+abbrev pub rootOf : Mono → Mono
+rootOf m = map (λ e. e / 2) m
 
 -- the first of the pair of m that w is of; 1, where w does not divide m
 unfoldable pub leadOf : Mono → Mono → Mono
@@ -23,7 +23,7 @@ leadOf m w = cond (divides w m) (cond (leads m w) w (quo m w)) (one (length m))
 
 -- one of a cheap pair is among these
 abbrev pub asked : List Mono → Mono → List Mono
-asked v m = v ++ (halved m ∷ [])
+asked v m = v ++ (rootOf m ∷ [])
 
 -- the first factor d of a cheap pair of m, from a on
 pub record CheapFrom (v : List Mono) (m a d : Mono) : Type 0 where
@@ -36,12 +36,21 @@ pub record CheapFrom (v : List Mono) (m a d : Mono) : Type 0 where
 abbrev pub tried : List Mono → Mono → ℕ → Mono
 tried v m i = leadOf m (getD (asked v m) i (one width))
 
--- the first j of them are tried, and the nearest of these is told
-pub record Nearing (v : List Mono) (m a : Mono) (near : Near) (j : ℕ) : Type 0 where
-  pub own : near .some ≡ true → CheapFrom v m a (near .a .e) × Holds v (split m (near .a .e)) (near .held)
-  pub least : (i : ℕ) → i < j → CheapFrom v m a (tried v m i) → (near .some ≡ true) × (T (before (tried v m i) (near .a .e)) → ⊥)
+module _ (v : List Mono) (m a : Mono) where
+  -- what is told is a cheap pair from a on, with what V holds of it
+  abbrev pub Own : Near → Type 0
+  Own r = r .some ≡ true → CheapFrom v m a (r .a .e) × Holds v (split m (r .a .e)) (r .held)
 
--- the first of all cheap pairs from a on; where there is any, one is told
-pub record Nearest (v : List Mono) (m a : Mono) (r : Near) : Type 0 where
-  pub own : r .some ≡ true → CheapFrom v m a (r .a .e) × Holds v (split m (r .a .e)) (r .held)
-  pub least : (d : Mono) → CheapFrom v m a d → (r .some ≡ true) × (T (before d (r .a .e)) → ⊥)
+  -- where d begins one, one is told, and not one behind it
+  abbrev pub NotBehind : Near → Mono → Type 0
+  NotBehind r d = CheapFrom v m a d → (r .some ≡ true) × (T (before d (r .a .e)) → ⊥)
+
+  -- the nearest of the first j that are asked
+  pub record Nearing (r : Near) (j : ℕ) : Type 0 where
+    pub own : Own r
+    pub least : (i : ℕ) → i < j → NotBehind r (tried v m i)
+
+  -- the nearest of all
+  pub record Nearest (r : Near) : Type 0 where
+    pub own : Own r
+    pub least : (d : Mono) → NotBehind r d

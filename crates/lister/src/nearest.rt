@@ -14,7 +14,7 @@ ghost use Rattle.monomial.specs.Order.{before};
 ghost use Rattle.monomial.specs.Quotient.{divides};
 ghost use Rattle.monomial.specs.Divisors.{leads};
 ghost use Rattle.wiring.specs.Signals.{signalsAt};
-ghost use Rattle.lister.specs.Nearest.{halved, leadOf, asked, tried, Nearing, Nearest};
+ghost use Rattle.lister.specs.Nearest.{rootOf, leadOf, asked, tried, Nearing, Nearest};
 
 // Where some is true, the cheap pair that begins with a.
 pub struct Near {
@@ -25,7 +25,7 @@ pub struct Near {
 
 // Every exponent halved: the root, where m is a square.
 fn half(m: Monomial) -> Monomial
-    ensures { λ r. ⌜ r .e ≡ halved (m .e) ⌝ }
+    ensures { λ r. ⌜ r .e ≡ rootOf (m .e) ⌝ }
 {
     let e = m.e;
     let mut r = [0u8; WIDTH];

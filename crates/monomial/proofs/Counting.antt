@@ -1,8 +1,8 @@
 -- The numbers below n, and the number of the first entry that passes a test. Assumes nothing.
-use mathlib.Core.Path.{_≡_, refl, ap, _∙_}
+use mathlib.Core.Path.{_≡_, refl, sym, ap, _∙_}
 use mathlib.Core.Logic.{⊎-elim}
 use mathlib.Core.Bool.{Bool, cond, _||_, true, false}
-use mathlib.Core.List.{List, [], _∷_, map, List·Memᴰ·cases-cons, List·Memᴰ·not-nil, Memᴰ·map, Memᴰ·of-map}
+use mathlib.Core.List.{List, [], _∷_, map, List·Memᴰ·head, List·Memᴰ·tail, List·Memᴰ·cases-cons, List·Memᴰ·not-nil, Memᴰ·map, Memᴰ·of-map}
 use Prim.Native.Nat.{ℕ, zero, suc, _<_, _≤_}
 use native.Mathlib.Omega.{arith}
 use borrow.Author.Tests.{leb-true, leb-false}
@@ -99,6 +99,11 @@ pub at-in : {A : Type 0} (l : List A) (i : ℕ) (d : A) → i < length l → get
 at-in [] i d h = let z : ⊥ = omega arith in absurd z
 at-in (x ∷ l) zero d h = here
 at-in (x ∷ l) (suc i) d h = there (at-in l i d (omega arith))
+
+-- and a member has a number
+pub in-at : {A : Type 0} (l : List A) (x d : A) → x ∈ l → (i : ℕ) × (i < length l) × (getD l i d ≡ x)
+in-at (y ∷ l) x d (List·Memᴰ·head e) = (0, omega arith, sym e)
+in-at (y ∷ l) x d (List·Memᴰ·tail h) = let k = in-at l x d h in (suc (k .0), omega (arith, k .1), k .2)
 
 -- the first that passes is not behind any that does
 pub place-le : {A : Type 0} (f : A → Bool) (l : List A) (x : A) (j : ℕ) → T (f (getD l j x)) → place f l ≤ j

@@ -3,12 +3,12 @@
 use mathlib.Core.Path.{_≡_, refl, sym, ap, ap₂, _∙_, subst}
 use mathlib.Core.Logic.{_⊎_, ⊎-elim}
 use mathlib.Core.Bool.{true, false, not, _&&_, _||_}
-use mathlib.Core.List.{List, [], _∷_, List·Memᴰ·head, List·Memᴰ·tail, Memᴰ·append-left, Memᴰ·append-right}
-use Prim.Native.Nat.{ℕ, suc, _+_, _<_, _≤_}
+use mathlib.Core.List.{List, [], _∷_, Memᴰ·append-left, Memᴰ·append-right}
+use Prim.Native.Nat.{ℕ, _+_, _<_, _≤_}
 use native.Mathlib.Omega.{arith}
 use borrow.Author.Tests.{leb-true, leb-false}
 use lib.Dec.{T, T-not, not-T, leb}
-use lib.ListN.{length, getD}
+use lib.ListN.{length}
 use Rattle.monomial.specs.Lists.{pointwise}
 use Rattle.monomial.specs.Monomial.{Mono, one, width}
 use Rattle.monomial.specs.Order.{before}
@@ -18,27 +18,22 @@ use Rattle.monomial.specs.Divisors.{leads}
 use Rattle.monomial.specs.Claims.{_∈_, split}
 use Rattle.monomial.proofs.Tests.{Tested, passed, failed, test, T→is, nT→is, is→T, is→nT, is-not, and-l, and-r, or-e}
 use Rattle.monomial.proofs.Members.{here}
+use Rattle.monomial.proofs.Counting.{in-at}
 use Rattle.monomial.proofs.order.Laws.{mono-order, level}
-use Rattle.monomial.proofs.quotient.Laws.{divides-length, mul-quo, quo-divides, quo-quo, one-divides}
-use Rattle.monomial.proofs.divisors.Following.{not-before-one}
+use Rattle.monomial.proofs.quotient.Laws.{mul-quo, quo-divides, quo-quo, one-divides}
+use Rattle.monomial.proofs.divisors.Pairs.{one-leads}
 use Rattle.lister.specs.declared.nearest.Near.{Near}
 use Rattle.lister.specs.Cheap.{cheap, Holds}
-use Rattle.lister.specs.Nearest.{halved, leadOf, asked, CheapFrom, tried, Nearing, Nearest}
+use Rattle.lister.specs.Nearest.{rootOf, leadOf, asked, CheapFrom, tried, NotBehind, Nearing, Nearest}
 use Rattle.lister.proofs.Order.{cheap-exact}
 
 -- ---- the root of a square
-pub half-square : (d : Mono) → halved (mul d d) ≡ d
+pub half-square : (d : Mono) → rootOf (mul d d) ≡ d
 unfolding pointwise
 half-square [] = refl
 half-square (x ∷ d) = ap₂ _∷_ (omega arith) (half-square d)
 
 -- ---- the lead of a monomial is the first of a pair
-one-leads : (m : Mono) → T (leads m (one (length m)))
-one-leads m =
-    not-T (before (quo m (one (length m))) (one (length m))) (λ t.
-    let long : length (quo m (one (length m))) ≡ length m = divides-length (quo m (one (length m))) m (quo-divides (one (length m)) m (one-divides m)) in
-    not-before-one (quo m (one (length m))) (subst (λ (n : ℕ). T (before (quo m (one (length m))) (one n))) (sym long) t))
-
 module _ (m w : Mono) where
   -- its three cases
   pub lead-one : divides w m ≡ false → leadOf m w ≡ one (length m)
@@ -102,11 +97,6 @@ module _ (m d : Mono) (t : T (divides d m)) (l : T (leads m d)) where
       go (failed e) = rw (there, e) (quo-quo d m t)
 
 -- ---- one of each cheap pair is asked
--- a member has a place
-member-at : {A : Type 0} (x y : A) (l : List A) → x ∈ l → (i : ℕ) × (i < length l) × (getD l i y ≡ x)
-member-at x y (z ∷ l) (List·Memᴰ·head e) = (0, omega arith, sym e)
-member-at x y (z ∷ l) (List·Memᴰ·tail h) = let k = member-at x y l h in (suc (k .0), omega (arith, k .1), k .2)
-
 module _ (v : List Mono) (m a d : Mono) (c : CheapFrom v m a d) where
   -- it is asked, and d is its lead
   record Asked : Type 0 where
@@ -117,15 +107,15 @@ module _ (v : List Mono) (m a d : Mono) (c : CheapFrom v m a d) where
   cheap-asked : Asked
   cheap-asked =
       ⊎-elim
-      (λ h. record { who = d; member = Memᴰ·append-left (halved m ∷ []) (h .0); lead = lead-first m d (c .divisor) (c .leading) })
+      (λ h. record { who = d; member = Memᴰ·append-left (rootOf m ∷ []) (h .0); lead = lead-first m d (c .divisor) (c .leading) })
       (λ k. ⊎-elim
-      (λ h. record { who = quo m d; member = Memᴰ·append-left (halved m ∷ []) (h .0); lead = lead-second m d (c .divisor) (c .leading) })
-      (λ h. record { who = halved m; member = Memᴰ·append-right v here; lead = ap (leadOf m) (root (h .0)) ∙ lead-first m d (c .divisor) (c .leading) })
+      (λ h. record { who = quo m d; member = Memᴰ·append-left (rootOf m ∷ []) (h .0); lead = lead-second m d (c .divisor) (c .leading) })
+      (λ h. record { who = rootOf m; member = Memᴰ·append-right v here; lead = ap (leadOf m) (root (h .0)) ∙ lead-first m d (c .divisor) (c .leading) })
       k)
       (cheap-exact v (split m d) .0 (c .cheap))
     where
-      root : d ≡ quo m d → halved m ≡ d
-      root e = ap halved (sym (ap (mul d) e ∙ mul-quo d m (c .divisor))) ∙ half-square d
+      root : d ≡ quo m d → rootOf m ≡ d
+      root e = ap rootOf (sym (ap (mul d) e ∙ mul-quo d m (c .divisor))) ∙ half-square d
 
 -- ---- the loop over those that are asked
 module _ (v : List Mono) (m a : Mono) where
@@ -136,18 +126,18 @@ module _ (v : List Mono) (m a : Mono) where
   }
 
   -- one more was tried
-  least-next : (near : Near) (j : ℕ) → ((i : ℕ) → i < j → CheapFrom v m a (tried v m i) → (near .some ≡ true) × (T (before (tried v m i) (near .a .e)) → ⊥))
-      → (CheapFrom v m a (tried v m j) → (near .some ≡ true) × (T (before (tried v m j) (near .a .e)) → ⊥))
-      → (i : ℕ) → i < j + 1 → CheapFrom v m a (tried v m i) → (near .some ≡ true) × (T (before (tried v m i) (near .a .e)) → ⊥)
+  least-next : (near : Near) (j : ℕ) → ((i : ℕ) → i < j → NotBehind v m a near (tried v m i))
+      → (NotBehind v m a near (tried v m j))
+      → (i : ℕ) → i < j + 1 → NotBehind v m a near (tried v m i)
   least-next near j f g i h = go (test (leb (i + 1) j))
     where
-      go : Tested (leb (i + 1) j) → CheapFrom v m a (tried v m i) → (near .some ≡ true) × (T (before (tried v m i) (near .a .e)) → ⊥)
+      go : Tested (leb (i + 1) j) → NotBehind v m a near (tried v m i)
       go (passed e) = f i (omega (arith, leb-true (i + 1) j e))
-      go (failed e) = let is : i ≡ j = omega (arith, leb-false (i + 1) j e) in subst (λ (k : ℕ). CheapFrom v m a (tried v m k) → (near .some ≡ true) × (T (before (tried v m k) (near .a .e)) → ⊥)) (sym is) g
+      go (failed e) = let is : i ≡ j = omega (arith, leb-false (i + 1) j e) in subst (λ (k : ℕ). NotBehind v m a near (tried v m k)) (sym is) g
 
   module _ {near : Near} {j : ℕ} (w : Nearing v m a near j) where
     -- it is no cheap pair, or none from a on, or not before the nearest
-    pub nearing-by : (CheapFrom v m a (tried v m j) → (near .some ≡ true) × (T (before (tried v m j) (near .a .e)) → ⊥)) → Nearing v m a near (j + 1)
+    pub nearing-by : (NotBehind v m a near (tried v m j)) → Nearing v m a near (j + 1)
     nearing-by g = record { own = w .own; least = least-next near j (w .least) g }
 
     -- it is the nearest now
@@ -169,7 +159,7 @@ module _ (v : List Mono) (m a : Mono) where
       where
         found : (d : Mono) (c : CheapFrom v m a d) → Asked v m a d c → (near .some ≡ true) × (T (before d (near .a .e)) → ⊥)
         found d c k =
-            let at = member-at (k .who) (one width) (asked v m) (k .member) in
+            let at = in-at (asked v m) (k .who) (one width) (k .member) in
             let is : tried v m (at .0) ≡ d = ap (leadOf m) (at .2) ∙ k .lead in
             let l = w .least (at .0) (omega (arith, at .1)) (subst (CheapFrom v m a) (sym is) c) in
             (l .0, λ t. l .1 (subst (λ (x : Mono). T (before x (near .a .e))) (sym is) t))

@@ -1,24 +1,21 @@
 -- A pass of the lister over the factor pairs of a monomial other than 1, by any test, and what is listed by two passes. Assumes nothing.
 use mathlib.Core.Path.{_≡_, refl, sym, ap, ap₂, _∙_, subst}
-use mathlib.Core.Bool.{Bool, true, false, cond, not, _&&_}
-use mathlib.Core.List.{List, [], _∷_, _++_, map, append-nil}
+use mathlib.Core.Bool.{Bool, true, false, cond}
+use mathlib.Core.List.{List, [], _∷_, _++_, append-nil}
 use Prim.Native.Nat.{ℕ, suc, _+_, _≤_, _<_}
 use native.Mathlib.Omega.{arith}
-use lib.Dec.{T, T-not, not-T}
-use lib.ListN.{length, length-map}
+use lib.Dec.{T}
+use lib.ListN.{length}
 use Rattle.monomial.specs.Lists.{keep}
 use Rattle.monomial.specs.Monomial.{Mono, one}
-use Rattle.monomial.specs.Order.{before}
-use Rattle.monomial.specs.Quotient.{quo, divides}
-use Rattle.monomial.specs.Divisors.{divisors, score, leads, pairs, next}
+use Rattle.monomial.specs.Quotient.{divides}
+use Rattle.monomial.specs.Divisors.{leads, pairs, next}
 use Rattle.monomial.specs.Claims.{_∈_, from, Pair, split, pairsFrom}
-use Rattle.monomial.proofs.Tests.{T→is, is-not, is→T, is→nT, same-test, and-l, and-r, and-i}
-use Rattle.monomial.proofs.Members.{no-length, keep-yes, keep-no, keep-none, keep-length, keep-split, keep-map, keep-both, keep-same}
-use Rattle.monomial.proofs.order.Laws.{mono-order, before-le}
-use Rattle.monomial.proofs.quotient.Laws.{one-divides, divides-length, mul-quo, quo-divides}
-use Rattle.monomial.proofs.divisors.Laws.{divisors-out, divisors-length}
+use Rattle.monomial.proofs.Tests.{T→is, is-not, is→T, is→nT}
+use Rattle.monomial.proofs.Members.{no-length, keep-yes, keep-no, keep-length, keep-split}
+use Rattle.monomial.proofs.quotient.Laws.{one-divides}
 use Rattle.monomial.proofs.divisors.Following.{next-divides}
-use Rattle.monomial.proofs.divisors.Pairs.{pairs-in, pairs-start, pairs-turn, pairs-end, pairs-firsts}
+use Rattle.monomial.proofs.divisors.Pairs.{leads-in, pairs-start, pairs-turn, pairs-end, none-between, none-later}
 use Rattle.lister.specs.declared.passes.Place.{Place}
 use Rattle.lister.specs.declared.passes.Hand.{Hand}
 use Rattle.lister.specs.declared.nearest.Near.{Near}
@@ -26,60 +23,10 @@ use Rattle.lister.specs.Cheap.{cheap, ofKind, cheapFirst, Holds}
 use Rattle.lister.specs.Nearest.{Nearest}
 use Rattle.lister.specs.Passes.{Proper, kindFrom, kind, Standing, Picked, Sought, listFrom, putOff, Found}
 
--- ---- as many pairs as divisors, at most
-pub pairs-few : (m : Mono) → length (pairs m) ≤ score m
-pairs-few m =
-    let firsts : length (map (λ (p : Pair). p .0) (pairs m)) ≡ length (keep (leads m) (divisors m)) = ap length (pairs-firsts m) in
-    omega (arith, length-map (pairs m) (λ (p : Pair). p .0), keep-length (leads m) (divisors m), divisors-length m)
-
 -- ---- one pass, for the pairs that pass a test: from the divisor a₀ it has come to a, and has met none that it seeks
 pub record Seeking (m : Mono) (f : Pair → Bool) (a₀ a : Mono) : Type 0 where
   pub divisor : T (divides a m)
   pub unmet : keep f (pairsFrom m a₀) ≡ keep f (pairsFrom m a)
-
-module _ (m : Mono) (f : Pair → Bool) where
-  -- the pairs from a on that pass are the divisors that pass three tests
-  abbrev asks : Mono → Mono → Bool
-  asks a d = (not (before d a) && leads m d) && f (split m d)
-
-  by-divisors : (a : Mono) → keep f (pairsFrom m a) ≡ map (split m) (keep (asks a) (divisors m))
-  by-divisors a =
-      keep-map f (split m) (keep (leads m) (from before a (divisors m)))
-      ∙ ap (λ (l : List Mono). map (split m) (keep (λ d. f (split m d)) l)) (keep-both (leads m) (λ d. not (before d a)) (divisors m))
-      ∙ ap (map (split m)) (keep-both (λ d. f (split m d)) (λ d. not (before d a) && leads m d) (divisors m))
-
-  -- from a on and from r on they are the same, where none between passes
-  pub none-between : (a r : Mono) → (T (before r a) → ⊥) → ((d : Mono) → T (divides d m) → T (leads m d) → T (f (split m d)) → (T (before d a) → ⊥) → T (before d r) → ⊥)
-      → keep f (pairsFrom m a) ≡ keep f (pairsFrom m r)
-  none-between a r up none =
-      by-divisors a ∙ ap (map (split m)) (keep-same (asks a) (asks r) (divisors m) same-said) ∙ sym (by-divisors r)
-    where
-      same-said : (d : Mono) → d ∈ divisors m → asks a d ≡ asks r d
-      same-said d h = same-test (asks a d) (asks r d) (down (leads m d) (f (split m d)) (none d (divisors-out d m h))) (back (leads m d) (f (split m d)))
-        where
-          down : (l g : Bool) → (T l → T g → (T (before d a) → ⊥) → T (before d r) → ⊥) → T ((not (before d a) && l) && g) → T ((not (before d r) && l) && g)
-          down l g clash t =
-              let x : T (not (before d a) && l) = and-l (not (before d a) && l) g t in
-              let lead : T l = and-r (not (before d a)) l x in
-              let pass : T g = and-r (not (before d a) && l) g t in
-              let from-r : T (before d r) → ⊥ = clash lead pass (T-not (before d a) (and-l (not (before d a)) l x)) in
-              and-i (not (before d r) && l) g (and-i (not (before d r)) l (not-T (before d r) from-r) lead) pass
-
-          back : (l g : Bool) → T ((not (before d r) && l) && g) → T ((not (before d a) && l) && g)
-          back l g t =
-              let x : T (not (before d r) && l) = and-l (not (before d r) && l) g t in
-              let from-r : T (before d r) → ⊥ = T-not (before d r) (and-l (not (before d r)) l x) in
-              let from-a : T (before d a) → ⊥ = λ u. from-r (before-le mono-order d a r u up) in
-              and-i (not (before d a) && l) g (and-i (not (before d a)) l (not-T (before d a) from-a) (and-r (not (before d r)) l x)) (and-r (not (before d r) && l) g t)
-
-  -- none at all
-  pub none-later : (a : Mono) → ((d : Mono) → T (divides d m) → T (leads m d) → T (f (split m d)) → (T (before d a) → ⊥) → ⊥) → keep f (pairsFrom m a) ≡ []
-  none-later a none = by-divisors a ∙ ap (map (split m)) (keep-none (asks a) (divisors m) clash)
-    where
-      clash : (d : Mono) → d ∈ divisors m → T (asks a d) → ⊥
-      clash d h t =
-          let x : T (not (before d a) && leads m d) = and-l (not (before d a) && leads m d) (f (split m d)) t in
-          none d (divisors-out d m h) (and-r (not (before d a)) (leads m d) x) (and-r (not (before d a) && leads m d) (f (split m d)) t) (T-not (before d a) (and-l (not (before d a)) (leads m d) x))
 
 -- ---- a pass that goes from divisor to divisor
 module _ (m : Mono) (proper : Proper m) (f : Pair → Bool) where
@@ -238,7 +185,4 @@ module _ (v : List Mono) (m : Mono) (all : Bool) where
 
 -- ---- the pair in hand is a factor pair
 pub picked-member : (v : List Mono) (m : Mono) (h : Hand) → Picked v m h → split m (h .at .a .e) ∈ pairs m
-picked-member v m h k =
-    let a : Mono = h .at .a .e in
-    let long : length a ≡ length (quo m a) = divides-length a m (k .divisor) ∙ sym (divides-length (quo m a) m (quo-divides a m (k .divisor))) in
-    subst (λ (x : Mono). (a, quo m a) ∈ pairs x) (mul-quo a m (k .divisor)) (pairs-in a (quo m a) long (T-not (before (quo m a) a) (k .leading)))
+picked-member v m h k = leads-in (h .at .a .e) m (k .divisor) (k .leading)

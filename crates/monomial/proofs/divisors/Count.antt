@@ -17,7 +17,7 @@ use Rattle.monomial.proofs.Members.{keep-out, keep-split, keep-either}
 use Rattle.monomial.proofs.Different.{different-keep, ascending-different, turn-length, one-length}
 use Rattle.monomial.proofs.order.Laws.{mono-order, not-both, level}
 use Rattle.monomial.proofs.quotient.Laws.{quo-divides, quo-quo}
-use Rattle.monomial.proofs.divisors.Laws.{divisors-in, divisors-out, divisors-asc, divisors-length}
+use Rattle.monomial.proofs.divisors.Laws.{divisors-in, divisors-out, divisors-asc, divisors-length, score-positive}
 use Rattle.monomial.proofs.divisors.Pairs.{quo-descends}
 
 -- at most one divisor d is m/d: of two, the one with the larger quotient would be the smaller
@@ -88,3 +88,7 @@ pairs-count m =
     keep-either (leads m) (strict m) (middle m) (divisors m) (leads-either m) in
     let all : length (keep (lags m) (divisors m)) + length (keep (leads m) (divisors m)) ≡ length (divisors m) = keep-split (lags m) (divisors m) in
     length-map (keep (leads m) (divisors m)) (split m) ∙ omega (arith, low, high, all, strict-lags m, middle-once m, divisors-length m)
+
+-- at most as many as divisors
+pub pairs-few : (m : Mono) → length (pairs m) ≤ score m
+pairs-few m = omega (arith, pairs-count m, score-positive m)

@@ -1,9 +1,10 @@
 -- Factor pairs m1 <= m2 of a monomial of any width, by ascending m1: complete, none twice, an initial run of the divisors.
 -- Assumes nothing.
-use mathlib.Core.Path.{_≡_, refl, sym, ap, subst}
+use mathlib.Core.Path.{_≡_, refl, sym, ap, _∙_, subst}
 use mathlib.Core.Logic.{_⊎_, inl, inr}
+use mathlib.Core.Bool.{Bool, not, _&&_}
 use mathlib.Core.List.{List, [], _∷_, map, Memᴰ·map, Memᴰ·of-map}
-use Prim.Native.Nat.{_-_, _≤_, _<_}
+use Prim.Native.Nat.{ℕ, _-_, _≤_, _<_}
 use native.Mathlib.Omega.{arith}
 use lib.Dec.{T, T-not, not-T, ltb→lt, lt→ltb, eqb→eq, eqb-refl}
 use lib.ListN.{length, take}
@@ -14,13 +15,13 @@ use Rattle.monomial.specs.Product.{mul}
 use Rattle.monomial.specs.Quotient.{quo, divides}
 use Rattle.monomial.specs.Divisors.{divisors, leads, pairs, next}
 use Rattle.monomial.specs.Claims.{_∈_, Ascending, from, Compared, less, equal, more, Pair, split, IsPair, pairsFrom}
-use Rattle.monomial.proofs.Tests.{Tested, passed, failed, test, is→T, is→nT}
-use Rattle.monomial.proofs.Members.{keep-in, keep-out, keep-none, keep-yes}
+use Rattle.monomial.proofs.Tests.{Tested, passed, failed, test, is→T, is→nT, same-test, and-l, and-r, and-i}
+use Rattle.monomial.proofs.Members.{keep-in, keep-out, keep-none, keep-yes, keep-map, keep-both, keep-same}
 use Rattle.monomial.proofs.Loops.{pointwise-length}
-use Rattle.monomial.proofs.order.Laws.{ℕ-order, mono-order, Ahead, smaller, tied, ahead, ahead-is, le-before, level}
+use Rattle.monomial.proofs.order.Laws.{ℕ-order, mono-order, Ahead, smaller, tied, ahead, ahead-is, le-before, before-le, level}
 use Rattle.monomial.proofs.order.Ascending.{keep-asc, once, from-out, run-front}
 use Rattle.monomial.proofs.product.Laws.{mul-comm}
-use Rattle.monomial.proofs.quotient.Laws.{quo-mul, mul-quo, quo-self, divides-length, divides-tail, divides-head, factor-divides}
+use Rattle.monomial.proofs.quotient.Laws.{quo-mul, mul-quo, quo-self, quo-divides, one-divides, divides-length, divides-tail, divides-head, factor-divides}
 use Rattle.monomial.proofs.divisors.Laws.{divisors-in, divisors-out, divisors-asc}
 use Rattle.monomial.proofs.divisors.Following.{divisors-start, divisors-next, not-before-one}
 
@@ -64,6 +65,11 @@ pairs-out p m h =
     let q : (d : Mono) × (d ∈ keep (leads m) (divisors m)) × (split m d ≡ p) = Memᴰ·of-map (split m) (keep (leads m) (divisors m)) h in
     let k = keep-out (leads m) (divisors m) (q .1) in
     subst (λ z. IsPair z m) (q .2) (split-splits m (q .0) (divisors-out (q .0) m (k .0)) (k .1))
+
+-- a divisor that leads, and what m leaves it
+pub leads-in : (d m : Mono) → T (divides d m) → T (leads m d) → split m d ∈ pairs m
+unfolding pairs
+leads-in d m t l = Memᴰ·map (split m) (keep-in (leads m) (divisors m) (divisors-in d m t) l)
 
 -- ---- no pair twice: the first factors ascend strictly, and each stands once
 firsts-map : (m : Mono) (l : List Mono) → map (λ (p : Pair). p .0) (map (split m) l) ≡ l
@@ -114,6 +120,13 @@ pub pairs-start : (m : Mono) → pairsFrom m (one (length m)) ≡ pairs m
 unfolding pairs
 pairs-start m = rw (divisors-start m)
 
+-- 1 is the first of its pair
+pub one-leads : (m : Mono) → T (leads m (one (length m)))
+one-leads m =
+    not-T (before (quo m (one (length m))) (one (length m))) (λ t.
+    let long : length (quo m (one (length m))) ≡ length m = divides-length (quo m (one (length m))) m (quo-divides (one (length m)) m (one-divides m)) in
+    not-before-one (quo m (one (length m))) (subst (λ (n : ℕ). T (before (quo m (one (length m))) (one n))) (sym long) t))
+
 -- only of 1 is the last divisor the first of its pair
 pub leads-last : (d m : Mono) → (m ≡ one (length m) → ⊥) → T (leads m d) → d ≡ m → ⊥
 leads-last d m n l e =
@@ -136,3 +149,48 @@ pairs-end d m t n = ap (map (split m)) (keep-none (leads m) (from before d (divi
         up (less u) f s i = leads-down d c m t s u i
         up (equal u) f s i = subst (λ (z : Mono). T (leads m z)) (sym (mono-order .same-eq d c u)) i
         up (more u) f s i = absurd (f u)
+
+-- ---- those of them that pass a test
+module _ (m : Mono) (f : Pair → Bool) where
+  -- the pairs from a on that pass are the divisors that pass three tests
+  abbrev asks : Mono → Mono → Bool
+  asks a d = (not (before d a) && leads m d) && f (split m d)
+
+  by-divisors : (a : Mono) → keep f (pairsFrom m a) ≡ map (split m) (keep (asks a) (divisors m))
+  by-divisors a =
+      keep-map f (split m) (keep (leads m) (from before a (divisors m)))
+      ∙ ap (λ (l : List Mono). map (split m) (keep (λ d. f (split m d)) l)) (keep-both (leads m) (λ d. not (before d a)) (divisors m))
+      ∙ ap (map (split m)) (keep-both (λ d. f (split m d)) (λ d. not (before d a) && leads m d) (divisors m))
+
+  -- from a on and from r on they are the same, where none between passes
+  pub none-between : (a r : Mono) → (T (before r a) → ⊥) → ((d : Mono) → T (divides d m) → T (leads m d) → T (f (split m d)) → (T (before d a) → ⊥) → T (before d r) → ⊥)
+      → keep f (pairsFrom m a) ≡ keep f (pairsFrom m r)
+  none-between a r up none =
+      by-divisors a ∙ ap (map (split m)) (keep-same (asks a) (asks r) (divisors m) same-said) ∙ sym (by-divisors r)
+    where
+      same-said : (d : Mono) → d ∈ divisors m → asks a d ≡ asks r d
+      same-said d h = same-test (asks a d) (asks r d) (down (leads m d) (f (split m d)) (none d (divisors-out d m h))) (back (leads m d) (f (split m d)))
+        where
+          down : (l g : Bool) → (T l → T g → (T (before d a) → ⊥) → T (before d r) → ⊥) → T ((not (before d a) && l) && g) → T ((not (before d r) && l) && g)
+          down l g clash t =
+              let x : T (not (before d a) && l) = and-l (not (before d a) && l) g t in
+              let lead : T l = and-r (not (before d a)) l x in
+              let pass : T g = and-r (not (before d a) && l) g t in
+              let from-r : T (before d r) → ⊥ = clash lead pass (T-not (before d a) (and-l (not (before d a)) l x)) in
+              and-i (not (before d r) && l) g (and-i (not (before d r)) l (not-T (before d r) from-r) lead) pass
+
+          back : (l g : Bool) → T ((not (before d r) && l) && g) → T ((not (before d a) && l) && g)
+          back l g t =
+              let x : T (not (before d r) && l) = and-l (not (before d r) && l) g t in
+              let from-r : T (before d r) → ⊥ = T-not (before d r) (and-l (not (before d r)) l x) in
+              let from-a : T (before d a) → ⊥ = λ u. from-r (before-le mono-order d a r u up) in
+              and-i (not (before d a) && l) g (and-i (not (before d a)) l (not-T (before d a) from-a) (and-r (not (before d r)) l x)) (and-r (not (before d r) && l) g t)
+
+  -- none at all
+  pub none-later : (a : Mono) → ((d : Mono) → T (divides d m) → T (leads m d) → T (f (split m d)) → (T (before d a) → ⊥) → ⊥) → keep f (pairsFrom m a) ≡ []
+  none-later a none = by-divisors a ∙ ap (map (split m)) (keep-none (asks a) (divisors m) clash)
+    where
+      clash : (d : Mono) → d ∈ divisors m → T (asks a d) → ⊥
+      clash d h t =
+          let x : T (not (before d a) && leads m d) = and-l (not (before d a) && leads m d) (f (split m d)) t in
+          none d (divisors-out d m h) (and-r (not (before d a)) (leads m d) x) (and-r (not (before d a) && leads m d) (f (split m d)) t) (T-not (before d a) (and-l (not (before d a)) (leads m d) x))

@@ -3,7 +3,7 @@
 use mathlib.Core.Path.{_≡_, refl, sym, ap, ap₂, _∙_, subst}
 use mathlib.Core.Logic.{_⊎_, inl, inr, ⊎-elim}
 use mathlib.Core.Bool.{Bool, not, cond}
-use mathlib.Core.List.{List, [], _∷_, _++_, map, List·Memᴰ·head, List·Memᴰ·cases-cons, List·Memᴰ·not-nil, Memᴰ·cast, Memᴰ·of-map, List·Memᴰ·append-cases}
+use mathlib.Core.List.{List, [], _∷_, _++_, map, List·Memᴰ·head, List·Memᴰ·cases-cons, List·Memᴰ·not-nil, Memᴰ·cast, Memᴰ·map, Memᴰ·of-map, List·Memᴰ·append-cases}
 use Prim.Native.Nat.{suc, _≤_}
 use native.Mathlib.Omega.{arith}
 use lib.Dec.{T, T-not, not-T}
@@ -35,6 +35,18 @@ module _ {A : Type 0} {before : A → A → Bool} where
       cond-cases (Ascending before) (f x) (x ∷ keep f l) (keep f l)
       (λ t. first (λ y m. head-first a y (keep-out f l m .0)) (keep-asc f l (tail-asc a)))
       (λ t. keep-asc f l (tail-asc a))
+
+-- images that ascend, of those that pass a test
+pub keep-image-asc : {A B : Type 0} {before : B → B → Bool} (g : A → B) (f : A → Bool) (l : List A) → Ascending before (map g l) → Ascending before (map g (keep f l))
+unfolding keep
+keep-image-asc g f [] a = empty
+keep-image-asc {A} {B} {before} g f (x ∷ l) a =
+    cond-cases (λ r. Ascending before (map g r)) (f x) (x ∷ keep f l) (keep f l) (λ t. first ahead (keep-image-asc g f l (tail-asc a))) (λ t. keep-image-asc g f l (tail-asc a))
+  where
+    ahead : (y : B) → y ∈ map g (keep f l) → T (before (g x) y)
+    ahead y i =
+        let q : (z : A) × (z ∈ keep f l) × (g z ≡ y) = Memᴰ·of-map g (keep f l) i in
+        head-first a y (subst (λ z. z ∈ map g l) (q .2) (Memᴰ·map g (keep-out f l (q .1) .0)))
 
 -- a function that keeps the order
 pub map-asc : {A B : Type 0} {before : A → A → Bool} {later : B → B → Bool} (f : A → B) → ((x y : A) → T (before x y) → T (later (f x) (f y)))

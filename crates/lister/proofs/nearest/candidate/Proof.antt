@@ -9,7 +9,7 @@ use Rattle.monomial.specs.Monomial.{one, width}
 use Rattle.wiring.specs.Signals.{signalsAt, tabled}
 use Rattle.wiring.proofs.signals.Laws.{signals-length}
 use Rattle.wiring.proofs.signals.Tables.{tabled-length}
-use Rattle.lister.specs.Nearest.{halved, leadOf, asked}
+use Rattle.lister.specs.Nearest.{rootOf, leadOf, asked}
 use borrow.Author.Needs.{needs}
 use Rattle.lister.proofs.nearest.candidate.Statement.{statement}
 use Rattle.lister.proofs.nearest.candidate.Tie as tie
@@ -33,7 +33,7 @@ returns c =
     let a = start .args in
     let v = signalsAt (a .n) (a .set .now) in
     let inside : a .j < length v = omega (arith, many start, c .before .before .if1 .taken) in
-    c .lead-of .ensures ∙ ap (leadOf (a .m .e)) (c .before .signal .ensures ∙ sym (List·getD-append v (halved (a .m .e) ∷ []) (one width) (a .j) inside))
+    c .lead-of .ensures ∙ ap (leadOf (a .m .e)) (c .before .signal .ensures ∙ sym (List·getD-append v (rootOf (a .m .e) ∷ []) (one width) (a .j) inside))
 
 half-requires : tie.Need-half-requires
 half-requires c κs = search needs
@@ -48,7 +48,7 @@ returns-2 c =
     let v = signalsAt (a .n) (a .set .now) in
     let last : length v ≡ a .j = omega (arith, many start, start .pre .1, c .before .before .if1 .left) in
     c .lead-of2 .ensures
-    ∙ ap (leadOf (a .m .e)) (c .before .half .ensures ∙ sym (getD-append-seam v (halved (a .m .e)) [] (one width)) ∙ ap (λ (k : ℕ). getD (asked v (a .m .e)) k (one width)) last)
+    ∙ ap (leadOf (a .m .e)) (c .before .half .ensures ∙ sym (getD-append-seam v (rootOf (a .m .e)) [] (one width)) ∙ ap (λ (k : ℕ). getD (asked v (a .m .e)) k (one width)) last)
 
 pub candidate-spec : {M : Type 1} → statement M
 candidate-spec = tie.close (tie.spec add-if1 signal-requires lead-of-requires returns half-requires lead-of-requires-2 returns-2)

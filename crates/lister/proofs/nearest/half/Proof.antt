@@ -6,13 +6,13 @@ use lib.ListN.{length, length-map}
 use Rattle.monomial.specs.Monomial.{width}
 use Rattle.monomial.proofs.Loops.{Filling, filling-start, filling-next, filling-end}
 use Rattle.monomial.proofs.Members.{map-at}
-use Rattle.lister.specs.Nearest.{halved}
+use Rattle.lister.specs.Nearest.{rootOf}
 use borrow.Author.Needs.{needs}
 use Rattle.lister.proofs.nearest.half.Statement.{statement}
 use Rattle.lister.proofs.nearest.half.Tie as tie
 
 abbrev Inv-loop : tie.InvT-loop
-Inv-loop e r₀ i₀ r i = Filling 0 width (halved e) r i
+Inv-loop e r₀ i₀ r i = Filling 0 width (rootOf e) r i
 
 abbrev μ-loop : tie.MeasureT-loop
 μ-loop e r₀ i₀ r i = width - i

@@ -10,7 +10,7 @@ use Rattle.monomial.specs.Claims.{split}
 use Rattle.monomial.proofs.Tests.{is→T, is→nT}
 use Rattle.wiring.specs.Signals.{signalsAt}
 use Rattle.lister.specs.Cheap.{cheap, Holds}
-use Rattle.lister.specs.Nearest.{CheapFrom}
+use Rattle.lister.specs.Nearest.{CheapFrom, NotBehind}
 use Rattle.lister.proofs.nearest.Laws.{nearing-by, nearing-take, nearer-out, nearer-not}
 use borrow.Author.Needs.{needs}
 use Rattle.lister.proofs.nearest.nearer.Statement.{statement}
@@ -25,7 +25,7 @@ returns c =
     let v = signalsAt (a .n) (a .set .now) in
     let far = sym (c .before .is-nearer .ensures) ∙ not-true _ (c .if1 .taken) in
     λ j w e. nearing-by v (a .m .e) (a .a .e) w
-    (subst (λ (x : Mono). CheapFrom v (a .m .e) (a .a .e) x → (a .near .some ≡ true) × (T (before x (a .near .a .e)) → ⊥)) e (λ d. nearer-not (a .c .e) (a .a .e) (a .near) far (d .later)))
+    (subst (NotBehind v (a .m .e) (a .a .e) (a .near)) e (λ d. nearer-not (a .c .e) (a .a .e) (a .near) far (d .later)))
 
 over-requires : tie.Need-over-requires
 over-requires c κs = c .before .before .before .pre .0
@@ -65,7 +65,7 @@ returns-2 c =
     let a = start w .args in
     let dear = sym (told w) ∙ not-true _ (c .if2 .taken) in
     λ j n e. nearing-by (v w) (m w) (a .a .e) n
-    (subst (λ (y : Mono). CheapFrom (v w) (m w) (a .a .e) y → (a .near .some ≡ true) × (T (before y (a .near .a .e)) → ⊥)) e (λ d. absurd (is→nT _ dear (d .cheap))))
+    (subst (NotBehind (v w) (m w) (a .a .e) (a .near)) e (λ d. absurd (is→nT _ dear (d .cheap))))
 
 returns-3 : tie.Need-returns-3
 returns-3 c =

@@ -8,7 +8,7 @@ use Rattle.monomial.specs.Monomial.{one, width}
 use Rattle.wiring.specs.Signals.{signalsAt, tabled}
 use Rattle.wiring.proofs.signals.Laws.{signals-length}
 use Rattle.wiring.proofs.signals.Tables.{tabled-length}
-use Rattle.lister.specs.Nearest.{halved, asked, Nearing}
+use Rattle.lister.specs.Nearest.{rootOf, asked, Nearing}
 use Rattle.lister.proofs.nearest.Laws.{lead-divides, lead-leads, nearing-start, nearing-end}
 use borrow.Author.Needs.{needs}
 use Rattle.lister.proofs.nearest.nearest.Statement.{statement}
@@ -60,7 +60,7 @@ returns c =
     let a = s .args in
     let v = signalsAt (a .n) (a .set .now) in
     let many : length v ≡ a .n + 1 + length (a .set .now) / width = signals-length (a .n) (tabled (a .set .now)) (s .pre) ∙ ap (λ (n : ℕ). a .n + 1 + n) (tabled-length (a .set .now)) in
-    let through : length (asked v (a .m .e)) ≤ k .loop .j = omega (arith, many, length-append v (halved (a .m .e) ∷ []), c .loop-test .left) in
+    let through : length (asked v (a .m .e)) ≤ k .loop .j = omega (arith, many, length-append v (rootOf (a .m .e) ∷ []), c .loop-test .left) in
     nearing-end v (a .m .e) (a .a .e) (k .loop .inv .1 .1) through
 
 pub nearest-spec : {M : Type 1} → statement M

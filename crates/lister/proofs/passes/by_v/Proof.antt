@@ -13,9 +13,10 @@ use Rattle.monomial.specs.Monomial.{width}
 use Rattle.monomial.specs.Divisors.{score, next}
 use Rattle.monomial.specs.Claims.{split, pairsFrom}
 use Rattle.monomial.proofs.divisors.Laws.{score-bytes}
+use Rattle.monomial.proofs.divisors.Count.{pairs-few}
 use Rattle.wiring.specs.Signals.{signalsAt}
 use Rattle.lister.specs.Cheap.{ofKind}
-use Rattle.lister.proofs.passes.Laws.{pairs-few, standing-few, sought-found, sought-none, nearest-comes, nearest-none}
+use Rattle.lister.proofs.passes.Laws.{standing-few, sought-found, sought-none, nearest-comes, nearest-none}
 use borrow.Author.Needs.{needs}
 use Rattle.lister.proofs.passes.by_v.Statement.{statement}
 use Rattle.lister.proofs.passes.by_v.Tie as tie

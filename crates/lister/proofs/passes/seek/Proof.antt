@@ -12,9 +12,10 @@ use Rattle.monomial.specs.Divisors.{score, leads}
 use Rattle.monomial.specs.Claims.{split, pairsFrom}
 use Rattle.monomial.proofs.Tests.{is→T, is→nT}
 use Rattle.monomial.proofs.divisors.Laws.{score-bytes}
+use Rattle.monomial.proofs.divisors.Count.{pairs-few}
 use Rattle.wiring.specs.Signals.{signalsAt}
 use Rattle.lister.specs.Cheap.{ofKind, Holds}
-use Rattle.lister.proofs.passes.Laws.{pairs-few, Seeking, fewer-pairs, seeking-found, seeking-by, seeking-none, standing-few, sought-found, sought-none}
+use Rattle.lister.proofs.passes.Laws.{Seeking, fewer-pairs, seeking-found, seeking-by, seeking-none, standing-few, sought-found, sought-none}
 use borrow.Author.Needs.{needs}
 use Rattle.lister.proofs.passes.seek.Statement.{statement}
 use Rattle.lister.proofs.passes.seek.Tie as tie
