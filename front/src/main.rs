@@ -1,39 +1,41 @@
 //! The front door: plans a patch from typed equations, thins a given set, or judges and wires it as it is; prints a patch
 //! as the desktop tool's listing, and reads one. All of this is done by proved programs; here they are asked, and their
-//! answers said and drawn.
+//! answers said and drawn. Where a search would take too long, a patch is tried for here, and they judge it.
 
 mod algebra;
 mod asking;
+mod derivative;
 mod drawing;
 mod panel;
 mod patch;
 #[cfg(test)]
 mod recorded;
 mod saying;
+mod search;
+mod trying;
 mod typed;
+mod works;
 
-use std::io::{IsTerminal, Write};
+use std::io::Write;
 use std::process::ExitCode;
-use std::time::Instant;
 
-use asking::answer::{Answer, DONE, FULL, NONE, SET, SPENT, TERM};
-use asking::climb;
+use asking::answer::{Answer, DONE, FULL, NONE, NOT_QUADRATIC, SET, SPENT, TERM};
 use asking::planner::{Planner, RUNNER};
+use drawing::file;
 use drawing::sheet::Heading;
-use drawing::{sheet, svg};
 use patch::Patch;
+use saying::drawn::Drawn;
 use saying::help::help;
-use saying::report::{Drawn, Report};
-use saying::searched::Searched;
-use saying::watch::Watch;
+use saying::report::Report;
 use saying::{export, report};
+use search::{Asked, Search};
 use typed::given::Aim;
 use typed::options::Options;
 use typed::pasted::Pasted;
-use typed::settings::Settings;
 use typed::system::{Record, System};
 use typed::text::{Fault, Holds, Source};
 use typed::{options, parser};
+use works::Met;
 
 const LISTED: u8 = 0;
 const NOT_LISTED: u8 = 1;
@@ -86,13 +88,13 @@ fn run() -> u8 {
 }
 
 fn answer(sources: &[Source], system: &System, pasted: Option<&Pasted>, options: &Options) -> u8 {
-    let answer = match ask(system, pasted, options) {
-        Ok(answer) => answer,
+    let Asked { answer, met, drawn } = match ask(system, pasted, options) {
+        Ok(asked) => asked,
         Err(why) if options.json => return print(FAILED, &export::error(sources, &Fault::nowhere(why))),
         Err(why) => return stop(FAILED, &format!("plan: {why}.\n")),
     };
-    // A listing that is read has its own wiring, and none is asked for.
-    let patch = Patch::of(system, &answer, options.settings.which).filter(|_| pasted.is_none());
+    // A listing that is read has its own wiring, and none is asked for; nor is the first of a list where none was.
+    let patch = Patch::of(system, &answer, options.settings.which).filter(|_| pasted.is_none() && !options.quick);
     let mut report = Report {
         sources,
         system,
@@ -101,16 +103,19 @@ fn answer(sources: &[Source], system: &System, pasted: Option<&Pasted>, options:
         patch: patch.as_ref(),
         pasted,
         as_listing: options.listing,
+        met: &met,
+        quick: options.quick,
         drawn: Drawn::NotAsked,
     };
     if let Some(file) = &options.svg {
-        report.drawn = draw(&report, file);
+        report.drawn = draw(&report, file, drawn);
     }
     let status = match answer.reply.code {
         _ if matches!(report.drawn, Drawn::Failed(..)) => FAILED,
-        DONE if patch.is_none() && pasted.is_none() => REFUSED,
+        DONE if report.shown().is_none() && pasted.is_none() => REFUSED,
         DONE => LISTED,
         NONE | FULL | SPENT => NOT_LISTED,
+        NOT_QUADRATIC if options.quick => NOT_LISTED,
         _ => REFUSED,
     };
     if options.json {
@@ -122,29 +127,28 @@ fn answer(sources: &[Source], system: &System, pasted: Option<&Pasted>, options:
     }
     // A listing is for a file: where there is none, nothing is written there.
     stop(status, &said);
-    print(status, answer.listing.as_deref().unwrap_or(""))
+    print(status, report.listing().unwrap_or(""))
 }
 
 /// Writes the drawing. Where nothing is wired there is nothing to draw, and the file is left as it is.
-fn draw(report: &Report, file: &str) -> Drawn {
-    let Some(patch) = report.patch else {
-        return Drawn::NotWired(file.into());
-    };
-    let heading = Heading { equations: report.equations(), given: report.given_text(), which: report.which_set() };
-    let drawing = sheet::draw(patch, &heading);
-    match std::fs::write(file, svg::svg(&drawing)) {
-        Ok(()) => Drawn::In(file.into()),
-        Err(why) => Drawn::Failed(file.into(), why.to_string()),
+fn draw(report: &Report, file: &str, before: bool) -> Drawn {
+    match report.shown() {
+        Some(patch) => {
+            let (equations, given) = (report.system.as_read(), report.given_text());
+            Drawn::of(file, file::write(file, patch, &Heading { equations, given, which: report.which_set() }))
+        }
+        None if before => Drawn::Before(file.into()),
+        None => Drawn::NotWired(file.into()),
     }
 }
 
-/// Asks what is asked of the given set or listing; where there is none, for a plan. What fits no record is refused here,
-/// as the planner refuses a record.
-fn ask(system: &System, pasted: Option<&Pasted>, options: &Options) -> Result<Answer, String> {
+/// Asks what is asked of the given set or listing; where there is none, for a plan, or for a patch alone. What fits no
+/// record is refused here, as the planner refuses a record.
+fn ask(system: &System, pasted: Option<&Pasted>, options: &Options) -> Result<Asked, String> {
     let settings = &options.settings;
     let records = match system.records() {
         Ok(records) => records,
-        Err(place) => return Ok(Answer::refused(TERM, place)),
+        Err(place) => return Ok(Answer::refused(TERM, place).into()),
     };
     let runner =
         std::env::var(RUNNER).map_err(|_| format!("{RUNNER} does not say how to run the planner; use ./plan"))?;
@@ -152,37 +156,34 @@ fn ask(system: &System, pasted: Option<&Pasted>, options: &Options) -> Result<An
     let degree = settings.degree.clone();
     let planner = Planner { runner, n: system.names.len(), marks: system.marks(), degree, terms };
     if let Some(pasted) = pasted {
-        return planner.read(&pasted.bytes);
+        return planner.read(&pasted.bytes).map(Asked::from);
     }
+    let search = Search { planner: &planner, system, settings, svg: options.svg.as_deref() };
     let given = system.given.as_ref().map(|given| (given.set(), given.aim));
-    let mut answer = match given {
-        None => plan(&planner, settings, &Searched::of(system, settings)),
-        Some((None, _)) => Ok(Answer::refused(SET, 0)),
-        Some((Some(set), Aim::Thinning)) => planner.thin(&set, settings.which),
-        Some((Some(set), Aim::Wiring)) => planner.wire(&set),
+    let mut asked = match given {
+        None if options.quick => search.quick(),
+        None => search.run(),
+        Some((None, _)) => Ok(Answer::refused(SET, 0).into()),
+        Some((Some(set), Aim::Thinning)) => planner.thin(&set, settings.which).map(Asked::from),
+        Some((Some(set), Aim::Wiring)) => planner.wire(&set).map(Asked::from),
     }?;
-    let wired = settings.which.checked_sub(1).and_then(|at| answer.sets.get(usize::try_from(at).ok()?));
-    if let Some(set) = wired.filter(|_| options.listing) {
-        answer.listing = Some(planner.print(set, &answer.wires)?);
+    if options.listing {
+        let (answer, which) = match &mut asked.met {
+            Met::Patch(works) => (&mut works.answer, 1),
+            _ => (&mut asked.answer, settings.which),
+        };
+        add_listing(&planner, answer, which)?;
     }
-    Ok(answer)
+    Ok(asked)
 }
 
-fn plan(planner: &Planner, settings: &Settings, searched: &Searched) -> Result<Answer, String> {
-    let began = Instant::now();
-    let watch = Watch::new(std::io::stderr(), std::io::stderr().is_terminal(), searched);
-    let watch = std::cell::RefCell::new(watch);
-    let mut known = String::new();
-    let answer = climb::climb(
-        settings,
-        |settings| planner.ask(settings, || watch.borrow_mut().tick(began.elapsed())),
-        |cards, steps| {
-            watch.borrow_mut().shown(cards, steps, began.elapsed());
-            known = format!("; what it had shown: {}", searched.excluded(cards));
-        },
-    );
-    watch.borrow_mut().end();
-    answer.map_err(|why| why + &known)
+/// Has the set that is wired printed as a listing, where there is one.
+fn add_listing(planner: &Planner, answer: &mut Answer, which: u64) -> Result<(), String> {
+    let wired = which.checked_sub(1).and_then(|at| answer.sets.get(usize::try_from(at).ok()?));
+    if let Some(set) = wired {
+        answer.listing = Some(planner.print(set, &answer.wires)?);
+    }
+    Ok(())
 }
 
 fn not_understood(sources: &[Source], fault: &Fault, options: &Options) -> u8 {

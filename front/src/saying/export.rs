@@ -1,7 +1,7 @@
 //! The whole answer, for other programs: JSON.
 
 use crate::algebra::Exponents;
-use crate::asking::answer::{FALSE, UNREADABLE};
+use crate::asking::answer::{Answer, FALSE, UNREADABLE};
 use crate::patch::Patch;
 use crate::saying::json::Json;
 use crate::saying::report::Report;
@@ -11,6 +11,7 @@ use crate::typed::pasted::Pasted;
 use crate::typed::settings::Count;
 use crate::typed::system::{Record, System};
 use crate::typed::text::{place, Fault, Source, Span};
+use crate::works::{Met, Works};
 
 /// All that is said to a person, and what was sent and received.
 pub fn answer(report: &Report) -> String {
@@ -27,7 +28,7 @@ pub fn answer(report: &Report) -> String {
         ("place", whole(reply.place)),
         ("words", said.words.replace('\n', " ").into()),
         ("places", Json::List(places.collect())),
-        ("notes", Json::list(report.notes().into_iter().chain(report.no_such_set()).chain(report.long_listing()))),
+        ("notes", Json::list(notes(report))),
         ("settings", settings(report)),
         ("system", system(report)),
     ];
@@ -36,17 +37,46 @@ pub fn answer(report: &Report) -> String {
             fields.extend(about_listing(report, pasted));
             return Json::Object(fields).written();
         }
+        _ if report.quick => (),
         (_, None) => fields.push(("sets", sets(report))),
         (_, Some(set)) => fields.extend(about_set(report, set)),
     }
-    if report.as_listing {
-        fields.push(("listing", report.answer.listing.as_deref().map_or(Json::Null, Json::from)));
+    if report.quick || *report.met != Met::NotAsked {
+        fields.push(("quick", report.met.patch().map_or(Json::Null, |works| quick(report, works))));
     }
-    fields.extend([
-        ("wiring", report.patch.map_or(Json::Null, |patch| wiring(report, patch))),
-        ("drawing", report.drawn.words().map_or(Json::Null, Json::from)),
-    ]);
+    if !report.quick {
+        fields.extend(wired_set(report, report.answer, report.patch));
+    }
+    fields.push(("drawing", report.drawn.words().map_or(Json::Null, Json::from)));
     Json::Object(fields).written()
+}
+
+/// What is said beside the words for the reply.
+fn notes(report: &Report) -> Vec<String> {
+    let no_patch = report.beside().filter(|_| report.met.patch().is_none());
+    let others = [report.no_such_set(), no_patch, report.long_listing()];
+    report.notes().into_iter().chain(others.into_iter().flatten()).collect()
+}
+
+/// The wiring of an answer's set, and its listing where that was asked for.
+fn wired_set(report: &Report, answer: &Answer, patch: Option<&Patch>) -> Vec<(&'static str, Json)> {
+    let listing = answer.listing.as_deref().map_or(Json::Null, Json::from);
+    let listing = report.as_listing.then_some(("listing", listing));
+    let wiring = patch.map_or(Json::Null, |patch| wiring(report, answer, patch));
+    listing.into_iter().chain([("wiring", wiring)]).collect()
+}
+
+/// A patch that works. It is no find of a search.
+fn quick(report: &Report, works: &Works) -> Json {
+    let mut fields = vec![
+        ("searched", Json::Bool(false)),
+        ("words", report.beside().unwrap_or(report.said().words).replace('\n', " ").into()),
+        ("order", whole(works.size())),
+        ("at_least", whole(report.known().least)),
+    ];
+    fields.extend(works.answer.sets.iter().flat_map(|set| signals(report, set)));
+    fields.extend(wired_set(report, &works.answer, Some(&works.patch)));
+    Json::Object(fields)
 }
 
 /// No answer, and why.
@@ -62,6 +92,7 @@ fn whole(number: u64) -> Json {
 fn operation(report: &Report) -> &'static str {
     match report.system.aim() {
         None if report.pasted.is_some() => "reading",
+        None if report.quick => "trying",
         None => "planning",
         Some(Aim::Thinning) => "thinning",
         Some(Aim::Wiring) => "wiring",
@@ -69,7 +100,7 @@ fn operation(report: &Report) -> &'static str {
 }
 
 /// Those that were sent, for the full kit too. Of a given set or listing all that is asked is judged, and no search is
-/// limited.
+/// limited; nor is one where none is made.
 fn settings(report: &Report) -> Json {
     let count = |c: &Count| c.value().map_or(Json::from(c.digits()), whole);
     let mut fields = vec![
@@ -78,11 +109,9 @@ fn settings(report: &Report) -> Json {
         ("degree", count(&report.settings.degree)),
     ];
     if report.system.given.is_none() && report.pasted.is_none() {
-        fields.extend([
-            ("cards", count(&report.settings.cards)),
-            ("steps", count(&report.settings.steps)),
-            ("sets", count(&report.settings.sets)),
-        ]);
+        fields.push(("cards", count(&report.settings.cards)));
+        let limits = [("steps", count(&report.settings.steps)), ("sets", count(&report.settings.sets))];
+        fields.extend(limits.into_iter().filter(|_| !report.quick));
     }
     Json::Object(fields)
 }
@@ -112,7 +141,7 @@ fn system(report: &Report) -> Json {
         ("variables", Json::list(report.system.names.iter().cloned())),
         ("names", names(report.system)),
         ("unfed", Json::list(report.system.unfed())),
-        ("equations", Json::list(report.equations())),
+        ("equations", Json::list(report.system.as_read())),
         ("records", Json::List(report.system.records().unwrap_or_default().iter().map(record).collect())),
     ])
 }
@@ -192,10 +221,11 @@ fn set(report: &Report, number: usize) -> Json {
     Json::Object(fields)
 }
 
-fn wiring(report: &Report, patch: &Patch) -> Json {
-    let wires = report.answer.wires.iter();
+/// With the number of the set where it is one of a list.
+fn wiring(report: &Report, answer: &Answer, patch: &Patch) -> Json {
+    let wires = answer.wires.iter();
     let records = wires.map(|w| Json::list([w.left as i64, w.a as i64, w.b as i64, w.coefficient.into()]));
-    let which = report.thing().map(|thing| (thing, whole(report.settings.which)));
+    let which = report.thing().filter(|_| report.patch.is_some()).map(|thing| (thing, whole(report.settings.which)));
     let own = [
         ("signals", Json::list(patch.signals.iter().cloned())),
         ("records", Json::List(records.collect())),

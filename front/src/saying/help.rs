@@ -14,11 +14,13 @@ pub fn help() -> String {
         "\
 Plans a patch: finds all smallest sets of new signals that make a polynomial system quadratic, and wires one. Or thins
 a given set: tells which of its signals can go. Or tells whether a given set will do as it is, and wires it. Or tells
-whether a listing of the desktop tool is right, and prints a patch as such a listing.
+whether a listing of the desktop tool is right, and prints a patch as such a listing. Or shows at once a patch that
+works and may have more new signals than needed.
 
   ./plan \"x' = x^4 + x^3\"
   ./plan \"x' = x^2*y\" \"y' = -x*y^2\" --svg patch.svg
   ./plan system.txt --cards 3 --steps 1000000000
+  ./plan system.txt --quick --svg patch.svg
   ./plan \"x' = x^4 + x^3\" --thin \"x^2, x^3, x^4\"
   ./plan \"x' = x^4 + x^3\" --given \"x^3, x^4\"
   ./plan \"theta' = omega, omega' = -k*theta^3 + push\" --knob k --signal push
@@ -44,6 +46,7 @@ to x{VARIABLES} are knobs without being said to be; any other name is pointed at
   --degree D     total degree of a new signal, at most, on a junior kit: {LEAST_DEGREE} to {MOST_DEGREE} ({FULL_DEGREE}, the full kit)
   --knob NAMES   says that names without equations are knobs; commas stand between names
   --signal NAMES says that names are signals fed from outside
+  --quick        shows a patch that works, without a search
   --read FILE    tells whether the listing in a file is right for the equations (- is standard input)
   --listing      prints the patch of that set as a listing, and the words on standard error
   --svg FILE     draws the patch of that set
@@ -54,6 +57,12 @@ to x{VARIABLES} are knobs without being said to be; any other name is pointed at
 A new signal is a product of powers of the variables. The word \"smallest\" is printed only after the whole search has
 ended; short of that the words say how far it got. A search of more than a second tells on standard error what it has
 shown so far; it may be stopped at any time.
+
+Beside the search a patch is tried for that may have more new signals than needed. Where --steps or --sets stops the
+search, it is shown, with how many the search has shown to be needed; a search of more than a second tells of it while
+it runs, and draws it with --svg. It is the planner that says of its set that it will do; where there is none to show,
+one may exist all the same. With --quick it is all that is asked for: no search is made, and --steps, --sets, --set,
+--thin, --given and --read do not go with it. --json has it as \"quick\", with \"searched\": false.
 
 A signal fed from outside has a slope that nobody knows, so no new signal holds one; \"smallest\" is then said of the sets
 that leave it out. --knob and --signal may be given several times, and go with all other options.
@@ -77,8 +86,9 @@ With --listing standard output has the listing of the set that is wired and noth
 is wired; --json has it as \"listing\". docs/LISTING.md has the grammar of both, byte by byte.
 
 Exit status: 0 all smallest sets, or subsets of the given set, are listed, or the given set is wired, or the listing is
-right; 1 none up to --cards, or stopped by --steps or --sets; 2 the input was refused or not understood, or the given
-set will not do, or the listing is not right; 3 something could not be built, run or written.
+right, or --quick has wired a patch; 1 none up to --cards, or stopped by --steps or --sets, whether or not a patch is
+shown, or --quick has none to show; 2 the input was refused or not understood, or the given set will not do, or the
+listing is not right; 3 something could not be built, run or written.
 "
     )
 }
@@ -87,26 +97,22 @@ set will not do, or the listing is not right; 3 something could not be built, ru
 mod tests {
     use super::*;
 
-    #[test]
-    fn smallest_is_not_said_of_a_set_that_is_only_wired() {
+    /// Neither the paragraph that begins so nor any line with one of these words says "smallest". There are so many lines.
+    fn never_smallest(begins: &str, words: &[&str], count: usize) {
         let help = help();
-        let about: Vec<&str> = help.split("\n\n").filter(|part| part.contains("With --given")).collect();
-        let lines = help.lines().filter(|line| line.contains("--given"));
-        assert_eq!((about.len(), lines.clone().count()), (1, 4));
+        let about: Vec<&str> = help.split("\n\n").filter(|part| part.starts_with(begins)).collect();
+        let lines = help.lines().filter(|line| words.iter().any(|word| line.contains(word)));
+        assert_eq!((about.len(), lines.clone().count()), (1, count));
         for said in lines.chain(about) {
             assert!(!said.contains("smallest"), "{said}");
         }
     }
 
     #[test]
-    fn smallest_is_not_said_of_a_listing() {
-        let help = help();
-        let about: Vec<&str> = help.split("\n\n").filter(|part| part.starts_with("With --read")).collect();
-        let lines = help.lines().filter(|line| line.contains("--read") || line.contains("--listing"));
-        assert_eq!((about.len(), lines.clone().count()), (1, 7));
-        for said in lines.chain(about) {
-            assert!(!said.contains("smallest"), "{said}");
-        }
+    fn smallest_is_said_of_a_plan_and_of_subsets_alone() {
+        never_smallest("With --given", &["--given"], 5);
+        never_smallest("With --read", &["--read", "--listing"], 8);
+        never_smallest("Beside the search", &["--quick", "a patch that"], 6);
     }
 
     #[test]

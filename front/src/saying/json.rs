@@ -2,6 +2,7 @@
 
 pub enum Json {
     Null,
+    Bool(bool),
     Number(i64),
     Text(String),
     List(Vec<Json>),
@@ -46,6 +47,7 @@ impl Json {
     fn write(&self, out: &mut String, depth: usize) {
         match self {
             Json::Null => *out += "null",
+            Json::Bool(truth) => *out += &truth.to_string(),
             Json::Number(number) => *out += &number.to_string(),
             Json::Text(text) => quote(out, text),
             Json::List(items) if items.iter().all(Json::is_plain) => {
@@ -112,6 +114,7 @@ mod tests {
     #[test]
     fn plain_values() {
         assert_eq!(Json::Null.written(), "null\n");
+        assert_eq!([true, false].map(|truth| Json::Bool(truth).written()), ["true\n", "false\n"]);
         assert_eq!(Json::from(-3).written(), "-3\n");
     }
 

@@ -1,5 +1,6 @@
 //! Saying it: the answer in words for a person, and as JSON for other programs.
 
+pub mod drawn;
 pub mod export;
 pub mod given;
 pub mod help;
@@ -14,3 +15,4 @@ pub mod unwired;
 pub mod watch;
 pub mod wired;
 pub mod words;
+pub mod works;

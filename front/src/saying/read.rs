@@ -3,9 +3,9 @@
 
 use crate::algebra::{self, Exponents};
 use crate::asking::answer::{Reply, DONE, FALSE, LENGTH, SET, SETTING, TERM, TWICE, UNREADABLE};
+use crate::derivative::{derivative, times, Totals};
 use crate::panel::{LISTING_BYTES, TERMS};
 use crate::saying::numbers::{counted, grouped};
-use crate::saying::unwired::{derivative, times, Totals};
 use crate::saying::words::{self, listed, Said, REPEATED};
 use crate::saying::{rule, wired};
 use crate::typed::listing::{self, Line, Listing};

@@ -1,18 +1,21 @@
 //! The whole answer, for a person.
 
 use crate::asking::answer::{Answer, DONE, SET, TWICE};
-use crate::panel::LISTING_BYTES;
+use crate::panel::{CARDS, LISTING_BYTES};
 use crate::patch::Patch;
+use crate::saying::drawn::Drawn;
 use crate::saying::numbers::{counted, grouped};
 use crate::saying::read;
 use crate::saying::searched::Searched;
 use crate::saying::words::{said, Said};
+use crate::saying::works::{self, Known};
 use crate::typed::given::Aim;
 use crate::typed::names::Kind;
 use crate::typed::pasted::Pasted;
 use crate::typed::settings::Settings;
 use crate::typed::system::System;
 use crate::typed::text::{point, Fault, Source};
+use crate::works::{Met, Works};
 
 pub struct Report<'a> {
     pub sources: &'a [Source],
@@ -24,26 +27,11 @@ pub struct Report<'a> {
     pub pasted: Option<&'a Pasted>,
     /// Whether the wired set was to be printed as a listing.
     pub as_listing: bool,
+    /// What was met beside the search, or without one.
+    pub met: &'a Met,
+    /// Whether no search was asked for.
+    pub quick: bool,
     pub drawn: Drawn,
-}
-
-/// What became of the drawing.
-pub enum Drawn {
-    NotAsked,
-    In(String),
-    NotWired(String),
-    Failed(String, String),
-}
-
-impl Drawn {
-    pub fn words(&self) -> Option<String> {
-        match self {
-            Drawn::NotAsked => None,
-            Drawn::In(file) => Some(format!("Drawn in {file}.")),
-            Drawn::NotWired(file) => Some(format!("Not drawn: nothing is wired, and {file} was not written.")),
-            Drawn::Failed(file, why) => Some(format!("Not drawn: {file} cannot be written ({why}).")),
-        }
-    }
 }
 
 impl Report<'_> {
@@ -51,14 +39,34 @@ impl Report<'_> {
         let (reply, settings, system, sources) = (&self.answer.reply, self.settings, self.system, self.sources);
         match self.pasted {
             Some(pasted) => read::said(reply, pasted, settings, system, sources),
+            None if self.quick && self.was_taken() => {
+                works::alone(self.met, settings.cards.value().unwrap_or(CARDS), &self.searched()).into()
+            }
             None => said(reply, settings, system, sources),
         }
     }
 
-    /// What is listed; nothing where the given set was only wired, or a listing read.
+    fn searched(&self) -> Searched<'_> {
+        Searched::of(self.system, self.settings)
+    }
+
+    /// What is known of how many new signals are needed, where a patch was met.
+    pub fn known(&self) -> Known {
+        match self.quick {
+            true => Known::unsearched(self.met.patch().map(Works::size)),
+            false => Known::stopped(&self.answer.reply),
+        }
+    }
+
+    /// What is said of a patch beside the words for the reply.
+    pub fn beside(&self) -> Option<String> {
+        works::after(self.met, self.known(), &self.searched()).filter(|_| !self.quick)
+    }
+
+    /// What is listed; nothing where the given set was only wired, a listing read, or nothing searched.
     pub fn thing(&self) -> Option<&'static str> {
         match self.system.aim() {
-            None if self.pasted.is_some() => None,
+            None if self.pasted.is_some() || self.quick => None,
             None => Some("set"),
             Some(Aim::Thinning) => Some("subset"),
             Some(Aim::Wiring) => None,
@@ -81,13 +89,8 @@ impl Report<'_> {
             let names = self.system.namings.join(", ");
             notes.push(format!("{names}: taken as variables of their own; the lines that name them are not used."));
         }
-        notes.extend(read::mapping(self.system).filter(|_| self.pasted.is_some() || self.answer.listing.is_some()));
+        notes.extend(read::mapping(self.system).filter(|_| self.pasted.is_some() || self.listing().is_some()));
         notes
-    }
-
-    /// The equations as read; nothing where a term fits no record.
-    pub fn equations(&self) -> Vec<String> {
-        self.system.records().map_or(Vec::new(), |records| self.system.equations(&records))
     }
 
     /// What options say of names.
@@ -128,13 +131,16 @@ impl Report<'_> {
     }
 
     /// Which set the patch is of, and what its signals are. "Smallest" is said of a whole search alone, where a set was
-    /// thinned of its subsets alone, and where it was only wired not at all.
+    /// thinned of its subsets alone, and where it was only wired, or met beside a search, not at all.
     pub fn which_set(&self) -> String {
+        if let Some(works) = self.met.patch() {
+            return works::heading(works);
+        }
         let Some(patch) = self.patch.filter(|patch| !patch.new.is_empty()) else {
             return "Nothing needs to be added.".into();
         };
         let (which, count) = (self.settings.which, self.answer.reply.count);
-        let among = Searched::of(self.system, self.settings).among();
+        let among = self.searched().among();
         let set = match (self.system.aim(), count) {
             (None, 1) => format!("The smallest set{among}"),
             (None, count) => format!("Set {which} of the {} smallest sets{among}", grouped(count)),
@@ -165,19 +171,31 @@ impl Report<'_> {
     /// All of it; of a listing that is printed what stands before it.
     pub fn for_a_person(&self) -> String {
         let mut out = self.taken() + &self.answered() + &self.list();
-        if !self.as_listing {
-            out += &self.wired();
-        }
+        let wired = self.wired().filter(|_| !self.as_listing);
         let last = [self.further(), self.drawn.words(), self.long_listing(), self.above_listing()];
-        for words in last.into_iter().flatten() {
+        for words in [self.beside(), wired].into_iter().chain(last).flatten() {
             out += &format!("\n{words}\n");
         }
         out
     }
 
+    /// The patch that is shown and drawn.
+    pub fn shown(&self) -> Option<&Patch> {
+        self.patch.or(self.met.patch().map(|works| &works.patch))
+    }
+
+    /// It as a listing, where that was asked for.
+    pub fn listing(&self) -> Option<&str> {
+        let answer = self.met.patch().map_or(self.answer, |works| &works.answer);
+        answer.listing.as_deref()
+    }
+
     /// Of which set the listing is that is printed.
     fn above_listing(&self) -> Option<String> {
-        self.answer.listing.as_ref()?;
+        self.listing()?;
+        if self.met.patch().is_some() {
+            return Some("That patch as a listing:".into());
+        }
         let which = self.settings.which;
         let set = match (self.answer.reply.order, self.system.aim()) {
             (0, _) => "The system".into(),
@@ -190,7 +208,7 @@ impl Report<'_> {
 
     /// What is printed may be longer than what is read.
     pub fn long_listing(&self) -> Option<String> {
-        let length = self.answer.listing.as_ref()?.len();
+        let length = self.listing()?.len();
         let (has, most) = (grouped(length as u64), grouped(LISTING_BYTES as u64));
         (LISTING_BYTES < length).then(|| format!("The listing has {has} bytes, and --read takes up to {most}."))
     }
@@ -202,7 +220,7 @@ impl Report<'_> {
         }
         let given = self.given_text().map(|text| format!("given set: {text}"));
         let listing = self.pasted.map(|pasted| format!("listing: {}", pasted.file));
-        let lines = self.equations().into_iter().chain(self.kinds()).chain(self.kit()).chain(given).chain(listing);
+        let lines = self.system.as_read().into_iter().chain(self.kinds()).chain(self.kit()).chain(given).chain(listing);
         let read = lines.map(|line| format!("  {line}\n"));
         let notes = self.notes().into_iter().map(|note| format!("{note}\n"));
         read.chain(notes).chain(std::iter::once("\n".into())).collect()
@@ -247,19 +265,18 @@ impl Report<'_> {
         })
     }
 
-    /// The patch as equations.
-    fn wired(&self) -> String {
-        let Some(patch) = self.patch else {
-            return String::new();
+    /// The patch as equations, under a line that says of which set it is.
+    fn wired(&self) -> Option<String> {
+        let (patch, which) = (self.shown()?, self.settings.which);
+        // A set that stands in a list is named by its number there.
+        let listed = self.thing().is_some() && self.patch.is_some() && self.answer.reply.order != 0;
+        let heading = match self.system.aim() {
+            _ if !listed => "Wired:".to_string(),
+            None => format!("Set {which} wired:"),
+            Some(_) => format!("Subset {which} wired:"),
         };
-        let which = self.settings.which;
-        let heading = match (self.answer.reply.order, self.system.aim()) {
-            (0, _) | (_, Some(Aim::Wiring)) => "Wired:".to_string(),
-            (_, None) => format!("Set {which} wired:"),
-            (_, Some(Aim::Thinning)) => format!("Subset {which} wired:"),
-        };
-        let equations = patch.equations().into_iter().map(|equation| format!("  {equation}\n"));
-        std::iter::once(format!("\n{heading}\n")).chain(equations).collect()
+        let equations = patch.equations().into_iter().map(|equation| format!("\n  {equation}"));
+        Some(std::iter::once(heading).chain(equations).collect())
     }
 
     /// How to wire another set, or that of a listing, or why this one is not there.
@@ -322,8 +339,18 @@ mod tests {
         said: impl FnOnce(&Report) -> T,
     ) -> T {
         let patch = Patch::of(system, answer, settings.which);
-        let (pasted, as_listing, drawn) = (None, answer.listing.is_some(), Drawn::NotAsked);
-        said(&Report { sources, system, settings, answer, patch: patch.as_ref(), pasted, as_listing, drawn })
+        said(&Report {
+            sources,
+            system,
+            settings,
+            answer,
+            patch: patch.as_ref(),
+            pasted: None,
+            as_listing: answer.listing.is_some(),
+            met: &Met::NotAsked,
+            quick: false,
+            drawn: Drawn::NotAsked,
+        })
     }
 
     /// What is printed for a text and an answer, and whether set `which` is wired.
@@ -568,16 +595,17 @@ mod tests {
     fn said_of_reading(text: &str, answer: &Answer) -> [String; 2] {
         let (pasted, source) = Pasted::of(1, "a.txt", LISTING.into());
         let (sources, system, settings) = ([&typed(text)[..], &[source]].concat(), system(text), Settings::default());
-        let (pasted, as_listing, drawn) = (Some(&pasted), false, Drawn::NotAsked);
         let report = Report {
             sources: &sources,
             system: &system,
             settings: &settings,
             answer,
             patch: None,
-            pasted,
-            as_listing,
-            drawn,
+            pasted: Some(&pasted),
+            as_listing: false,
+            met: &Met::NotAsked,
+            quick: false,
+            drawn: Drawn::NotAsked,
         };
         [report.for_a_person(), export::answer(&report)]
     }

@@ -39,6 +39,22 @@ impl Searched<'_> {
         }
     }
 
+    /// What is known once levels below `least` have ended without a find.
+    pub fn needed(&self, least: u64) -> String {
+        let needed = format!("at least {} needed", if least == 1 { "1 is".into() } else { format!("{least} are") });
+        let outside = match &self.outside[..] {
+            [] => None,
+            [name] => Some(format!("{name} stays outside the new signals")),
+            names => Some(format!("{} stay outside the new signals", listed(names))),
+        };
+        let junior = self.junior.map(|most| format!("each has total degree up to {most}"));
+        match [outside, junior].into_iter().flatten().collect::<Vec<_>>() {
+            // Without new signals it is the same for all.
+            rules if rules.is_empty() || least == 1 => needed,
+            rules => format!("{needed} where {}", rules.join(" and ")),
+        }
+    }
+
     /// Among which sets those that were found are the smallest, where these are not all.
     pub fn among(&self) -> String {
         let outside = match &self.outside[..] {
@@ -124,6 +140,22 @@ mod tests {
         let lines: Vec<&str> = lines.lines().collect();
         assert!(lines[1].starts_with("The search was among new signals of total degree up to 2."), "{lines:?}");
         assert!(lines[2].starts_with("If one of u and v never moves during a run"), "{lines:?}");
+    }
+
+    #[test]
+    fn how_many_are_needed_is_said_of_the_same_sets() {
+        let needed = |outside: &[&str], junior, least| searched(outside, junior).needed(least);
+        assert_eq!(needed(&[], None, 2), "at least 2 are needed");
+        assert_eq!(needed(&["u"], None, 3), "at least 3 are needed where u stays outside the new signals");
+        assert_eq!(needed(&["u", "v"], None, 2), "at least 2 are needed where u and v stay outside the new signals");
+        assert_eq!(needed(&[], Some(3), 2), "at least 2 are needed where each has total degree up to 3");
+        assert_eq!(
+            needed(&["u"], Some(2), 6),
+            "at least 6 are needed where u stays outside the new signals and each has total degree up to 2"
+        );
+        for (outside, junior) in [(&[][..], None), (&["u"], None), (&[], Some(9)), (&["u"], Some(2))] {
+            assert_eq!(needed(outside, junior, 1), "at least 1 is needed");
+        }
     }
 
     #[test]

@@ -1,10 +1,8 @@
 //! Why a signal cannot be wired: a product in its derivative that no two signals multiply to. The planner says which
 //! signal it is; this only gives its refusal a reason.
 
-use std::collections::BTreeMap;
-
 use crate::algebra::Exponents;
-use crate::panel::VARIABLES;
+use crate::derivative::{derivative, times};
 use crate::typed::system::Record;
 
 /// The first such product, ascending, with its total coefficient. `signals` are those of the patch by number, 1 and the
@@ -13,32 +11,6 @@ pub fn product(records: &[Record], signals: &[Exponents], signal: usize) -> Opti
     let made = |m| signals.iter().any(|a| signals.iter().any(|b| times(a, b) == Some(m)));
     let derivative = derivative(records, signals.get(signal)?)?;
     derivative.into_iter().find(|&(m, total)| total != 0 && !made(m)).map(|(m, total)| (total, m))
-}
-
-/// Products with their total coefficients. Like products are added with sign, so a total may be 0.
-pub type Totals = BTreeMap<Exponents, i64>;
-
-/// Nothing where a power does not fit a byte.
-pub fn derivative(records: &[Record], of: &Exponents) -> Option<Totals> {
-    let mut totals = Totals::new();
-    for record in records {
-        let i = usize::from(record.equation) - 1;
-        if of[i] != 0 {
-            let mut rest = *of;
-            rest[i] -= 1;
-            *totals.entry(times(&rest, &record.exponents)?).or_insert(0) +=
-                i64::from(of[i]) * i64::from(record.coefficient);
-        }
-    }
-    Some(totals)
-}
-
-pub fn times(a: &Exponents, b: &Exponents) -> Option<Exponents> {
-    let mut out = [0; VARIABLES];
-    for ((out, a), b) in out.iter_mut().zip(a).zip(b) {
-        *out = a.checked_add(*b)?;
-    }
-    Some(out)
 }
 
 #[cfg(test)]

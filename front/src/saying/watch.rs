@@ -9,6 +9,11 @@ use crate::saying::searched::Searched;
 /// A search that is over sooner than this says nothing but its answer.
 const PATIENCE: Duration = Duration::from_secs(1);
 
+/// Whether a search is one of which something is said before its end.
+pub fn is_long(elapsed: Duration) -> bool {
+    PATIENCE <= elapsed
+}
+
 pub struct Watch<'a, W: Write> {
     out: W,
     /// A terminal shows one line that is written over; elsewhere each thing is said once.
@@ -37,13 +42,24 @@ impl<W: Write> Watch<'_, W> {
     /// Time has passed.
     pub fn tick(&mut self, elapsed: Duration) {
         self.say(elapsed);
-        if self.terminal && PATIENCE <= elapsed {
+        if self.terminal && is_long(elapsed) {
             let seconds = grouped(elapsed.as_secs());
             let sets = self.searched.signals(self.level);
             let line = format!("\r\x1b[KLooking through sets of up to {sets}, {seconds} s ");
             self.open = true;
             self.put(&line);
         }
+    }
+
+    /// Says what is not the search's own.
+    pub fn tell(&mut self, words: &str) {
+        self.end();
+        self.put(words);
+    }
+
+    /// The level that the search is in: it has shown that those below have no set.
+    pub fn level(&self) -> u64 {
+        self.level
     }
 
     /// The search is over: the line that is written over goes.
@@ -54,12 +70,11 @@ impl<W: Write> Watch<'_, W> {
     }
 
     fn say(&mut self, elapsed: Duration) {
-        if elapsed < PATIENCE {
+        if !is_long(elapsed) {
             return;
         }
         if let Some(words) = self.unsaid.take() {
-            self.end();
-            self.put(&words);
+            self.tell(&words);
         }
     }
 
@@ -121,6 +136,18 @@ mod tests {
             "So far: no set of up to 1 new signal of total degree up to 3 exists (4 steps).\n\
              So far: no set of up to 2 new signals of total degree up to 3 exists (4,711 steps).\n"
         );
+    }
+
+    #[test]
+    fn what_is_told_stands_on_lines_of_its_own() {
+        let said = heard(true, &Searched::default(), |w| {
+            w.shown(1, 4, seconds(1));
+            w.tick(seconds(2));
+            w.tell("A patch.\n");
+            assert_eq!(w.level(), 2);
+            w.end();
+        });
+        assert!(said.ends_with("up to 2 new signals, 2 s \r\x1b[KA patch.\n"), "{said:?}");
     }
 
     #[test]

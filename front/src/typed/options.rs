@@ -19,6 +19,8 @@ pub struct Options {
     pub read: Option<String>,
     /// Whether the wired set is printed as a listing.
     pub listing: bool,
+    /// Whether a patch is tried for, and nothing searched.
+    pub quick: bool,
     pub svg: Option<String>,
     pub json: bool,
     pub help: bool,
@@ -45,7 +47,7 @@ pub fn options(arguments: impl IntoIterator<Item = String>) -> Result<Options, S
             Some((name, value)) => (name.to_string(), Some(value.to_string())),
             None => (argument.clone(), None),
         };
-        if matches!(name.as_str(), "--" | "--json" | LISTING | "--help" | "-h") {
+        if matches!(name.as_str(), "--" | "--json" | LISTING | QUICK | "--help" | "-h") {
             if joined.is_some() {
                 return Err(format!("{name} takes no value"));
             }
@@ -53,6 +55,7 @@ pub fn options(arguments: impl IntoIterator<Item = String>) -> Result<Options, S
                 "--" => plain = true,
                 "--json" => options.json = true,
                 LISTING => options.listing = true,
+                QUICK => options.quick = true,
                 _ => options.help = true,
             }
             named.push(name);
@@ -95,6 +98,7 @@ const KNOB: &str = "--knob";
 const SIGNAL: &str = "--signal";
 const READ: &str = "--read";
 const LISTING: &str = "--listing";
+const QUICK: &str = "--quick";
 const SVG: &str = "--svg";
 
 /// The name that stands for it.
@@ -104,16 +108,21 @@ const STANDARD_INPUT: &str = "-";
 const VALUED: [&str; 12] =
     ["--cards", "--steps", "--sets", "--degree", "--set", THIN, GIVEN, KNOB, SIGNAL, READ, SVG, "--file"];
 
-/// Those that limit a search.
-const LIMITS: [&str; 3] = ["--cards", "--steps", "--sets"];
+/// Those that limit a search and nothing else.
+const LIMITS: [&str; 2] = ["--steps", "--sets"];
 
 /// Refuses an option that says nothing beside another one: where a set or a listing is given, nothing is searched, and a
-/// listing that is read is not wired.
+/// listing that is read is not wired. Beside --quick nothing is searched either, and a patch has its cards all the same.
 fn go_together(named: &[String]) -> Result<(), String> {
     for (option, others, does) in [
-        (READ, &["--set", THIN, GIVEN, LISTING, SVG][..], "reads the given listing and wires nothing"),
-        (THIN, &[GIVEN], "judges every subset of the given set"),
-        (GIVEN, &["--set"], "judges the given set alone and wires it"),
+        (
+            READ,
+            &["--cards", "--set", THIN, GIVEN, LISTING, SVG, QUICK][..],
+            "reads the given listing and wires nothing",
+        ),
+        (THIN, &["--cards", GIVEN, QUICK], "judges every subset of the given set"),
+        (GIVEN, &["--cards", "--set", QUICK], "judges the given set alone and wires it"),
+        (QUICK, &["--set"], "makes no search and shows one patch"),
     ] {
         let idle = named.iter().find(|name| others.contains(&name.as_str()) || LIMITS.contains(&name.as_str()));
         if let Some(idle) = idle.filter(|_| named.iter().any(|name| name == option)) {
@@ -265,6 +274,16 @@ mod tests {
     }
 
     #[test]
+    fn a_patch_may_be_asked_for_alone() {
+        assert!(!read(&["x' = x^3"]).unwrap().quick);
+        for others in [&["--cards", "2"][..], &["--svg", "a.svg", "--json", "--listing"], &["--signal=u", "--degree=3"]]
+        {
+            let options = read(&[&["x' = x^3", "--quick"], others].concat()).unwrap();
+            assert!(options.quick && options.given.is_none() && options.read.is_none());
+        }
+    }
+
+    #[test]
     fn numbers_out_of_range_are_for_the_planner() {
         assert!(read(&["--cards", "99"]).is_ok());
         assert!(read(&["--degree", "10"]).is_ok());
@@ -309,6 +328,13 @@ mod tests {
             (vec!["--given=", "--read", "a"], "--given does not go with --read"),
             (vec!["--read", "a", "--listing"], "--listing does not go with --read"),
             (vec!["--svg", "a.svg", "--read", "a"], "--svg does not go with --read"),
+            (vec!["--quick=yes"], "takes no value"),
+            (vec!["--quick", "--steps", "9"], "--steps does not go with --quick, which makes no search"),
+            (vec!["--sets", "9", "--quick"], "--sets does not go with --quick"),
+            (vec!["--quick", "--set", "2"], "--set does not go with --quick"),
+            (vec!["--quick", "--thin", "x^2"], "--quick does not go with --thin"),
+            (vec!["--given", "x^2", "--quick"], "--quick does not go with --given"),
+            (vec!["--read", "a", "--quick"], "--quick does not go with --read"),
             (vec!["-", "--read", "-"], "standard input cannot hold both"),
             (vec!["--read", "-", "--file=-"], "standard input cannot hold both"),
         ] {

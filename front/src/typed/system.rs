@@ -211,7 +211,12 @@ impl System {
         names.take(i).last().unwrap_or_default()
     }
 
-    /// The equations as they were read, variable by variable.
+    /// The equations as they were read; nothing where a term fits no record.
+    pub fn as_read(&self) -> Vec<String> {
+        self.records().map_or(Vec::new(), |records| self.equations(&records))
+    }
+
+    /// Those that these records are, variable by variable.
     pub fn equations(&self, records: &[Record]) -> Vec<String> {
         let mut out = Vec::new();
         for (i, name) in self.names.iter().enumerate().filter(|&(i, _)| self.fed[i]) {

@@ -1,0 +1,31 @@
+//! What became of the drawing.
+
+pub enum Drawn {
+    NotAsked,
+    In(String),
+    NotWired(String),
+    /// Nothing is wired, and the file has what was drawn while the search ran.
+    Before(String),
+    Failed(String, String),
+}
+
+impl Drawn {
+    pub fn of(file: &str, written: Result<(), String>) -> Drawn {
+        match written {
+            Ok(()) => Drawn::In(file.into()),
+            Err(why) => Drawn::Failed(file.into(), why),
+        }
+    }
+
+    pub fn words(&self) -> Option<String> {
+        match self {
+            Drawn::NotAsked => None,
+            Drawn::In(file) => Some(format!("Drawn in {file}.")),
+            Drawn::NotWired(file) => Some(format!("Not drawn: nothing is wired, and {file} was not written.")),
+            Drawn::Before(file) => {
+                Some(format!("Not drawn: nothing is wired. {file} has the patch that was met while the search ran."))
+            }
+            Drawn::Failed(file, why) => Some(format!("Not drawn: {file} cannot be written ({why}).")),
+        }
+    }
+}
