@@ -21,7 +21,6 @@ use std::process::ExitCode;
 
 use asking::answer::{Answer, DONE, FULL, NONE, NOT_QUADRATIC, SET, SPENT, TERM};
 use asking::planner::{Planner, RUNNER};
-use drawing::file;
 use drawing::sheet::Heading;
 use patch::Patch;
 use saying::drawn::Drawn;
@@ -135,7 +134,7 @@ fn draw(report: &Report, file: &str, before: bool) -> Drawn {
     match report.shown() {
         Some(patch) => {
             let (equations, given) = (report.system.as_read(), report.given_text());
-            Drawn::of(file, file::write(file, patch, &Heading { equations, given, which: report.which_set() }))
+            Drawn::draw(file, patch, &Heading { equations, given, which: report.which_set() })
         }
         None if before => Drawn::Before(file.into()),
         None => Drawn::NotWired(file.into()),

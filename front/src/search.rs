@@ -8,7 +8,6 @@ use crate::asking::answer::{Answer, DONE, FULL, NOT_QUADRATIC, SETTING, SPENT};
 use crate::asking::beside::Beside;
 use crate::asking::climb::climb;
 use crate::asking::planner::Planner;
-use crate::drawing::file;
 use crate::drawing::sheet::Heading;
 use crate::saying::drawn::Drawn;
 use crate::saying::searched::Searched;
@@ -69,7 +68,7 @@ impl Search<'_> {
         }
         let empty = self.planner.wire(&[])?;
         let met = match empty.reply.code {
-            DONE => Works::of(self.system, empty.clone()).map_or(Met::Nothing, Met::Patch),
+            DONE => Met::wired(self.system, empty.clone()),
             NOT_QUADRATIC => Beside::begin(self.system, self.settings).met(self.planner, self.system),
             _ => Met::NotAsked,
         };
@@ -80,11 +79,8 @@ impl Search<'_> {
     }
 
     fn draw(&self, works: &Works) -> Drawn {
-        let Some(file) = self.svg else {
-            return Drawn::NotAsked;
-        };
         let heading = Heading { equations: self.system.as_read(), given: None, which: heading(works) };
-        Drawn::of(file, file::write(file, &works.patch, &heading))
+        self.svg.map_or(Drawn::NotAsked, |file| Drawn::draw(file, &works.patch, &heading))
     }
 }
 

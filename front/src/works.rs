@@ -37,6 +37,11 @@ pub enum Met {
 }
 
 impl Met {
+    /// What a wiring says of a set that was met.
+    pub fn wired(system: &System, answer: Answer) -> Met {
+        Works::of(system, answer).map_or(Met::Nothing, Met::Patch)
+    }
+
     pub fn patch(&self) -> Option<&Works> {
         match self {
             Met::Patch(works) => Some(works),

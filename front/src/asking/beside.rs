@@ -9,7 +9,7 @@ use crate::trying::board::Board;
 use crate::trying::sizes::try_for;
 use crate::typed::settings::Settings;
 use crate::typed::system::System;
-use crate::works::{Met, Works};
+use crate::works::Met;
 
 pub struct Beside {
     /// Nothing where there is nothing to try, and where no thread was to be had.
@@ -28,7 +28,7 @@ impl Beside {
             return Met::Nothing;
         };
         match planner.wire(&set) {
-            Ok(answer) => Works::of(system, answer).map_or(Met::Nothing, Met::Patch),
+            Ok(answer) => Met::wired(system, answer),
             Err(why) => Met::Unasked(why),
         }
     }
@@ -89,8 +89,8 @@ mod tests {
             }
         }
         println!(
-            "{COUNT} random systems: {shown} patches, each wired by the planner. Of {ended} systems whose search found \
-             sets, {met} have a patch, {even} of them one of as few signals."
+            "{COUNT} random systems: {shown} patches, all wired; sets are found for {ended}, {met} have a patch, {even} \
+             of the same size"
         );
         assert!(COUNT / 2 < shown);
     }

@@ -1,6 +1,5 @@
 //! Drawing it: the patch of one set, laid out on a sheet and written as SVG.
 
-pub mod file;
 pub mod label;
 pub mod shapes;
 pub mod sheet;

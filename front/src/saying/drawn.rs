@@ -1,5 +1,9 @@
 //! What became of the drawing.
 
+use crate::drawing::sheet::{self, Heading};
+use crate::drawing::svg::svg;
+use crate::patch::Patch;
+
 pub enum Drawn {
     NotAsked,
     In(String),
@@ -10,10 +14,11 @@ pub enum Drawn {
 }
 
 impl Drawn {
-    pub fn of(file: &str, written: Result<(), String>) -> Drawn {
-        match written {
+    /// Draws a patch under its heading, over what the file had.
+    pub fn draw(file: &str, patch: &Patch, heading: &Heading) -> Drawn {
+        match std::fs::write(file, svg(&sheet::draw(patch, heading))) {
             Ok(()) => Drawn::In(file.into()),
-            Err(why) => Drawn::Failed(file.into(), why),
+            Err(why) => Drawn::Failed(file.into(), why.to_string()),
         }
     }
 
