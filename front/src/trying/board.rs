@@ -3,7 +3,7 @@
 use std::collections::HashMap;
 
 use crate::derivative::derivative;
-use crate::panel::{CARDS, POWER, TERMS};
+use crate::panel::{POWER, TERMS};
 use crate::trying::product::Product;
 use crate::typed::settings::Settings;
 use crate::typed::system::{Record, System};
@@ -27,7 +27,7 @@ impl Board {
     pub fn of(system: &System, settings: &Settings) -> Option<Board> {
         let records = system.records().ok()?;
         let within = |record: &Record| record.exponents.iter().all(|&e| u128::from(e) <= POWER);
-        if TERMS < records.len() || !records.iter().all(within) {
+        if TERMS < records.len() || !records.iter().all(within) || !settings.out_of_range().is_empty() {
             return None;
         }
         let marks = system.marks();
@@ -36,7 +36,7 @@ impl Board {
             given: system.signals(&[]).iter().map(Product::of).collect(),
             outside: (0..system.names.len()).filter(|i| marks >> i & 1 == 1).collect(),
             degree: settings.degree.value()?,
-            cards: settings.cards.value().filter(|&cards| cards <= CARDS)? as usize,
+            cards: settings.cards.value()? as usize,
             derivatives: HashMap::new(),
         })
     }
@@ -108,9 +108,12 @@ mod tests {
         ] {
             assert_eq!(board(&text).is_some(), tried, "{text}");
         }
+        let with = |settings| Board::of(&system("x' = x^3"), &settings).is_some();
         for (cards, tried) in [(0, true), (6, true), (7, false), (u64::MAX, false)] {
-            let settings = Settings { cards: cards.into(), ..Settings::default() };
-            assert_eq!(Board::of(&system("x' = x^3"), &settings).is_some(), tried, "{cards}");
+            assert_eq!(with(Settings { cards: cards.into(), ..Settings::default() }), tried, "{cards}");
+        }
+        for (degree, tried) in [(2, true), (10, false), (u64::MAX, false)] {
+            assert_eq!(with(Settings { degree: degree.into(), ..Settings::default() }), tried, "{degree}");
         }
     }
 }

@@ -65,8 +65,7 @@ impl Random {
             let own: Vec<(i64, String)> = terms
                 .iter()
                 .filter(|(left, _)| *left == i)
-                .map(|(_, e)| (self.below(3) as i64 + 1, algebra::monomial(names, e)))
-                .map(|(size, product)| (if size == 3 { -1 } else { size }, product))
+                .map(|(_, e)| ([1, 2, -1][self.below(3)], algebra::monomial(names, e)))
                 .collect();
             if !own.is_empty() {
                 lines.push(format!("{name}' = {}", algebra::sum(own.iter().map(|(c, p)| (*c, p.as_str())))));
