@@ -92,7 +92,7 @@ fn answer(sources: &[Source], system: &System, pasted: Option<&Pasted>, options:
         Err(why) if options.json => return print(FAILED, &export::error(sources, &Fault::nowhere(why))),
         Err(why) => return stop(FAILED, &format!("plan: {why}.\n")),
     };
-    // A listing that is read has its own wiring, and none is asked for; nor is the first of a list where none was.
+    // A listing that is read has its own wiring, and none is asked for; a patch that was met has its own, too.
     let patch = Patch::of(system, &answer, options.settings.which).filter(|_| pasted.is_none() && !options.quick);
     let mut report = Report {
         sources,
