@@ -9,6 +9,8 @@ mod drawing;
 mod panel;
 mod patch;
 #[cfg(test)]
+mod random;
+#[cfg(test)]
 mod recorded;
 mod saying;
 mod search;
@@ -31,7 +33,7 @@ use search::{Asked, Search};
 use typed::given::Aim;
 use typed::options::Options;
 use typed::pasted::Pasted;
-use typed::system::{Record, System};
+use typed::system::System;
 use typed::text::{Fault, Holds, Source};
 use typed::{options, parser};
 use works::Met;
@@ -95,16 +97,12 @@ fn answer(sources: &[Source], system: &System, pasted: Option<&Pasted>, options:
     // A listing that is read has its own wiring, and none is asked for; a patch that was met has its own, too.
     let patch = Patch::of(system, &answer, options.settings.which).filter(|_| pasted.is_none() && !options.quick);
     let mut report = Report {
-        sources,
-        system,
-        settings: &options.settings,
-        answer: &answer,
         patch: patch.as_ref(),
         pasted,
         as_listing: options.listing,
         met: &met,
         quick: options.quick,
-        drawn: Drawn::NotAsked,
+        ..Report::of(sources, system, &options.settings, &answer)
     };
     if let Some(file) = &options.svg {
         report.drawn = draw(&report, file, drawn);
@@ -151,9 +149,7 @@ fn ask(system: &System, pasted: Option<&Pasted>, options: &Options) -> Result<As
     };
     let runner =
         std::env::var(RUNNER).map_err(|_| format!("{RUNNER} does not say how to run the planner; use ./plan"))?;
-    let terms = records.iter().flat_map(Record::bytes).collect();
-    let degree = settings.degree.clone();
-    let planner = Planner { runner, n: system.names.len(), marks: system.marks(), degree, terms };
+    let planner = Planner::of(runner, system, &records, settings);
     if let Some(pasted) = pasted {
         return planner.read(&pasted.bytes).map(Asked::from);
     }

@@ -39,18 +39,11 @@ mod tests {
     use super::*;
     use crate::asking::answer::{DONE, NONE};
     use crate::asking::planner::RUNNER;
-    use crate::trying::random;
+    use crate::trying::systems::systems;
     use crate::typed::system::tests::system;
-    use crate::typed::system::Record;
 
     fn planner(runner: &str, system: &System, settings: &Settings) -> Planner {
-        Planner {
-            runner: runner.into(),
-            n: system.names.len(),
-            marks: system.marks(),
-            degree: settings.degree.clone(),
-            terms: system.records().unwrap().iter().flat_map(Record::bytes).collect(),
-        }
+        Planner::of(runner.into(), system, &system.records().unwrap(), settings)
     }
 
     #[test]
@@ -64,6 +57,14 @@ mod tests {
         assert_eq!(nothing, Met::Nothing, "there is nothing to ask");
     }
 
+    #[test]
+    fn a_fault_in_a_try_costs_the_patch_alone() {
+        let (system, settings) = (system("x' = x^3"), Settings::default());
+        let fault = Builder::new().spawn(|| panic!("a fault, as this test wants it")).unwrap();
+        let met = Beside { trying: Some(fault) }.met(&planner("/bin/false", &system, &settings), &system);
+        assert_eq!(met, Met::Nothing);
+    }
+
     /// How many patches have as many new signals as a whole search finds is told and not asserted: a try may miss.
     #[test]
     #[ignore = "asks the proved programs; tools/test-front runs it"]
@@ -71,7 +72,7 @@ mod tests {
         const COUNT: usize = 1_000;
         let runner = std::env::var(RUNNER).expect(RUNNER);
         let (mut shown, mut ended, mut met, mut even) = (0, 0, 0, 0);
-        for (system, settings) in random::systems(COUNT) {
+        for (system, settings) in systems(COUNT) {
             let planner = planner(&runner, &system, &settings);
             let tried = Beside::begin(&system, &settings).trying.and_then(|trying| trying.join().unwrap());
             let size = tried.map(|set| {

@@ -10,6 +10,7 @@ use crate::algebra::{degree, Exponents};
 use crate::asking::answer::{self, Answer, Wire};
 use crate::typed::given;
 use crate::typed::settings::{Count, Settings};
+use crate::typed::system::{Record, System};
 
 /// The variable that names the script which runs a proved program by its name. The command `plan` sets it.
 pub const RUNNER: &str = "SIRAGUMON_RUNNER";
@@ -28,6 +29,17 @@ pub struct Planner {
 }
 
 impl Planner {
+    /// Asks about a system by its records, for the kit that is set.
+    pub fn of(runner: String, system: &System, records: &[Record], settings: &Settings) -> Planner {
+        Planner {
+            runner,
+            n: system.names.len(),
+            marks: system.marks(),
+            degree: settings.degree.clone(),
+            terms: records.iter().flat_map(Record::bytes).collect(),
+        }
+    }
+
     /// Asks once, and calls `tick` every second while the program runs.
     pub fn ask(&self, settings: &Settings, tick: impl FnMut()) -> Result<Answer, String> {
         let Settings { cards, steps, sets, which, .. } = settings;

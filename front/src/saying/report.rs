@@ -34,6 +34,24 @@ pub struct Report<'a> {
     pub drawn: Drawn,
 }
 
+impl<'a> Report<'a> {
+    /// Of an answer where nothing is wired, read, met or drawn.
+    pub fn of(sources: &'a [Source], system: &'a System, settings: &'a Settings, answer: &'a Answer) -> Report<'a> {
+        Report {
+            sources,
+            system,
+            settings,
+            answer,
+            patch: None,
+            pasted: None,
+            as_listing: false,
+            met: &Met::NotAsked,
+            quick: false,
+            drawn: Drawn::NotAsked,
+        }
+    }
+}
+
 impl Report<'_> {
     pub fn said(&self) -> Said {
         let (reply, settings, system, sources) = (&self.answer.reply, self.settings, self.system, self.sources);
@@ -339,18 +357,8 @@ mod tests {
         said: impl FnOnce(&Report) -> T,
     ) -> T {
         let patch = Patch::of(system, answer, settings.which);
-        said(&Report {
-            sources,
-            system,
-            settings,
-            answer,
-            patch: patch.as_ref(),
-            pasted: None,
-            as_listing: answer.listing.is_some(),
-            met: &Met::NotAsked,
-            quick: false,
-            drawn: Drawn::NotAsked,
-        })
+        let as_listing = answer.listing.is_some();
+        said(&Report { patch: patch.as_ref(), as_listing, ..Report::of(sources, system, settings, answer) })
     }
 
     /// What is printed for a text and an answer, and whether set `which` is wired.
@@ -595,18 +603,7 @@ mod tests {
     fn said_of_reading(text: &str, answer: &Answer) -> [String; 2] {
         let (pasted, source) = Pasted::of(1, "a.txt", LISTING.into());
         let (sources, system, settings) = ([&typed(text)[..], &[source]].concat(), system(text), Settings::default());
-        let report = Report {
-            sources: &sources,
-            system: &system,
-            settings: &settings,
-            answer,
-            patch: None,
-            pasted: Some(&pasted),
-            as_listing: false,
-            met: &Met::NotAsked,
-            quick: false,
-            drawn: Drawn::NotAsked,
-        };
+        let report = Report { pasted: Some(&pasted), ..Report::of(&sources, &system, &settings, answer) };
         [report.for_a_person(), export::answer(&report)]
     }
 

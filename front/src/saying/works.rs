@@ -26,8 +26,7 @@ impl Known {
         Known { least: reply.order, met: reply.code == FULL }
     }
 
-    /// What is known without a search: the empty set was judged before any other, and was all there was to it where it
-    /// will do.
+    /// What is known without a search. The empty set was judged first; where it is not the patch itself, it will not do.
     pub fn unsearched(size: Option<u64>) -> Known {
         Known::in_level(if size == Some(0) { 0 } else { 1 })
     }
@@ -226,17 +225,13 @@ mod tests {
     /// All that is printed, exported and drawn of a reply where this was met.
     fn said_of(settings: &Settings, system: &System, reply: Reply, met: &Met, quick: bool) -> Vec<String> {
         let answer = Answer { reply, ..Answer::default() };
+        let drawn = || Drawn::In("a.svg".into());
         let report = |as_listing| Report {
-            sources: &[],
-            system,
-            settings,
-            answer: &answer,
-            patch: None,
-            pasted: None,
             as_listing,
             met,
             quick,
-            drawn: Drawn::In("a.svg".into()),
+            drawn: drawn(),
+            ..Report::of(&[], system, settings, &answer)
         };
         let said = [false, true].map(report).map(|report| [report.for_a_person(), export::answer(&report)]);
         said.concat().into_iter().chain(met.patch().map(heading)).collect()

@@ -4,7 +4,7 @@
 
 pub mod board;
 pub mod product;
-#[cfg(test)]
-pub mod random;
 pub mod set;
 pub mod sizes;
+#[cfg(test)]
+pub mod systems;

@@ -42,7 +42,7 @@ fn keep(sets: &mut BTreeSet<Tried>, set: Tried) {
 mod tests {
     use super::*;
     use crate::saying::unwired::product;
-    use crate::trying::random;
+    use crate::trying::systems::systems;
     use crate::typed::settings::Settings;
     use crate::typed::system::tests::{system, with_signals};
     use crate::typed::system::System;
@@ -95,7 +95,7 @@ mod tests {
     #[test]
     fn what_is_met_is_quadratic_and_keeps_the_settings() {
         let mut number = 0;
-        for (system, settings) in random::systems(1_000) {
+        for (system, settings) in systems(1_000) {
             let Some(set) = tried(&system, &settings) else {
                 continue;
             };

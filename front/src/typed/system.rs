@@ -232,6 +232,7 @@ impl System {
 #[cfg(test)]
 pub mod tests {
     use super::*;
+    use crate::random::Random;
     use crate::typed::parser::parse;
     use crate::typed::text::{Holds, Source};
 
@@ -406,7 +407,7 @@ pub mod tests {
 
     /// Texts of all sorts: pieces of equations and sets in any order, in every other text such as may stand there after
     /// `start`.
-    fn babble(seed: &mut u64, start: &'static str) -> String {
+    fn babble(random: &mut Random, start: &'static str) -> String {
         const GOOD: [&str; 16] = [
             "x", "y", "z^2", "x^3", "**2", "2", "10", "*", " ", " + ", " - ", "+", ", y' = -", "\nz' = ", ", S' = ",
             "*S",
@@ -448,21 +449,17 @@ pub mod tests {
             "y' = ",
             "y",
         ];
-        let mut next = |bound: usize| {
-            *seed = seed.wrapping_mul(6364136223846793005).wrapping_add(1442695040888963407);
-            (*seed >> 33) as usize % bound
-        };
-        let length = 1 + next(10);
-        let (start, pieces): (&str, &[&str]) = if next(2) == 0 { (start, &GOOD) } else { ("", &ALL) };
-        let rest: String = (0..length).map(|_| pieces[next(pieces.len())]).collect();
+        let length = 1 + random.below(10);
+        let (start, pieces): (&str, &[&str]) = if random.below(2) == 0 { (start, &GOOD) } else { ("", &ALL) };
+        let rest: String = (0..length).map(|_| pieces[random.below(pieces.len())]).collect();
         format!("{start}{rest}")
     }
 
     #[test]
     fn no_text_is_too_odd_and_what_is_shown_is_what_was_read() {
-        let (mut seed, mut read) = (1, 0);
+        let (mut random, mut read) = (Random::of(1), 0);
         for _ in 0..20_000 {
-            let text = babble(&mut seed, "x' = x");
+            let text = babble(&mut random, "x' = x");
             let sources = typed(&text);
             let system = match taken(&sources) {
                 Ok(system) => system,
@@ -488,9 +485,9 @@ pub mod tests {
 
     #[test]
     fn no_set_is_too_odd_and_what_is_shown_is_what_was_read() {
-        let (mut seed, mut read) = (1, 0);
+        let (mut random, mut read) = (Random::of(1), 0);
         for _ in 0..20_000 {
-            let sources = typed_with_set(Aim::Wiring, "x' = y, z' = 1", &babble(&mut seed, "x*y, x"));
+            let sources = typed_with_set(Aim::Wiring, "x' = y, z' = 1", &babble(&mut random, "x*y, x"));
             let system = match taken(&sources) {
                 Ok(system) => system,
                 Err(fault) => {

@@ -2,6 +2,7 @@
 
 use crate::algebra::{self, Exponents};
 use crate::panel::VARIABLES;
+use crate::random::Random;
 use crate::typed::names::Kind;
 use crate::typed::settings::Settings;
 use crate::typed::system::tests::{said, system_of, typed};
@@ -10,19 +11,11 @@ use crate::typed::system::System;
 /// Systems with settings, the same each time. Low powers and higher ones come in turn; of each four one has a signal from
 /// outside, one is for a junior kit and one has fewer cards.
 pub fn systems(count: usize) -> Vec<(System, Settings)> {
-    let mut random = Random(20);
+    let mut random = Random::of(20);
     (0..count).map(|number| random.system(number)).collect()
 }
 
-struct Random(u64);
-
 impl Random {
-    /// A number below the bound.
-    fn below(&mut self, bound: usize) -> usize {
-        self.0 = self.0.wrapping_mul(6364136223846793005).wrapping_add(1442695040888963407);
-        (self.0 >> 33) as usize % bound
-    }
-
     fn system(&mut self, number: usize) -> (System, Settings) {
         let n = 2 + self.below(VARIABLES - 1);
         let (outside, high) = (number % 4 == 1, number / 4 % 2 == 1);
