@@ -4,6 +4,8 @@
 //     asked N MARKS DEGREE K LIMIT SETS WHICH < term-records    plans
 //     asked N MARKS DEGREE WHICH < set-record term-records      thins
 //     asked N MARKS DEGREE < set-record term-records            wires
+#![tactic(auto)]
+
 mod answer;
 mod input;
 mod settings;

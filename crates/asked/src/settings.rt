@@ -11,7 +11,7 @@ use report::prepare::Settings;
 // The most sets that there is room for.
 pub(crate) const MOST_SETS: usize = 20000;
 
-#[derive(Drop)]
+#[derive(Clone, Copy)]
 pub enum Asked {
     Plan(Settings),
     Thin {

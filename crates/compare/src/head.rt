@@ -16,7 +16,7 @@ const LONGEST_GIVEN: usize = 8192;
 
 const LONGEST_BUFFER: usize = 65536;
 
-#[derive(Drop)]
+#[derive(Clone, Copy)]
 pub struct Head {
     pub operation: u64,
     pub terms: usize,

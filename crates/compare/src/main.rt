@@ -3,6 +3,8 @@
 // A case is a head of 56 bytes, then term records, then a set record, or the text of a listing. The head: operation (1 plan, 2 wire, 3 thin, 4 read a
 // listing; two bytes), length of the terms (two), of what is given behind them (four), then n, marks, degree, cap, limit and the length of the answer
 // buffer (eight each); low byte first.
+#![tactic(auto)]
+
 mod answer;
 mod head;
 

@@ -20,7 +20,7 @@ use wiring::panel::TERM_BYTES;
 use wiring::{choice, quadratic, signals};
 
 // How many are listed; over, where there are more than the list may hold.
-#[derive(Drop)]
+#[derive(Clone, Copy)]
 pub struct Gathered {
     pub len: usize,
     pub over: bool,

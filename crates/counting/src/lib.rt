@@ -2,6 +2,8 @@
 // says whether they need more new monomials than there is room for.
 //
 // Rests on what the crates wiring and monomial promise. Nothing grows: the nonsquares lie in a list that is lent.
+#![tactic(auto)]
+
 pub mod counting;
 pub mod gathering;
 pub mod verdict;

@@ -19,7 +19,7 @@ pub const MOST_LISTED: usize = CARDS * CONSTANTS + CARDS * (CARDS + 1) / 2;
 pub const LIST_BYTES: usize = WIDTH * MOST_LISTED;
 
 // Found; or else closed, unless the pairs of m are to be run.
-#[derive(Drop)]
+#[derive(Clone, Copy)]
 pub struct Verdict {
     pub found: bool,
     pub split: bool,

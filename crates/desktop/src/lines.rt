@@ -15,7 +15,7 @@ use truth::truth::Sums;
 use wiring::signals::Signals;
 
 // Of the term that is read its sign, its coefficient (0 where none is written) and its signals.
-#[derive(Drop)]
+#[derive(Clone, Copy)]
 pub struct Telling {
     pub negative: bool,
     pub number: u64,

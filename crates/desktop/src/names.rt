@@ -19,7 +19,7 @@ use wiring::sets::Set;
 const ABOVE: u64 = SET_EXPONENT as u64 + 1;
 
 // The names that are whole; of the one that is read the powers that are, and then a variable, from 0, with its power so far.
-#[derive(Drop)]
+#[derive(Clone, Copy)]
 pub struct Naming {
     pub names: Set,
     pub mono: Monomial,

@@ -23,7 +23,7 @@ use wiring::{signals, sockets, terms};
 pub const MOST_TEXT: usize = 4096;
 
 // What is said of a listing, and the record of its set: zeros after a refusal.
-#[derive(Drop)]
+#[derive(Clone, Copy)]
 pub struct Heard {
     pub reply: Reply,
     pub set: [u8; SET_BYTES],

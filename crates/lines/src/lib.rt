@@ -2,6 +2,8 @@
 // read. Nothing here reads or writes.
 //
 // Rests on what the crates wiring and monomial promise, and on the kit's decimal and hexadecimal digits.
+#![tactic(auto)]
+
 pub mod answer;
 pub mod case;
 mod digest;

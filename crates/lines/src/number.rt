@@ -4,7 +4,7 @@ ghost use Rattle.lines.specs.Number.{number_from, number_of};
 
 use super::text;
 
-#[derive(Drop)]
+#[derive(Clone, Copy)]
 pub enum Number {
     Of(u64),
     Nothing,

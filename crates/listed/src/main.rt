@@ -3,6 +3,8 @@
 //
 //     listed N MARKS DEGREE < set-record term-records     types
 //     listed N MARKS DEGREE BYTES < term-records text     reads: so many bytes are the term records
+#![tactic(auto)]
+
 mod input;
 mod reading;
 mod typing;

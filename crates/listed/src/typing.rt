@@ -27,7 +27,7 @@ pub(crate) fn input_buffer() -> [u8; INPUT_BYTES]
 
 // The reply of wiring, what the panel makes known to the reader of its listings, and the record of the set, with zeros
 // where it is cut short.
-#[derive(Drop)]
+#[derive(Clone, Copy)]
 pub struct Typing {
     pub reply: Reply,
     pub known: Known,

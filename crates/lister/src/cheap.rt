@@ -10,7 +10,7 @@ use monomial::Monomial;
 use wiring::signals;
 
 // What adds nothing of a pair: the first, which V has or which is the second once more; and the second, which V has.
-#[derive(Drop)]
+#[derive(Clone, Copy)]
 pub struct Held {
     pub first: bool,
     pub second: bool,

@@ -14,7 +14,7 @@ use monomial::width::WIDTH;
 use wiring::signals;
 
 // Where some is true, the cheap pair that begins with a.
-#[derive(Drop)]
+#[derive(Clone, Copy)]
 pub struct Near {
     pub some: bool,
     pub a: Monomial,

@@ -13,7 +13,7 @@ use monomial::Monomial;
 pub const FEW: u64 = 32;
 
 // Where the lister stands: among the cheap pairs or the rest, at a divisor, with so many of that kind listed. many: the cheap ones are found by V.
-#[derive(Drop)]
+#[derive(Clone, Copy)]
 pub struct Place {
     pub rest: bool,
     pub many: bool,
@@ -22,7 +22,7 @@ pub struct Place {
 }
 
 // The pair in hand, which begins with the divisor of its place and is the last that is listed; or none where some is false.
-#[derive(Drop)]
+#[derive(Clone, Copy)]
 pub struct Hand {
     pub some: bool,
     pub at: Place,

@@ -1,5 +1,7 @@
 // The listing that the desktop tool prints: the machine that reads it, and what its bytes say.
 //
 // Rests on the crate reader, which has what a machine of this kind reads and where it stops.
+#![tactic(auto)]
+
 pub mod machine;
 pub mod saying;

@@ -9,7 +9,7 @@ ghost use Rattle.listing.specs.Readable.{alive, ends, listing};
 use reader::Verdict;
 
 // What is asked of the reader: how many variables, which of them are signals (bit i - 1 marks xi), how many new names there may be.
-#[derive(Drop)]
+#[derive(Clone, Copy)]
 pub struct Known {
     pub n: u64,
     pub marks: u64,
@@ -17,7 +17,7 @@ pub struct Known {
 }
 
 // Where in a line the next byte stands.
-#[derive(Drop)]
+#[derive(Clone, Copy)]
 pub enum Place {
     // in the heading
     Heading,
@@ -61,7 +61,7 @@ pub enum Place {
 
 // The place, how many new names and lines of the second part are whole, and a number:
 // the place in a fixed word, or the coefficient so far.
-#[derive(Drop)]
+#[derive(Clone, Copy)]
 pub struct State {
     pub at: Place,
     pub names: u64,
@@ -69,7 +69,7 @@ pub struct State {
     pub number: u64,
 }
 
-#[derive(Drop)]
+#[derive(Clone, Copy)]
 pub enum Reading {
     // no readable listing goes on so
     Dead,

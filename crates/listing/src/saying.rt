@@ -5,7 +5,7 @@ ghost use Rattle.listing.specs.Saying.{name_said, digit_said, star_said, number_
 
 use super::machine::{Known, Place, Reading, State};
 
-#[derive(Drop)]
+#[derive(Clone, Copy)]
 pub enum Saying {
     Silence,
     // in a name line: a variable, from 0; that its exponent follows; a digit of it; that the name is whole

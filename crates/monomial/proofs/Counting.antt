@@ -103,6 +103,7 @@ at_in (x ∷ l) (suc i) d h = there (at_in l i d (omega arith))
 
 -- and a member has a number
 pub in_at : {A : Type 0} (l : List A) (x d : A) → x ∈ l → (i : ℕ) × (i < length l) × (get_or l i d ≡ x)
+in_at {A = A} [] x d x3 = elim x3 [ ]
 in_at (y ∷ l) x d (Memᴰ.head e) = (0, omega arith, sym e)
 in_at (y ∷ l) x d (Memᴰ.tail h) = let k = in_at l x d h in (suc k.0, omega (arith, k.1), k.2)
 

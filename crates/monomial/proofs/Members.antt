@@ -22,6 +22,7 @@ module _ {A : Type 0} where
   -- ---- any
   pub any_in : (f : A → Bool) {x : A} {l : List A} → x ∈ l → T (f x) → T (any f l)
   unfolding any
+  any_in f {l = []} x6 t = elim x6 [ ]
   any_in f {l = y ∷ l} (Memᴰ.head e) t = or_l (f y) (any f l) (subst (λ z. T (f z)) e t)
   any_in f {l = y ∷ l} (Memᴰ.tail h) t = or_r (f y) (any f l) (any_in f h t)
 
@@ -46,6 +47,7 @@ module _ {A : Type 0} where
   -- ---- some
   pub some_in : {x : A} {l : List A} → x ∈ l → T (some l)
   unfolding some
+  some_in {l = []} x'' = elim x'' [ ]
   some_in {l = y ∷ l} (Memᴰ.head e) = tt
   some_in {l = y ∷ l} (Memᴰ.tail h) = tt
 
@@ -67,6 +69,7 @@ module _ {A : Type 0} where
   -- ---- all
   pub all_out : (f : A → Bool) {x : A} {l : List A} → T (all f l) → x ∈ l → T (f x)
   unfolding all
+  all_out f {l = []} t x6 = elim x6 [ ]
   all_out f {l = y ∷ l} t (Memᴰ.head e) = subst (λ z. T (f z)) (sym e) (and_l (f y) (all f l) t)
   all_out f {l = y ∷ l} t (Memᴰ.tail h) = all_out f (and_r (f y) (all f l) t) h
 

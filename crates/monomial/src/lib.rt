@@ -2,6 +2,8 @@
 //
 // Each contract cites one definition of specs/ over lists of exponents of any length; the array of the struct is such a list.
 // Nothing is assumed of an exponent but that it is a byte.
+#![tactic(auto)]
+
 pub mod bytes;
 pub mod degree;
 pub mod divisors;
@@ -15,7 +17,7 @@ ghost use Rattle.monomial.specs.Monomial.{one, constants, width};
 
 use width::WIDTH;
 
-#[derive(Drop)]
+#[derive(Clone, Copy)]
 pub struct Monomial {
     pub e: [u8; WIDTH],
 }

@@ -1,4 +1,6 @@
 // Document 01's program: reads term records, plans and wires once, and writes the lines of the report.
+#![tactic(auto)]
+
 use report::program;
 use wiring::panel::{TERMS_BYTES, WIRES_BYTES};
 

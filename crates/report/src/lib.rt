@@ -2,6 +2,8 @@
 // by one. Only `write_lines` writes, and nothing reads.
 //
 // Rests on what the crates lines, thin, walk and wiring promise.
+#![tactic(auto)]
+
 pub mod line;
 pub mod prepare;
 pub mod program;

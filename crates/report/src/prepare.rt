@@ -11,7 +11,7 @@ use wiring::reply::Reply;
 use wiring::{answers, buffer, reply};
 
 // What planning is asked for. Room is in sets. The set that is wired goes by its number, from 1.
-#[derive(Drop)]
+#[derive(Clone, Copy)]
 pub struct Settings {
     pub n: u64,
     pub marks: u64,
@@ -23,7 +23,7 @@ pub struct Settings {
 }
 
 // The reply, how many bytes of a buffer were lent for sets, and the number of wiring records.
-#[derive(Drop)]
+#[derive(Clone, Copy)]
 pub struct Prepared {
     pub reply: Reply,
     pub lent: usize,

@@ -14,7 +14,7 @@ use wiring::sets;
 use wiring::sets::Set;
 
 // The record of the set that names form, where good is true; otherwise zeros.
-#[derive(Drop)]
+#[derive(Clone, Copy)]
 pub struct Formed {
     pub good: bool,
     pub record: [u8; SET_BYTES],

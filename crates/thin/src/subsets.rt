@@ -16,7 +16,7 @@ use wiring::sets::Set;
 use wiring::{answers, buffer};
 
 // What the subsets that were sifted come to: the least size of a quadratic one, how many of them have it, and how many subsets were sifted: the steps.
-#[derive(Drop)]
+#[derive(Clone, Copy)]
 pub struct Best {
     pub order: usize,
     pub count: usize,

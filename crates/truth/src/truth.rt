@@ -23,7 +23,7 @@ pub const PAIR_CELLS: usize = MOST_SIGNALS * MOST_SIGNALS;
 
 // The totals of a line, that of each product of two signals in the cell of its first pair. So no two products share a cell, and a product that is
 // written in several ways has one.
-#[derive(Drop)]
+#[derive(Clone, Copy)]
 pub struct Sums {
     pub cells: [i64; PAIR_CELLS],
 }

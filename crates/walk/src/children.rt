@@ -17,7 +17,7 @@ use wiring::panel::Panel;
 use wiring::{buffer, sockets};
 
 // Where go is true, a child that is opened: so many monomials of the buffer.
-#[derive(Drop)]
+#[derive(Clone, Copy)]
 pub struct Tried {
     pub go: bool,
     pub len: usize,

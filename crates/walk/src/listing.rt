@@ -12,7 +12,7 @@ ghost use Rattle.walk.specs.Listing.{Lies, Shown, KeptAs};
 use wiring::panel::SET_BYTES;
 
 // What keeping a find comes to: the new count, or no room.
-#[derive(Drop)]
+#[derive(Clone, Copy)]
 pub enum Kept {
     Held(usize),
     NoRoom,

@@ -18,7 +18,7 @@ use wiring::panel::{Panel, SET_BYTES};
 use wiring::quadratic;
 
 // What stays the same through a level; cancels, where a total may be 0.
-#[derive(Drop)]
+#[derive(Clone, Copy)]
 pub struct Frame {
     pub panel: Panel,
     pub level: usize,
@@ -27,14 +27,14 @@ pub struct Frame {
 }
 
 // The steps taken and the number of finds.
-#[derive(Drop)]
+#[derive(Clone, Copy)]
 pub struct State {
     pub steps: u64,
     pub count: usize,
 }
 
 // How a turn ends: the walk goes on, the next step would pass the limit, or a find had no room after so many steps.
-#[derive(Drop)]
+#[derive(Clone, Copy)]
 pub enum Turn {
     Going(State),
     Spent,
@@ -42,7 +42,7 @@ pub enum Turn {
 }
 
 // What opening a set comes to: its turn, and where split is true the nonsquare whose pairs are to be run.
-#[derive(Drop)]
+#[derive(Clone, Copy)]
 pub struct Opened {
     pub turn: Turn,
     pub split: bool,

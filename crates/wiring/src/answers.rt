@@ -15,7 +15,7 @@ use super::wires::Pass;
 use super::{buffer, sets, signals, sockets, terms, wires};
 
 // What was given: the set of the record where good is true, and else why it is refused before it is judged.
-#[derive(Drop)]
+#[derive(Clone, Copy)]
 pub struct Given {
     pub good: bool,
     pub said: Reply,

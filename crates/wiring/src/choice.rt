@@ -7,7 +7,7 @@ ghost use Rattle.wiring.specs.Choice.{cheaper, Best};
 use monomial::Monomial;
 
 // A monomial, where some is true.
-#[derive(Drop)]
+#[derive(Clone, Copy)]
 pub struct Pick {
     pub some: bool,
     pub m: Monomial,

@@ -1,6 +1,8 @@
 // Derivatives and wiring: term and set records with their refusals, V and V2, nonsquares, verdict and wiring list in one, the reply.
 //
 // Rests on what the crate monomial promises. Every operation takes its bytes as they are and refuses what breaks a rule.
+#![tactic(auto)]
+
 pub mod answers;
 pub mod buffer;
 pub mod choice;

@@ -50,7 +50,7 @@ pub const MOST_STEPS: u64 = 1000000000;
 
 // The settings travel together: how many variables there are, which of them are signals fed from outside, bit i - 1 for xi, and the kit's limit on the
 // total degree of a new monomial.
-#[derive(Drop)]
+#[derive(Clone, Copy)]
 pub struct Panel {
     pub n: usize,
     pub marks: u64,

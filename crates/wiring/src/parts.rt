@@ -14,7 +14,7 @@ use super::{choice, coefficient, derivative};
 use monomial::Monomial;
 
 // A monomial of a derivative with its total, where the pick is some.
-#[derive(Drop)]
+#[derive(Clone, Copy)]
 pub struct Part {
     pub pick: Pick,
     pub total: i32,

@@ -2,7 +2,7 @@
 ghost use Rattle.std.specs.Prelude.{◌≡◌};
 ghost use Rattle.wiring.specs.Reply.{numbers, in_order};
 
-#[derive(Drop)]
+#[derive(Clone, Copy)]
 pub enum Reply {
     Done { order: u64, count: u64, steps: u64 },
     Setting,

@@ -11,14 +11,14 @@ use super::{sockets, terms};
 use monomial::Monomial;
 use monomial::width::{CONSTANTS, WIDTH};
 
-#[derive(Drop)]
+#[derive(Clone, Copy)]
 pub struct Set {
     pub m: [Monomial; CARDS],
     pub len: usize,
 }
 
 // The set in a record, where good is true.
-#[derive(Drop)]
+#[derive(Clone, Copy)]
 pub struct SetRead {
     pub good: bool,
     pub set: Set,

@@ -15,7 +15,7 @@ use monomial::Monomial;
 use monomial::width::WIDTH;
 
 // 1, the variables, the new monomials.
-#[derive(Drop)]
+#[derive(Clone, Copy)]
 pub struct Signals {
     pub m: [Monomial; MOST_SIGNALS],
     pub len: usize,

@@ -13,7 +13,7 @@ use monomial::Monomial;
 use monomial::width::WIDTH;
 
 // The first record with a fault decides; places count from 1.
-#[derive(Drop)]
+#[derive(Clone, Copy)]
 pub enum Fault {
     Clean,
     Wrong(u64),

@@ -17,7 +17,7 @@ use super::{coefficient, derivative, parts};
 use monomial::Monomial;
 
 // The numbers of two signals, where some is true.
-#[derive(Drop)]
+#[derive(Clone, Copy)]
 pub struct Pair {
     pub some: bool,
     pub a: usize,
@@ -33,14 +33,14 @@ impl Pair {
 }
 
 // How far the list has come. It is longer than the buffer holds where ok is false, and then at counts no further.
-#[derive(Drop)]
+#[derive(Clone, Copy)]
 pub struct Written {
     pub ok: bool,
     pub at: usize,
 }
 
 // What a pass comes to: every derivative is met and the list has come so far, or that of this left variable is not.
-#[derive(Drop)]
+#[derive(Clone, Copy)]
 pub enum Pass {
     Through(Written),
     Unmet(usize),

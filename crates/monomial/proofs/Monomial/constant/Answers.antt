@@ -7,8 +7,7 @@ use lib.Dec.{ltb}
 use lib.ListN.{get_or, get_or-eq_default}
 use Rattle.monomial.specs.Monomial.{vars, one, constants, width}
 use Rattle.monomial.proofs.Tests.{Tested, passed, failed, test}
-use Rattle.monomial.proofs.Monomial.constant.Statement.{statement}
-use Rattle.monomial.proofs.Monomial.constant.Tie as tie
+use Rattle.monomial.proofs.Monomial.constant.Goals as goal
 
 -- a number that no variable has
 else_one : (i : ℕ) → (i < suc width → i ≡ 0) → one width ≡ get_or (constants width) i (one width)
@@ -19,33 +18,29 @@ else_one i h = go (test (ltb i (suc width)))
     go (passed e) = rw (h (ltb-true i (suc width) e))
     go (failed e) = sym (get_or-eq_default (constants width) (one width) {n = i} (ltb-false i (suc width) e))
 
-returns : tie.Need-returns
+pub returns-in-1 : goal.returns-in-1
 unfolding vars
-returns c = rw c.match.keys1
+returns-in-1 c = rw c.in-1.is
 
-returns_2 : tie.Need-returns-2
+pub returns-in-2 : goal.returns-in-2
 unfolding vars
-returns_2 c = rw c.match.keys2
+returns-in-2 c = rw c.in-2.is
 
-returns_3 : tie.Need-returns-3
+pub returns-in-3 : goal.returns-in-3
 unfolding vars
-returns_3 c = rw c.match.keys3
+returns-in-3 c = rw c.in-3.is
 
-returns_4 : tie.Need-returns-4
+pub returns-in-4 : goal.returns-in-4
 unfolding vars
-returns_4 c = rw c.match.keys4
+returns-in-4 c = rw c.in-4.is
 
-returns_5 : tie.Need-returns-5
+pub returns-in-5 : goal.returns-in-5
 unfolding vars
-returns_5 c = rw c.match.keys5
+returns-in-5 c = rw c.in-5.is
 
-returns_6 : tie.Need-returns-6
+pub returns-in-6 : goal.returns-in-6
 unfolding vars
-returns_6 c = rw c.match.keys6
+returns-in-6 c = rw c.in-6.is
 
-returns_7 : tie.Need-returns-7
-returns_7 c = else_one c.before.args.i (λ h. omega arith)
-
-pub constant_spec : {M : Type 1} → statement M
-constant_spec =
-    tie.close (tie.spec returns returns_2 returns_3 returns_4 returns_5 returns_6 returns_7)
+pub returns-in_default : goal.returns-in_default
+returns-in_default c = else_one c.args.i (λ h. omega arith)

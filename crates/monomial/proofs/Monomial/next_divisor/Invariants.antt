@@ -1,0 +1,11 @@
+-- `Monomial::next_divisor` meets its contract: the loop carries from the last exponent on (`Carrying`). Assumes nothing.
+use Prim.Native.Nat.{◌-◌}
+use Rattle.monomial.specs.Monomial.{width}
+use Rattle.monomial.proofs.divisors.Following.{Carrying}
+use Rattle.monomial.proofs.Monomial.next_divisor.Given as goal
+
+abbrev pub invariant-loop-i : goal.invariant-loop-i
+invariant-loop-i l = Carrying width l.top l.initial.r l.r l.i
+
+abbrev pub decreases-loop-i : goal.decreases-loop-i
+decreases-loop-i l = l.i

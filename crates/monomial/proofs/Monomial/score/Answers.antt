@@ -1,0 +1,43 @@
+-- `Monomial::score` meets its contract: the product so far, times that of the places left, is the score. Assumes nothing.
+use mathlib.Core.Path.{◌≡◌}
+use Prim.Native.Nat.{ℕ, ◌+◌, ◌*◌, ◌-◌, ◌^◌, ◌≤◌}
+use native.Mathlib.Omega.{arith}
+use lib.ListN.{length, get_or, drop}
+use mir.Val.{Fits}
+use mir.Syntax.{w8}
+use Rattle.monomial.specs.Divisors.{score}
+use Rattle.monomial.proofs.divisors.Laws.{score_on, score_end, score_part, score_bytes}
+use borrow.Author.Rules.{rules}
+use Rattle.monomial.specs.Monomial.{width}
+use Rattle.monomial.proofs.Monomial.score.Goals as goal
+
+pub loop-i-init : goal.loop-i-init
+loop-i-init c = (omega arith, omega arith)
+
+pub overflow_mul-r : goal.overflow_mul-r
+overflow_mul-r c =
+    let s = c in
+    let es = s.args.self.e in
+    let l : length es ≡ width = search rules in
+    let bytes : (k : ℕ) → Fits w8 (get_or es k 0) = λ k. search rules in
+    let k = c.loop-i in
+    let more = score_on es k.i k.r (omega arith) k.invariant.1 in
+    let part : (c.wide.result + 1) * k.r ≤ score es = rw c.wide.ensures.0 (score_part es (k.i + 1) ((get_or es k.i 0 + 1) * k.r) more) in
+    let most : score es ≤ 256 ^ width = score_bytes es width l bytes in
+    record { fits = omega arith }
+
+pub loop-i-preserved : goal.loop-i-preserved
+loop-i-preserved c =
+    let es = c.args.self.e in
+    let l : length es ≡ width = search rules in
+    let k = c.loop-i in
+    (omega arith, rw c.wide.ensures.0 (score_on es k.i k.r (omega arith) k.invariant.1))
+
+pub returns : goal.returns
+returns c =
+    let es = c.args.self.e in
+    let l : length es ≡ width = search rules in
+    let k = c.loop-i in
+    let e : score (drop k.i es) ≡ 1 = score_end es k.i (omega arith) in
+    let h : k.r * 1 ≡ score es = rw e at k.invariant.1 in
+    omega arith
