@@ -208,21 +208,21 @@ module _ (bytes : List ℕ) (clean : CleanTerms bytes) where
   total_held z m lz a x e = to_z-of_z w32 x (size_fits w32 x (rw e (total_fits z m lz a))) ∙ e
 
 -- ---- a loop that adds the records up in 32 bits, sum so far, and has come to record number t
-pub record Adding (bytes : List ℕ) (z m : Mono) (sum t : ℕ) : Type 0 where
+pub record Adding (bytes : List ℕ) (z m : Mono) (sum : ℤ) (t : ℕ) : Type 0 where
   pub clean : CleanTerms bytes
   pub long : length z ≡ width
   pub small : AtMost set_exponent z
-  pub so_far : to_z w32 sum ≡ summed (take t (records bytes)) z m
+  pub so_far : sum ≡ summed (take t (records bytes)) z m
 
-pub adding_start : (bytes : List ℕ) (z m : Mono) → CleanTerms bytes → length z ≡ width → AtMost set_exponent z → Adding bytes z m 0 0
+pub adding_start : (bytes : List ℕ) (z m : Mono) → CleanTerms bytes → length z ≡ width → AtMost set_exponent z → Adding bytes z m (pos 0) 0
 unfolding added_up
 adding_start bytes z m c l a = record { clean = c; long = l; small = a; so_far = refl }
 
-pub adding_ends : {bytes : List ℕ} {z m : Mono} {sum t : ℕ} → Adding bytes z m sum t → length bytes / term_bytes ≤ t
-    → to_z w32 sum ≡ coeff plain (derivative plain (system (records bytes)) z) m
+pub adding_ends : {bytes : List ℕ} {z m : Mono} {sum : ℤ} {t : ℕ} → Adding bytes z m sum t → length bytes / term_bytes ≤ t
+    → sum ≡ coeff plain (derivative plain (system (records bytes)) z) m
 adding_ends {bytes} {z} {m} {sum} {t} a h = a.so_far ∙ sum_ends bytes a.clean z m t (rw (records_length bytes) h)
 
-module _ {bytes : List ℕ} {z m : Mono} {sum t : ℕ} (a : Adding bytes z m sum t) (h : t < length bytes / term_bytes) where
+module _ {bytes : List ℕ} {z m : Mono} {sum : ℤ} {t : ℕ} (a : Adding bytes z m sum t) (h : t < length bytes / term_bytes) where
   -- the sum with record number t
   next_is : summed (take (t + 1) (records bytes)) z m ≡ summed (take t (records bytes)) z m +ℤ contribution (record_at bytes t) z m
   next_is =
@@ -269,19 +269,19 @@ module _ {bytes : List ℕ} {z m : Mono} {sum t : ℕ} (a : Adding bytes z m sum
         rw plain_product (size_fits w32 (pos k *ℤ x) (omega arith))
 
     module _ (y : Mono) (y_is : y ≡ image (record_at bytes t) z) (hit : same y m ≡ true) where
-      added : to_z w32 sum +ℤ to_z w32 (of_z w32 product) ≡ summed (take (t + 1) (records bytes)) z m
+      added : sum +ℤ to_z w32 (of_z w32 product) ≡ summed (take (t + 1) (records bytes)) z m
       added =
           let r = record_at bytes t in
           let own = adds_hit plain mono_order (λ x. x) r z m (rw (← y_is) hit) ∙ ap₂ (λ (i : ℕ) (y : ℤ). pos i *ℤ y) (sym k_is) (sym x_is) in
           ap₂ ◌+ℤ◌ a.so_far (to_z-of_z w32 product product_fits ∙ plain_product ∙ sym own) ∙ sym next_is
 
-      pub sum_of_fits : SFits w32 (to_z w32 sum +ℤ to_z w32 (of_z w32 product))
+      pub sum_of_fits : SFits w32 (sum +ℤ to_z w32 (of_z w32 product))
       sum_of_fits = rw added (size_fits w32 (summed (take (t + 1) (records bytes)) z m) (sum_fits bytes a.clean z m a.long a.small (t + 1)))
 
-      pub adding_hit : Adding bytes z m (of_z w32 (to_z w32 sum +ℤ to_z w32 (of_z w32 product))) (t + 1)
+      pub adding_hit : Adding bytes z m (to_z w32 (of_z w32 (sum +ℤ to_z w32 (of_z w32 product)))) (t + 1)
       adding_hit = record {
         clean = a.clean;
         long = a.long;
         small = a.small;
-        so_far = to_z-of_z w32 (to_z w32 sum +ℤ to_z w32 (of_z w32 product)) sum_of_fits ∙ added;
+        so_far = to_z-of_z w32 (sum +ℤ to_z w32 (of_z w32 product)) sum_of_fits ∙ added;
       }

@@ -1,0 +1,24 @@
+-- `clear` meets its contract: the loop fills the buffer with zeros place by place (`Filling`). Assumes nothing.
+use mathlib.Core.Path.{refl, sym}
+use Prim.Native.Nat.{◌-◌}
+use native.Mathlib.Omega.{arith}
+use lib.ListN.{length, length-replicate, get_or-replicate}
+use Rattle.monomial.proofs.Loops.{filling_start, filling_next, filling_end}
+use Rattle.wiring.proofs.buffer.clear.Goals as goal
+
+pub loop-i-init : goal.loop-i-init
+loop-i-init c = filling_start 0 _ _ _ refl
+
+pub loop-i-preserved : goal.loop-i-preserved
+loop-i-preserved c =
+    let l = length c.args.out.now in
+    let k = c.loop-i in
+    filling_next 0 0 k.invariant (omega arith) (length-replicate l 0) (sym (get_or-replicate l k.i 0 0 (omega arith)))
+
+pub shape_of-out : goal.shape_of-out
+shape_of-out c = c.loop-i.invariant.long
+
+pub returns : goal.returns
+returns c =
+    let l = length c.args.out.now in
+    filling_end 0 c.loop-i.invariant (omega arith) (length-replicate l 0)

@@ -1,0 +1,55 @@
+-- `derivative::image` meets its contract: the exponent of the record's variable falls by one, then the product. Assumes nothing.
+use mathlib.Core.Path.{◌≡◌, sym, subst, ◌∙◌}
+use native.Mathlib.Omega.{arith}
+use lib.ListN.{length}
+use Rattle.monomial.specs.Product.{FitsBytes}
+use Rattle.monomial.proofs.product.Laws.{at_most_weaken}
+use Rattle.wiring.specs.Terms.{record_at}
+use Rattle.wiring.specs.Derivative.{image}
+use Rattle.wiring.proofs.terms.Laws.{clean_at}
+use Rattle.wiring.proofs.derivative.Records.{image_made}
+use Rattle.wiring.proofs.derivative.Bounds.{image_fits}
+use borrow.Author.Rules.{rules}
+use Rattle.monomial.specs.Monomial.{width}
+use Rattle.wiring.specs.Panel.{term_exponent}
+use Rattle.wiring.proofs.derivative.image.Goals as goal
+
+pub overflow_sub-i : goal.overflow_sub-i
+overflow_sub-i c =
+    let s = c in
+    omega (arith, c.wide-i.ensures.0, (clean_at s.args.terms.now s.requires.0 s.args.t (omega arith)).low)
+
+pub bounds-e-i : goal.bounds-e-i
+bounds-e-i c =
+    let s = c in
+    omega (arith, c.wide-i.ensures.0, (clean_at s.args.terms.now s.requires.0 s.args.t (omega arith)).high)
+
+pub overflow_sub-e : goal.overflow_sub-e
+overflow_sub-e c =
+    let s = c in
+    rw c.wide-i.ensures.0 s.requires.1.1.0
+
+pub bounds-e-i-2 : goal.bounds-e-i-2
+bounds-e-i-2 c =
+    let s = c in
+    omega (arith, c.wide-i.ensures.0, (clean_at s.args.terms.now s.requires.0 s.args.t (omega arith)).high)
+
+pub times-requires : goal.times-requires
+times-requires c =
+    let at_wide = c in
+    let s = at_wide in
+    let r = record_at s.args.terms.now s.args.t in
+    let z = s.args.z.e in
+    let h = clean_at s.args.terms.now s.requires.0 s.args.t (omega arith) in
+    let made = image_made r z _ _ _ at_wide.wide-i.ensures.0 c.of.ensures c.read.ensures in
+    let six : length z ≡ width = search rules in
+    let fits = (image_fits r term_exponent 200 z h.long h.small six s.requires.1.1.1).1 in
+    subst FitsBytes (sym made) (at_most_weaken (image r z) (omega arith) fits)
+
+pub returns : goal.returns
+returns c =
+    let at_wide = c in
+    let s = at_wide in
+    let r = record_at s.args.terms.now s.args.t in
+    let made = image_made r s.args.z.e _ _ _ at_wide.wide-i.ensures.0 c.of.ensures c.read.ensures in
+    c.times.ensures ∙ made

@@ -1,0 +1,22 @@
+-- `derivative::power` meets its contract: the exponent at the record's variable. Assumes nothing.
+use mathlib.Core.Path.{ap}
+use Prim.Native.Nat.{ℕ, ◌-◌}
+use native.Mathlib.Omega.{arith}
+use lib.ListN.{get_or}
+use Rattle.wiring.proofs.terms.Laws.{clean_at}
+use Rattle.wiring.proofs.derivative.power.Goals as goal
+
+pub overflow_sub-i : goal.overflow_sub-i
+overflow_sub-i c =
+    let s = c in
+    omega (arith, c.wide-i.ensures.0, (clean_at s.args.terms.now s.requires.0 s.args.t (omega arith)).low)
+
+pub bounds-e-i : goal.bounds-e-i
+bounds-e-i c =
+    let s = c in
+    omega (arith, c.wide-i.ensures.0, (clean_at s.args.terms.now s.requires.0 s.args.t (omega arith)).high)
+
+pub returns : goal.returns
+returns c =
+    let s = c in
+    ap (λ (i : ℕ). get_or s.args.z.e (i - 1) 0) c.wide-i.ensures.0

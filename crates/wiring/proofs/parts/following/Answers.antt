@@ -1,0 +1,50 @@
+-- `following` meets its contract: the tests of the code are those of `gives`, in its order. Assumes nothing.
+use mathlib.Core.Path.{refl, sym, ◌∙◌}
+use Rattle.wiring.specs.Choice.{beyond}
+use native.Mathlib.Omega.{arith}
+use Rattle.monomial.proofs.product.Laws.{at_most_weaken}
+use Rattle.wiring.specs.Terms.{record_at}
+use Rattle.wiring.proofs.quadratic.Records.{given_low, given_fails, given_here}
+use Rattle.wiring.proofs.parts.following.Goals as goal
+
+pub power-requires : goal.power-requires
+power-requires c =
+    let p = c.requires in
+    (p.0, p.1.0)
+
+pub returns-then-power-lt1 : goal.returns-then-power-lt1
+returns-then-power-lt1 c =
+    let a = c.args in
+    let l = a.terms.now in
+    given_low (beyond a.last) a.z.e (record_at l a.t) c.power.result _ c.power.ensures c.if-power-lt1.true refl
+
+pub image-m-requires : goal.image-m-requires
+image-m-requires c =
+    let s = c in
+    let raised = c.power.ensures in
+    let low = c.if-power-lt1.false in
+    (s.requires.0, (s.requires.1.0, (omega arith, at_most_weaken s.args.z.e (omega arith) s.requires.1.1)))
+
+pub returns-then-not-is_beyond : goal.returns-then-not-is_beyond
+returns-then-not-is_beyond c =
+    let at_if1 = c in
+    let at_power = at_if1 in
+    let start = at_power in
+    let a = start.args in
+    let l = a.terms.now in
+    let x = at_power.power in
+    let m = c.image-m in
+    given_fails (beyond a.last) a.z.e (record_at l a.t) x.result m.result.e x.ensures
+    at_if1.if-power-lt1.false m.ensures _ (sym c.is_beyond.ensures ∙ c.if-not-is_beyond.true) refl
+
+pub returns : goal.returns
+returns c =
+    let at_if1 = c in
+    let at_power = at_if1 in
+    let start = at_power in
+    let a = start.args in
+    let l = a.terms.now in
+    let x = at_power.power in
+    let m = c.image-m in
+    given_here (beyond a.last) a.z.e (record_at l a.t) x.result m.result.e x.ensures
+    at_if1.if-power-lt1.false m.ensures _ (sym c.is_beyond.ensures ∙ c.if-not-is_beyond.false) refl refl

@@ -1,0 +1,45 @@
+-- `size_of` meets its contract: the loop looks for the first place that is all zero (`Placing`). Assumes nothing.
+use mathlib.Core.Path.{sym, ap, ◌∙◌}
+use mathlib.Core.List.{[]}
+use Prim.Native.Nat.{◌-◌, ◌≤◌}
+use native.Mathlib.Omega.{arith}
+use Rattle.monomial.specs.Monomial.{one, width}
+use Rattle.monomial.specs.Order.{same}
+use Rattle.monomial.proofs.Loops.{placing_start, placing_found, placing_on, placing_ends}
+use Rattle.wiring.specs.Sets.{size_of}
+use Rattle.wiring.proofs.sets.Laws.{places_length, places_at}
+use Rattle.wiring.specs.Panel.{cards}
+use Rattle.wiring.proofs.sets.size_of.Goals as goal
+
+pub loop-i-init : goal.loop-i-init
+loop-i-init c = placing_start _ _
+
+pub returns-then-same : goal.returns-then-same
+unfolding size_of
+returns-then-same c =
+    let at_loop = c in
+    let start = at_loop in
+    let bytes = start.args.s.now in
+    let i = at_loop.loop-i.i in
+    let read = c.read.ensures in
+    let here = ap (same (one width)) (places_at bytes i [] (omega arith) ∙ sym read) ∙ sym c.same.ensures ∙ c.if-same.true in
+    (placing_found _ [] at_loop.loop-i.invariant (omega (arith, places_length bytes)) here, omega arith)
+
+pub loop-i-preserved : goal.loop-i-preserved
+loop-i-preserved c =
+    let at_loop = c in
+    let start = at_loop in
+    let bytes = start.args.s.now in
+    let i = at_loop.loop-i.i in
+    let read = c.read.ensures in
+    let here = ap (same (one width)) (places_at bytes i [] (omega arith) ∙ sym read) ∙ sym c.same.ensures ∙ c.if-same.false in
+    placing_on _ [] at_loop.loop-i.invariant (omega (arith, places_length bytes)) here
+
+pub returns : goal.returns
+unfolding size_of
+returns c =
+    let bytes = c.args.s.now in
+    let long = places_length bytes in
+    let h : c.loop-i.i ≤ cards = omega (arith, c.loop-i.invariant.within) in
+    let all = placing_ends _ c.loop-i.invariant (omega arith) in
+    (omega arith, h)

@@ -1,0 +1,71 @@
+-- `wire_rows` meets its contract: the first signals are met and their rows written, and the others make the list whole (`Listing`).
+-- Assumes nothing.
+use mathlib.Core.Path.{◌≡◌, refl, ◌∙◌, subst}
+use mathlib.Core.List.{[]}
+use Prim.Native.Nat.{◌-◌, ◌<◌, ◌≤◌}
+use native.Mathlib.Omega.{arith}
+use borrow.Author.Rules.{rules}
+use lib.ListN.{length, get_or}
+use Rattle.wiring.specs.Panel.{most_signals}
+use Rattle.wiring.specs.Poly.{plain}
+use Rattle.wiring.specs.Derivative.{derivative}
+use Rattle.wiring.specs.Signals.{signals_of}
+use Rattle.wiring.specs.Terms.{records, system}
+use Rattle.wiring.specs.Wires.{RowPassed}
+use Rattle.wiring.specs.declared.wires.Pass.{Pass}
+use Rattle.wiring.proofs.signals.Arrays.{array_length, front_length}
+use Rattle.wiring.proofs.wires.Sheets.{listing_start, listing_more, listing_unmet, listing_ends}
+use Rattle.wiring.proofs.wires.wire_rows.Goals as goal
+
+pub loop-left-init : goal.loop-left-init
+loop-left-init c =
+    let s = c in
+    (refl, (refl, listing_start (signals_of s.args.v) _ _ s.args.out.now s.requires.1.1.1))
+
+pub wire_row-requires : goal.wire_row-requires
+wire_row-requires c =
+    let s = c in
+    (s.requires.0, (s.requires.1.0, (omega arith, s.requires.1.1.0)))
+
+pub shape_of-out-in_default : goal.shape_of-out-in_default
+shape_of-out-in_default c = c.wire_row.auto.out ∙ c.loop-left.invariant.1.0
+
+pub returns-in_default : goal.returns-in_default
+returns-in_default c =
+    let s = c in
+    let v = s.args.v in
+    let room : length v.m ≡ most_signals = search (rules, array_length) in
+    let k = c.loop-left in
+    let d = derivative plain (system (records s.args.terms.now)) in
+    let w = c.wire_row in
+    let out = w.new.out in
+    let l = k.invariant.1.1 in
+    let few : k.left < length (signals_of v) = omega (arith, front_length v.len v.m (omega arith)) in
+    let row = subst (λ (p : Pass). RowPassed plain (signals_of v) k.left (d (get_or (signals_of v) k.left [])) l.done p out) c.in_default.is (w.ensures l.done l.wrote) in
+    listing_unmet (signals_of v) d l few _ out row
+
+pub loop-left-preserved : goal.loop-left-preserved
+loop-left-preserved c =
+    let s = c in
+    let v = s.args.v in
+    let room : length v.m ≡ most_signals = search (rules, array_length) in
+    let k = c.loop-left in
+    let d = derivative plain (system (records s.args.terms.now)) in
+    let w = c.wire_row in
+    let out = w.new.out in
+    let l = k.invariant.1.1 in
+    let few : k.left < length (signals_of v) = omega (arith, front_length v.len v.m (omega arith)) in
+    let row = subst (λ (p : Pass). RowPassed plain (signals_of v) k.left (d (get_or (signals_of v) k.left [])) l.done p out) c.in-Through.is (w.ensures l.done l.wrote) in
+    (k.invariant.0, (w.auto.out ∙ k.invariant.1.0, listing_more (signals_of v) d l few _ out row))
+
+pub shape_of-out : goal.shape_of-out
+shape_of-out c = c.loop-left.invariant.1.0
+
+pub returns : goal.returns
+returns c =
+    let s = c in
+    let v = s.args.v in
+    let room : length v.m ≡ most_signals = search (rules, array_length) in
+    let k = c.loop-left in
+    let all : length (signals_of v) ≤ k.left = omega (arith, front_length v.len v.m (omega arith)) in
+    listing_ends (signals_of v) _ k.invariant.1.1 all
