@@ -4,12 +4,12 @@ use mathlib.Core.Path.{◌≡◌, refl, sym, ap, ◌∙◌}
 use mathlib.Core.Logic.{◌↔◌}
 use mathlib.Core.Bool.{Bool, true, false, cond}
 use mathlib.Core.List.{List, [], ◌∷◌, ◌++◌}
-use Prim.Native.Nat.{ℕ, zero, suc, ◌+◌, ◌≤◌, ◌<◌}
+use Prim.Native.Nat.{ℕ, zero, suc, ◌≤◌, ◌<◌}
 use native.Mathlib.Omega.{arith}
 use lib.Dec.{ltb}
 use lib.ListN.{length, take}
 use borrow.Author.Tests.{ltb-true, ltb-false}
-use Rattle.reader.specs.Reader.{Reader, run, readable, lasts, place, GoesOn, Placed, Lively}
+use Rattle.reader.specs.Reader.{Reader, run, lasts, place, GoesOn, Placed, Lively}
 use Rattle.monomial.proofs.Tests.{Tested, passed, failed, test, is_not}
 
 module _ (m : Reader) where

@@ -4,7 +4,7 @@
 -- Assumes nothing.
 use Rattle.std.specs.Prelude.{◌≡◌, Bool, not, cond, List, [], ◌∷◌, map, ℕ, ◌-◌, ℤ, pos, ◌+ℤ◌, ◌*ℤ◌, length, get_or, set}
 use Rattle.monomial.specs.Lists.{keep, arrange_by}
-use Rattle.monomial.specs.Monomial.{Mono, one, vars, width}
+use Rattle.monomial.specs.Monomial.{Mono, one, vars}
 use Rattle.monomial.specs.Order.{same, before}
 use Rattle.monomial.specs.Product.{mul}
 use Rattle.wiring.specs.Coefficient.{is_zero}

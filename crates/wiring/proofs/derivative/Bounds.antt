@@ -18,7 +18,7 @@ use mir.ValLaws.{to_z_pos, to_z-of_z}
 use Rattle.monomial.specs.Lists.{keep, below}
 use Rattle.monomial.specs.Monomial.{Mono, width}
 use Rattle.monomial.specs.Order.{same}
-use Rattle.monomial.specs.Product.{mul, AtMost}
+use Rattle.monomial.specs.Product.{AtMost}
 use Rattle.monomial.specs.Claims.{◌∈◌}
 use Rattle.monomial.proofs.Tests.{Tested, passed, failed, test, is→T}
 use Rattle.monomial.proofs.Members.{here, there, take_in}

@@ -14,7 +14,6 @@ use lib.ListN.{length, get_or, set, take, length-map, get_or-eq_default}
 use lib.Seq.{take-suc}
 use Rattle.monomial.specs.Lists.{keep, below}
 use Rattle.monomial.specs.Monomial.{Mono, width}
-use Rattle.monomial.specs.Order.{same}
 use Rattle.monomial.specs.Product.{mul}
 use Rattle.monomial.specs.Claims.{◌∈◌, Order}
 use Rattle.monomial.proofs.Tests.{Tested, passed, failed, test, is→T}

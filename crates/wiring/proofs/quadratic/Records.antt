@@ -12,7 +12,7 @@ use lib.IntN.{pos}
 use lib.ListN.{length, get_or}
 use Rattle.monomial.specs.Lists.{any, some, keep, gather}
 use Rattle.monomial.specs.Monomial.{Mono}
-use Rattle.monomial.specs.Order.{same, before}
+use Rattle.monomial.specs.Order.{before}
 use Rattle.monomial.specs.Claims.{◌∈◌, ◌⊆◌, Ascending}
 use Rattle.monomial.proofs.Tests.{and_l, and_r, and_i, T→is, n_t→is, is→T, is→n_t, Tested, passed, failed, test}
 use Rattle.monomial.proofs.Members.{any_in, any_out, Passing, some_in, some_out, keep_in, keep_out}

@@ -2,7 +2,7 @@
 use mathlib.Core.Path.{◌≡◌, refl, sym, ap, ◌∙◌}
 use mathlib.Core.Bool.{Bool, true, false, not, cond}
 use mathlib.Core.List.{List, [], ◌∷◌, ◌++◌, map}
-use Prim.Native.Nat.{ℕ, zero, suc, ◌+◌, ◌-◌, ◌*◌, ◌<◌, ◌≤◌}
+use Prim.Native.Nat.{ℕ, zero, suc, ◌+◌, ◌*◌, ◌<◌, ◌≤◌}
 use native.Mathlib.Nat.{mul-le-mul_left, mul-le-mul_right, le_of_eq}
 use native.Mathlib.Omega.{arith}
 use borrow.Author.Tests.{eqb-true}
@@ -11,8 +11,6 @@ use lib.IntN.{pos, ◌*ℤ◌}
 use lib.ListN.{length, get_or, take, drop, length-map, length-append, take-append-drop}
 use Rattle.monomial.specs.Lists.{keep, arrange_by, below}
 use Rattle.monomial.specs.Monomial.{Mono, one, vars, constants, width}
-use Rattle.monomial.specs.Order.{same, before}
-use Rattle.monomial.specs.Product.{mul}
 use Rattle.monomial.specs.Claims.{◌∈◌, Ascending}
 use Rattle.monomial.proofs.Tests.{cond_cases, Tested, passed, failed, test}
 use Rattle.monomial.proofs.Members.{keep_none, keep_no, keep_append, keep_length, fill_at}

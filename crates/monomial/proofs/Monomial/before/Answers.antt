@@ -1,5 +1,4 @@
 -- `Monomial::before` meets its contract: the loop compares place by place (`Comparing`). Assumes nothing.
-use Prim.Native.Nat.{◌-◌}
 use native.Mathlib.Omega.{arith}
 use lib.Dec.{lt→ltb}
 use Rattle.monomial.proofs.Loops.{comparing_start}

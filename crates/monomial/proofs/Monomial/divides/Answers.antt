@@ -1,5 +1,4 @@
 -- `Monomial::divides` meets its contract: the loop compares place by place (`Comparing`). Assumes nothing.
-use Prim.Native.Nat.{◌-◌}
 use native.Mathlib.Omega.{arith}
 use borrow.Author.Tests.{lt-leb, le-leb}
 use lib.Dec.{leb}

@@ -1,6 +1,5 @@
 -- `Monomial::is_within` meets its contract: the loop tests the exponents from number n on (`CheckingFrom`). Assumes nothing.
 use mathlib.Core.Path.{◌≡◌, refl, sym}
-use Prim.Native.Nat.{◌-◌}
 use native.Mathlib.Omega.{arith}
 use borrow.Author.Tests.{eq-eqb, ne_eqb}
 use borrow.Author.Rules.{rules}

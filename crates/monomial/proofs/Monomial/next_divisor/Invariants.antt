@@ -1,5 +1,4 @@
 -- `Monomial::next_divisor` meets its contract: the loop carries from the last exponent on (`Carrying`). Assumes nothing.
-use Prim.Native.Nat.{◌-◌}
 use Rattle.monomial.specs.Monomial.{width}
 use Rattle.monomial.proofs.divisors.Following.{Carrying}
 use Rattle.monomial.proofs.Monomial.next_divisor.Given as goal

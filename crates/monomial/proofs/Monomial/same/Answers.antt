@@ -1,5 +1,4 @@
 -- `Monomial::same` meets its contract: the loop compares place by place (`Comparing`). Assumes nothing.
-use Prim.Native.Nat.{◌-◌}
 use native.Mathlib.Omega.{arith}
 use borrow.Author.Tests.{ne_eqb, eq-eqb}
 use lib.Dec.{eqb}

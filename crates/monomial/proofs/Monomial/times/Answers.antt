@@ -1,6 +1,6 @@
 -- `Monomial::times` meets its contract: the loop fills the result place by place (`Filling`). Assumes nothing.
 use mathlib.Core.Path.{◌≡◌, refl, sym, ◌∙◌}
-use Prim.Native.Nat.{◌+◌, ◌-◌}
+use Prim.Native.Nat.{◌+◌}
 use native.Mathlib.Omega.{arith}
 use lib.ListN.{length}
 use Rattle.monomial.proofs.Loops.{filling_start, filling_next, filling_end, pointwise_length, pointwise_at}

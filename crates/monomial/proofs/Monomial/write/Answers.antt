@@ -1,5 +1,4 @@
 -- `Monomial::write` meets its contract: the loop pastes the exponents over the slice (`Pasting`). Assumes nothing.
-use Prim.Native.Nat.{◌-◌}
 use native.Mathlib.Omega.{arith}
 use Rattle.monomial.proofs.Loops.{pasting_start, pasting_length, pasting_room, pasting_next, pasting_end}
 use borrow.Author.Rules.{rules}

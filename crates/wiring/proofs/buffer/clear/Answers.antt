@@ -1,6 +1,5 @@
 -- `clear` meets its contract: the loop fills the buffer with zeros place by place (`Filling`). Assumes nothing.
 use mathlib.Core.Path.{refl, sym}
-use Prim.Native.Nat.{◌-◌}
 use native.Mathlib.Omega.{arith}
 use lib.ListN.{length, length-replicate, get_or-replicate}
 use Rattle.monomial.proofs.Loops.{filling_start, filling_next, filling_end}

@@ -1,6 +1,5 @@
 -- `put` meets its contract: the loop pastes the bytes over the buffer (`Pasting`). Assumes nothing.
 use mathlib.Core.Path.{refl}
-use Prim.Native.Nat.{◌-◌}
 use native.Mathlib.Omega.{arith}
 use Rattle.monomial.proofs.Loops.{pasting_start, pasting_length, pasting_room, pasting_next, pasting_end}
 use Rattle.wiring.proofs.buffer.put.Goals as goal

@@ -1,7 +1,6 @@
 -- `derivative::may_cancel` meets its contract: two loops look at every two records, and have met none that cross (`Uncrossing`). Assumes nothing.
 use mathlib.Core.Path.{sym, ◌∙◌}
 use mathlib.Core.Bool.{true}
-use Prim.Native.Nat.{◌-◌}
 use native.Mathlib.Omega.{arith}
 use Rattle.monomial.proofs.Tests.{is→n_t}
 use Rattle.wiring.proofs.derivative.Cancelling.{uncrossing_start, uncrossing_on, uncrossing_next, uncrossing_ends, uncancelled}

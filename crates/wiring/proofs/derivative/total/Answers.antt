@@ -1,7 +1,5 @@
 -- `derivative::total` meets its contract: the loop adds the records up in 32 bits (`Adding`). Assumes nothing.
 use mathlib.Core.Path.{sym, ◌∙◌}
-use mathlib.Core.Logic.{⊎_elim}
-use Prim.Native.Nat.{◌-◌}
 use native.Mathlib.Omega.{arith}
 use Rattle.monomial.proofs.product.Laws.{at_most_weaken}
 use Rattle.wiring.proofs.derivative.Bounds.{adding_start, adding_ends, adding_flat, adding_miss, adding_hit, power_fits, product_fits, sum_of_fits}
@@ -43,9 +41,9 @@ loop-t-preserved c =
     let inv = k.loop-t.invariant in
     let more = k.loop-t-test.true in
     elim c.if-k-gt0.branch [
-      then-k-gt0+then-same w ↦ rw w.sum-is (adding_hit inv more _ _ k.power-k.ensures w.decode.ensures _ w.image.ensures (sym w.same.ensures ∙ w.if-same.true))
-    | then-k-gt0+else-same w ↦ rw w.sum-is (adding_miss inv more _ w.image.ensures (sym w.same.ensures ∙ w.if-same.false))
-    | else-k-gt0 w ↦ rw w.sum-is (adding_flat inv more (omega (arith, k.power-k.ensures, w.if-k-gt0.false)))
+      | then-k-gt0+then-same w ↦ rw w.sum-is (adding_hit inv more _ _ k.power-k.ensures w.decode.ensures _ w.image.ensures (sym w.same.ensures ∙ w.if-same.true))
+      | then-k-gt0+else-same w ↦ rw w.sum-is (adding_miss inv more _ w.image.ensures (sym w.same.ensures ∙ w.if-same.false))
+      | else-k-gt0 w ↦ rw w.sum-is (adding_flat inv more (omega (arith, k.power-k.ensures, w.if-k-gt0.false)))
     ]
 
 pub returns : goal.returns

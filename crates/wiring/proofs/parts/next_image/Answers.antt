@@ -1,7 +1,6 @@
 -- `next_image` meets its contract: the loop keeps the best of what the records give (`Collecting`). Assumes nothing.
 use mathlib.Core.Path.{refl, sym, ◌∙◌}
-use mathlib.Core.Logic.{⊎_elim}
-use Prim.Native.Nat.{◌-◌, ◌<◌}
+use Prim.Native.Nat.{◌<◌}
 use native.Mathlib.Omega.{arith}
 use lib.ListN.{length}
 use Rattle.wiring.specs.Derivative.{image, gives, images}
@@ -39,12 +38,12 @@ loop-t-preserved c =
     let few : k.t < length (records l) = omega (arith, records_length l) in (
       k.invariant.0,
       elim c.if-p.branch [
-        then-p w ↦
-          let same_image = at_record (λ r. image r a.z.e) l k.t (omega arith) ∙ sym (c.following-p.ensures.is w.if-p.true) in
-          rw w.best-is
-          (meets_one f a.z.e (records l) (record_at l k.t) few k.invariant.1 (best_collects mono_order w.least-best.result) (told ∙ w.if-p.true)
-          (λ m b. rw same_image (w.least-best.ensures m b)))
-      | else-p w ↦ rw w.best-is (meets_none f a.z.e (records l) (record_at l k.t) few k.invariant.1 (best_collects mono_order k.best) (told ∙ w.if-p.false))
+        | then-p w ↦
+            let same_image = at_record (λ r. image r a.z.e) l k.t (omega arith) ∙ sym (c.following-p.ensures.is w.if-p.true) in
+            rw w.best-is
+            (meets_one f a.z.e (records l) (record_at l k.t) few k.invariant.1 (best_collects mono_order w.least-best.result) (told ∙ w.if-p.true)
+            (λ m b. rw same_image (w.least-best.ensures m b)))
+        | else-p w ↦ rw w.best-is (meets_none f a.z.e (records l) (record_at l k.t) few k.invariant.1 (best_collects mono_order k.best) (told ∙ w.if-p.false))
       ],
     )
 

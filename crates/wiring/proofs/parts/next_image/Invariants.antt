@@ -4,7 +4,6 @@ use Prim.Native.Nat.{◌/◌, ◌-◌}
 use lib.ListN.{length}
 use Rattle.wiring.specs.Derivative.{gives}
 use Rattle.wiring.specs.Terms.{records}
-use mathlib.Core.List.Memᴰ
 use Rattle.monomial.specs.Order.{before}
 use Rattle.monomial.proofs.Loops.{Collecting}
 use Rattle.wiring.specs.Choice.{beyond, Best}

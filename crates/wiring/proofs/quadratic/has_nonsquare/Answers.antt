@@ -1,6 +1,5 @@
 -- `has_nonsquare` meets its contract: the loop looks through the records for one that offers (`Seeking`). Assumes nothing.
 use mathlib.Core.Path.{refl, sym, ◌∙◌}
-use Prim.Native.Nat.{◌-◌}
 use native.Mathlib.Omega.{arith}
 use Rattle.monomial.proofs.Loops.{seeking_start, seeking_found, seeking_on, seeking_ends}
 use Rattle.wiring.specs.Derivative.{offers}

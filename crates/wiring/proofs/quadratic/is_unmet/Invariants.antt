@@ -1,7 +1,7 @@
 -- `is_unmet` meets its contract: the loop looks through the signals from the last one for one with a nonsquare (`SeekingDown`). Assumes nothing.
 use mathlib.Core.Bool.{Bool}
 use mathlib.Core.List.{List}
-use Prim.Native.Nat.{ℕ, ◌-◌}
+use Prim.Native.Nat.{ℕ}
 use Rattle.monomial.specs.Lists.{some}
 use Rattle.monomial.specs.Monomial.{Mono}
 use Rattle.monomial.proofs.Loops.{SeekingDown}

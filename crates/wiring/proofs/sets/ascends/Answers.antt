@@ -1,6 +1,5 @@
 -- `ascends` meets its contract: the loop compares neighbours (`Neighbouring`). Assumes nothing.
 use mathlib.Core.Path.{sym, ◌∙◌}
-use Prim.Native.Nat.{◌-◌}
 use native.Mathlib.Omega.{arith}
 use Rattle.wiring.proofs.sets.Laws.{neighbouring_start, neighbouring_fails, neighbouring_on, neighbouring_ends}
 use Rattle.wiring.proofs.sets.ascends.Goals as goal

@@ -1,6 +1,5 @@
 -- `is_constant` meets its contract: the loop looks through the constants (`Seeking`). Assumes nothing.
 use mathlib.Core.Path.{sym, ap, ◌∙◌}
-use Prim.Native.Nat.{◌-◌}
 use native.Mathlib.Omega.{arith}
 use Rattle.monomial.specs.Monomial.{one, width}
 use Rattle.monomial.specs.Order.{same}

@@ -1,7 +1,6 @@
 -- `monomials_right` meets its contract: the loop tests the used places (`Checking`). Assumes nothing.
 use mathlib.Core.Path.{sym, ap, ◌∙◌}
 use mathlib.Core.List.{[]}
-use Prim.Native.Nat.{◌-◌}
 use native.Mathlib.Omega.{arith}
 use Rattle.monomial.proofs.Loops.{checking_start, checking_fails, checking_on, checking_ends}
 use Rattle.wiring.specs.Sets.{monomial_right}

@@ -1,7 +1,7 @@
 -- `set_of` meets its contract: the loop copies the used places (`Copying`). Assumes nothing.
 use mathlib.Core.Path.{◌≡◌, refl, sym, ap, ◌∙◌}
 use mathlib.Core.List.{[]}
-use Prim.Native.Nat.{ℕ, ◌-◌}
+use Prim.Native.Nat.{ℕ}
 use native.Mathlib.Omega.{arith}
 use Rattle.wiring.specs.Signals.{front}
 use Rattle.wiring.proofs.signals.Arrays.{writing_start, copying_next, copying_end}

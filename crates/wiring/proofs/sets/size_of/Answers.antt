@@ -1,7 +1,7 @@
 -- `size_of` meets its contract: the loop looks for the first place that is all zero (`Placing`). Assumes nothing.
 use mathlib.Core.Path.{sym, ap, ◌∙◌}
 use mathlib.Core.List.{[]}
-use Prim.Native.Nat.{◌-◌, ◌≤◌}
+use Prim.Native.Nat.{◌≤◌}
 use native.Mathlib.Omega.{arith}
 use Rattle.monomial.specs.Monomial.{one, width}
 use Rattle.monomial.specs.Order.{same}

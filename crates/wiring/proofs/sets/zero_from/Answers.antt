@@ -1,6 +1,5 @@
 -- `zero_from` meets its contract: the loop tests the bytes from at on (`CheckingFrom`). Assumes nothing.
 use mathlib.Core.Path.{refl, sym}
-use Prim.Native.Nat.{◌-◌}
 use native.Mathlib.Omega.{arith}
 use borrow.Author.Tests.{eq-eqb, ne_eqb}
 use Rattle.monomial.proofs.Loops.{from_fails, from_on, from_ends}

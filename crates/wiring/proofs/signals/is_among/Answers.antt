@@ -1,6 +1,5 @@
 -- `is_among` meets its contract: the loop looks through the monomials of the list (`Seeking`). Assumes nothing.
 use mathlib.Core.Path.{refl, sym, ap, ◌∙◌}
-use Prim.Native.Nat.{◌-◌}
 use native.Mathlib.Omega.{arith}
 use Rattle.monomial.specs.Order.{same}
 use Rattle.monomial.proofs.Loops.{seeking_start}

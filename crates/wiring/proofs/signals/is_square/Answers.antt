@@ -7,7 +7,6 @@ use native.Mathlib.Omega.{arith}
 use lib.ListN.{length}
 use Rattle.monomial.specs.Lists.{any}
 use Rattle.monomial.specs.Monomial.{width}
-use Rattle.monomial.specs.Quotient.{divides}
 use Rattle.monomial.proofs.Tests.{is→T}
 use Rattle.monomial.proofs.Loops.{SeekingDown, down_start, down_ends}
 use Rattle.wiring.specs.Signals.{tabled}
@@ -70,8 +69,8 @@ loop-i-preserved c =
     let divided = c.divides.ensures in
     let not_here : f at_read.read-z.result.e ≡ false =
     elim c.if-divides.branch [
-      then-divides+else-is_signal w ↦ leaves_says a.n s a.m.e _ _ _ (sym divided ∙ w.if-divides.true) w.over.ensures w.is_signal.ensures ∙ w.if-is_signal.false
-    | else-divides w ↦ leaves_not a.n s a.m.e _ (sym divided ∙ w.if-divides.false)
+      | then-divides+else-is_signal w ↦ leaves_says a.n s a.m.e _ _ _ (sym divided ∙ w.if-divides.true) w.over.ensures w.is_signal.ensures ∙ w.if-is_signal.false
+      | else-divides w ↦ leaves_not a.n s a.m.e _ (sym divided ∙ w.if-divides.false)
     ] in
     tabled_down f a.set.now k.invariant (k.i - 1) (omega arith) (ap f (sym at_read.read-z.ensures) ∙ not_here)
 

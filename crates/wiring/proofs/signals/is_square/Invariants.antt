@@ -1,6 +1,5 @@
 -- `is_square` meets its contract: m is low, or a new factor leaves it a member of V (`square-low`, `square-else`); the loop goes through the new ones from the last
 -- down (`SeekingDown`). Assumes nothing.
-use Prim.Native.Nat.{◌-◌}
 use Rattle.monomial.proofs.Loops.{SeekingDown}
 use Rattle.wiring.specs.Signals.{tabled}
 use Rattle.wiring.proofs.signals.Division.{leaves}

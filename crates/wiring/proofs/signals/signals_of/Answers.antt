@@ -1,6 +1,6 @@
 -- `signals_of` meets its contract: one loop writes the constants, one the set (`Signalling`). Assumes nothing.
 use mathlib.Core.Path.{◌≡◌, refl, ap}
-use Prim.Native.Nat.{ℕ, ◌+◌, ◌-◌}
+use Prim.Native.Nat.{ℕ, ◌+◌}
 use native.Mathlib.Omega.{arith}
 use Rattle.wiring.proofs.signals.Arrays.{array_length}
 use Rattle.wiring.proofs.signals.Laws.{signalling_start, signalling_constant, signalling_turn, signalling_new, signalling_end}

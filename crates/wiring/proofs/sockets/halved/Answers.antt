@@ -1,5 +1,4 @@
 -- `sockets::halved` meets its contract: what is left to be halved says what the whole says (`Halving`). Assumes nothing.
-use Prim.Native.Nat.{◌-◌}
 use Rattle.wiring.proofs.sockets.Laws.{halving_start, halving_on, halving_ends}
 use Rattle.wiring.proofs.sockets.halved.Goals as goal
 

@@ -1,5 +1,4 @@
 -- `sockets::is_free` meets its contract: the exponents that are left say what all say (`Clearing`). Assumes nothing.
-use Prim.Native.Nat.{◌-◌}
 use Rattle.monomial.specs.Monomial.{width}
 use Rattle.wiring.proofs.sockets.Laws.{clearing_start, clearing_none, clearing_fails, clearing_zero, clearing_unmarked, clearing_ends}
 use borrow.Author.Rules.{rules}

@@ -1,5 +1,4 @@
 -- `terms::exponents_right` meets its contract: the loop checks the exponents one by one (`FittingSoFar`). Assumes nothing.
-use Prim.Native.Nat.{◌-◌}
 use native.Mathlib.Omega.{arith}
 use Rattle.wiring.proofs.terms.Laws.{fitting_start, fitting_fails, fitting_on, fitting_ends}
 use borrow.Author.Rules.{rules}

@@ -1,6 +1,5 @@
 -- `terms::fault_of` meets its contract: the loop judges the records one by one (`Judging`). Assumes nothing.
 use mathlib.Core.Path.{sym, ◌∙◌}
-use Prim.Native.Nat.{◌-◌}
 use Rattle.wiring.proofs.terms.Laws.{judging_start, judging_ends, records_wrong, records_repeated, records_on, records_length}
 use Rattle.wiring.proofs.terms.fault_of.Goals as goal
 

@@ -1,6 +1,5 @@
 -- `terms::repeats` meets its contract: the loop looks among the records before (`Repeating`). Assumes nothing.
 use mathlib.Core.Path.{sym, ◌∙◌}
-use Prim.Native.Nat.{◌-◌}
 use Rattle.wiring.proofs.terms.Laws.{repeating_start, repeating_found, repeating_on, repeating_ends}
 use Rattle.wiring.proofs.terms.repeats.Goals as goal
 

@@ -1,6 +1,5 @@
 -- `lacks_pair` meets its contract: the loop looks through the records for one that offers (`Seeking`). Assumes nothing.
 use mathlib.Core.Path.{refl, sym, ◌∙◌}
-use Prim.Native.Nat.{◌-◌}
 use native.Mathlib.Omega.{arith}
 use Rattle.monomial.proofs.Loops.{seeking_start, seeking_found, seeking_on, seeking_ends}
 use Rattle.wiring.specs.Signals.{signals_of}

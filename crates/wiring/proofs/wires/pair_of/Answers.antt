@@ -1,9 +1,7 @@
 -- `pair_of` meets its contract: both loops look for the first that passes (`PairRow` outside, `Placing` inside). Assumes nothing.
 use mathlib.Core.Path.{◌≡◌, refl, sym, ap, ap₂, ◌∙◌, subst}
-use mathlib.Core.Logic.{⊎_elim}
-use mathlib.Core.Bool.{false}
 use mathlib.Core.List.{[]}
-use Prim.Native.Nat.{ℕ, ◌-◌, ◌<◌, ◌≤◌}
+use Prim.Native.Nat.{ℕ, ◌<◌, ◌≤◌}
 use native.Mathlib.Omega.{arith}
 use borrow.Author.Rules.{rules}
 use lib.Dec.{T}
@@ -96,13 +94,13 @@ found-preserved c =
     let ha : o.a < v.len = omega arith in
     let in_a = within v room s.requires.0 s.requires.1 o.a ha in
     elim c.if-divides.branch [
-      then-divides+else-loop-b-test w ↦
-        let k = w.loop-b in
-        let all = beyond v room s.requires.0 s.requires.1 k.b (omega (arith, k.invariant.long, w.loop-b-test.false)) in
-        (w.r-is ∙ k.invariant.empty, (o.invariant.1.0, row_ends (signals_of v) s.args.m.e o.a in_a o.invariant.1.1 k.b k.invariant.inner all))
-    | else-divides w ↦
-        let no = ap (λ (x : Mono). divides x s.args.m.e) (at v room s.requires.0 s.requires.1 o.a ha) ∙ sym c.divides.ensures ∙ w.if-divides.false in
-        (w.r-is ∙ o.invariant.0, (o.invariant.1.0, row_skips (signals_of v) s.args.m.e o.a in_a o.invariant.1.1 (alike v room s.requires.0 s.requires.1 o.a ha) no))
+      | then-divides+else-loop-b-test w ↦
+          let k = w.loop-b in
+          let all = beyond v room s.requires.0 s.requires.1 k.b (omega (arith, k.invariant.long, w.loop-b-test.false)) in
+          (w.r-is ∙ k.invariant.empty, (o.invariant.1.0, row_ends (signals_of v) s.args.m.e o.a in_a o.invariant.1.1 k.b k.invariant.inner all))
+      | else-divides w ↦
+          let no = ap (λ (x : Mono). divides x s.args.m.e) (at v room s.requires.0 s.requires.1 o.a ha) ∙ sym c.divides.ensures ∙ w.if-divides.false in
+          (w.r-is ∙ o.invariant.0, (o.invariant.1.0, row_skips (signals_of v) s.args.m.e o.a in_a o.invariant.1.1 (alike v room s.requires.0 s.requires.1 o.a ha) no))
     ]
 
 pub returns-after-found : goal.returns-after-found

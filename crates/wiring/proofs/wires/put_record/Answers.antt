@@ -1,6 +1,5 @@
 -- `put_record` meets its contract: the loop pastes the eight bytes over the buffer (`Pasting`). Assumes nothing.
 use mathlib.Core.Path.{refl, ap, ◌∙◌}
-use Prim.Native.Nat.{◌-◌}
 use native.Mathlib.Omega.{arith}
 use mir.Syntax.{w32}
 use mir.ValLaws.{to_z-of_z}
