@@ -34,7 +34,7 @@ fn set_at(sets: &[u8], i: usize, size: usize, line: &mut [u8; LINE_BYTES]) -> us
     let at = SET_BYTES * i;
     let end = at + SET_BYTES;
     let mut set = [0u8; SET_BYTES];
-    bytes::copy(&sets[at..end], &mut set);
+    set.copy_from_slice(&sets[at..end]);
     answer::set_line(&set, size, line)
 }
 
@@ -46,7 +46,7 @@ fn wire_at(wires: &[u8], i: usize, line: &mut [u8; LINE_BYTES]) -> usize
     let at = WIRE_BYTES * i;
     let end = at + WIRE_BYTES;
     let mut wire = [0u8; WIRE_BYTES];
-    bytes::copy(&wires[at..end], &mut wire);
+    wire.copy_from_slice(&wires[at..end]);
     answer::wire_line(&wire, line)
 }
 
