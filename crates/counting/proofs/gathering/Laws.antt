@@ -8,7 +8,7 @@ use Prim.Native.Nat.{ℕ, ◌+◌, ◌*◌, ◌<◌, ◌≤◌}
 use native.Mathlib.Omega.{arith}
 use lib.ListN.{length, get_or, take}
 use lib.Seq.{paste, length-take-le, take_all, take-paste}
-use Rattle.monomial.specs.Lists.{any, gather, below}
+use Rattle.monomial.specs.Lists.{any, gather}
 use Rattle.monomial.specs.Monomial.{Mono, one, width}
 use Rattle.monomial.specs.Order.{same}
 use Rattle.monomial.specs.Claims.{◌∈◌, ◌⊆◌, Different, Rearranged}

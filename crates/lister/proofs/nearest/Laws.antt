@@ -1,7 +1,7 @@
 -- The first factors of cheap pairs are found by V and the root: each of them is the lead of one that is asked, and a loop over these keeps the nearest.
 -- Assumes nothing.
 use mathlib.Core.Path.{◌≡◌, refl, sym, ap, ap₂, ◌∙◌, subst}
-use mathlib.Core.Logic.{◌⊎◌, ⊎_elim}
+use mathlib.Core.Logic.{⊎_elim}
 use mathlib.Core.Bool.{true, false, not, ◌&&◌, ◌||◌}
 use mathlib.Core.List.Memᴰ
 use mathlib.Core.List.{List, [], ◌∷◌}
@@ -24,7 +24,7 @@ use Rattle.monomial.proofs.order.Laws.{mono_order, level}
 use Rattle.monomial.proofs.quotient.Laws.{mul_quo, quo_divides, quo_quo, one_divides}
 use Rattle.monomial.proofs.divisors.Pairs.{one_leads}
 use Rattle.lister.specs.declared.nearest.Near.{Near}
-use Rattle.lister.specs.Cheap.{cheap, Holds}
+use Rattle.lister.specs.Cheap.{Holds}
 use Rattle.lister.specs.Nearest.{root_of, lead_of, asked, CheapFrom, tried, NotBehind, Nearing, Nearest}
 use Rattle.lister.proofs.Order.{cheap_exact}
 

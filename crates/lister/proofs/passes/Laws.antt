@@ -10,7 +10,7 @@ use Rattle.monomial.specs.Lists.{keep}
 use Rattle.monomial.specs.Monomial.{Mono, one}
 use Rattle.monomial.specs.Quotient.{divides}
 use Rattle.monomial.specs.Divisors.{leads, pairs, next}
-use Rattle.monomial.specs.Claims.{◌∈◌, from, Pair, split, pairs_from}
+use Rattle.monomial.specs.Claims.{◌∈◌, Pair, split, pairs_from}
 use Rattle.monomial.proofs.Tests.{T→is, is_not, is→T, is→n_t}
 use Rattle.monomial.proofs.Members.{no_length, keep_yes, keep_no, keep_length, keep_split}
 use Rattle.monomial.proofs.quotient.Laws.{one_divides}

@@ -1,0 +1,31 @@
+-- `is_multiple` meets its contract: a multiple is divided by its factor (`share-quotient`). Assumes nothing.
+use mathlib.Core.Path.{◌≡◌, sym, ap, ◌∙◌}
+use lib.ListN.{length}
+use Rattle.monomial.specs.Lists.{any}
+use Rattle.monomial.specs.Monomial.{Mono, width}
+use Rattle.monomial.specs.Order.{same}
+use Rattle.monomial.proofs.Tests.{is→T}
+use Rattle.wiring.specs.Signals.{signals_at}
+use Rattle.wiring.proofs.signals.Laws.{signals_at_wide}
+use Rattle.counting.proofs.counting.Laws.{share_none, share_quotient}
+use borrow.Author.Rules.{rules}
+use Rattle.counting.proofs.counting.is_multiple.Goals as goal
+
+pub returns-then-not-divides : goal.returns-then-not-divides
+returns-then-not-divides c =
+    let a = c.args in
+    let long : length a.q.e ≡ width = search rules in
+    share_none (signals_at a.n a.set.now) (signals_at_wide a.n a.set.now) a.q.e a.m.e long (sym c.divides.ensures ∙ c.if-not-divides.true)
+
+pub over-requires : goal.over-requires
+over-requires c = is→T _ (sym c.divides.ensures ∙ c.if-not-divides.false)
+
+pub returns : goal.returns
+returns c =
+    let at_if1 = c in
+    let a = at_if1.args in
+    let long : length a.q.e ≡ width = search rules in
+    let at = at_if1.divides in
+    let divided = is→T _ (sym at.ensures ∙ c.if-not-divides.false) in
+    c.is_signal.ensures ∙ ap (λ (x : Mono). any (same x) (signals_at a.n a.set.now)) c.over.ensures
+    ∙ share_quotient (signals_at a.n a.set.now) (signals_at_wide a.n a.set.now) a.q.e a.m.e long divided

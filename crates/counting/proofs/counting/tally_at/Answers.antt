@@ -1,0 +1,50 @@
+-- `tally_at` meets its contract: the loop adds up the quotients that begin (`Tallying`). Assumes nothing.
+use mathlib.Core.Path.{sym, ap, ◌∙◌}
+use Prim.Native.Nat.{◌+◌, ◌<◌}
+use native.Mathlib.Omega.{arith}
+use lib.ListN.{length, get_or, take, drop}
+use Rattle.monomial.specs.Monomial.{one, width}
+use Rattle.wiring.specs.Signals.{tabled, signals_at}
+use Rattle.wiring.specs.Sockets.{can_build}
+use Rattle.wiring.proofs.signals.Laws.{signals_at_length}
+use Rattle.counting.specs.Counting.{begins}
+use Rattle.counting.proofs.counting.Hits.{tallying_start, tallying_full, tallying_end, tallying_hit, tallying_miss}
+use Rattle.counting.proofs.counting.tally_at.Goals as goal
+use Rattle.counting.proofs.counting.tally_at.Goals.{then-begins_at, else-begins_at}
+
+pub loop-j-init : goal.loop-j-init
+loop-j-init c = (sym (signals_at_length _ _ c.requires.0), tallying_start _ _ _ _ c.requires.1.1.1)
+
+pub returns-then-cap-met : goal.returns-then-cap-met
+returns-then-cap-met c = tallying_full _ _ _ _ c.loop-j.invariant.1 (omega arith)
+
+pub signal-requires : goal.signal-requires
+signal-requires c =
+    let s = c in
+    let long = signals_at_length s.args.panel.n s.args.set.now s.requires.0 in
+    (s.requires.0, omega (arith, c.loop-j.invariant.0))
+
+pub begins_at-requires : goal.begins_at-requires
+begins_at-requires c =
+    let p = c.requires in
+    (p.1.0, p.1.1.0)
+
+pub loop-j-preserved : goal.loop-j-preserved
+loop-j-preserved c =
+    let at_loop = c in
+    let k = at_loop.loop-j in
+    let a = at_loop.args in
+    let l = a.list.now in
+    let v = signals_at a.panel.n a.set.now in
+    let few : k.j < length v = omega arith in
+    let test = begins (can_build a.panel) v a.often (take a.i (tabled l)) (drop (a.i + 1) (tabled l)) (get_or (tabled l) a.i (one width)) in
+    let told = ap test (sym c.signal.ensures) ∙ sym c.begins_at.ensures in (
+      k.invariant.0,
+      elim c.if-begins_at.branch [
+        | then-begins_at w ↦ rw w.met-is (tallying_hit _ _ _ _ k.invariant.1 (one width) few (omega arith) (told ∙ w.if-begins_at.true))
+        | else-begins_at w ↦ rw w.met-is (tallying_miss _ _ _ _ k.invariant.1 (one width) few (told ∙ w.if-begins_at.false))
+      ],
+    )
+
+pub returns : goal.returns
+returns c = tallying_end _ _ _ _ c.loop-j.invariant.1 (omega (arith, c.loop-j.invariant.0))

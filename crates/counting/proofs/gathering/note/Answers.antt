@@ -1,0 +1,34 @@
+-- `note` meets its contract: m is listed already, or one too many, or written behind the last one. Assumes nothing.
+use mathlib.Core.Path.{◌≡◌, refl, sym, ◌∙◌}
+use native.Mathlib.Omega.{arith}
+use lib.ListN.{length}
+use Rattle.monomial.specs.Monomial.{width}
+use Rattle.counting.proofs.gathering.Laws.{lent_part, note_old, note_full, note_new, notes_all, notes_more}
+use borrow.Author.Rules.{rules}
+use Rattle.counting.proofs.gathering.note.Goals as goal
+
+pub slice_bounds-is_among-end-2 : goal.slice_bounds-is_among-end-2
+slice_bounds-is_among-end-2 c = sym (lent_part c.requires)
+
+pub returns-then-is_among : goal.returns-then-is_among
+returns-then-is_among c =
+    let s = c in
+    notes_all _ refl (note_old s.requires s.args.m.e (sym c.is_among.ensures ∙ c.if-is_among.true))
+
+pub returns-then-most-len : goal.returns-then-most-len
+returns-then-most-len c =
+    let s = c in
+    notes_more _ refl (note_full s.requires s.args.m.e (sym c.is_among.ensures ∙ c.if-is_among.false) c.if-most-len.true)
+
+pub write-requires : goal.write-requires
+write-requires c =
+    let s = c in
+    omega (arith, s.requires.room, c.if-most-len.false)
+
+pub returns : goal.returns
+returns c =
+    let at_if2 = c in
+    let s = at_if2 in
+    let wide : length s.args.m.e ≡ width = search rules in
+    let fresh = sym at_if2.is_among.ensures ∙ at_if2.if-is_among.false in
+    notes_all _ refl (note_new s.requires s.args.m.e fresh (omega (arith, at_if2.if-most-len.false)) wide _ c.write.ensures)
