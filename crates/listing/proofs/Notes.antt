@@ -10,7 +10,7 @@ use native.Mathlib.Omega.{arith}
 use lib.IntN.{nat_abs}
 use lib.ListN.{length, length-append, length-set}
 use Rattle.monomial.specs.Claims.{◌∈◌}
-use Rattle.monomial.specs.Monomial.{Mono, one, width}
+use Rattle.monomial.specs.Monomial.{Mono, width}
 use Rattle.listing.specs.Meaning.{Naming, closed, named, unnamed, Product, Telling, signed, term, told, untold}
 use Rattle.listing.specs.Counted.{Sound}
 use Rattle.listing.specs.declared.machine.Known.{Known}

@@ -5,7 +5,7 @@ use mathlib.Core.Bool.{true, false}
 use mathlib.Core.List.{List}
 use Prim.Native.Nat.{ℕ}
 use native.Mathlib.Omega.{arith}
-use Rattle.reader.specs.Reader.{readable, place, run, Finishes, GoesOn, Placed, Lively}
+use Rattle.reader.specs.Reader.{readable, run, Finishes, GoesOn, Placed, Lively}
 use Rattle.reader.proofs.Places as of_readers
 use Rattle.listing.specs.Machine.{eat, start}
 use Rattle.listing.specs.Held.{Fair, Stands}

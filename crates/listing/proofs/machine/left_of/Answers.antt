@@ -1,0 +1,25 @@
+-- `left_of` meets its contract: the loop's invariant is `Counting`. Assumes nothing.
+use native.Mathlib.Omega.{arith}
+use Rattle.listing.proofs.Lines.{counting_start, counting_here, counting_next, counting_skip, counting_new, counting_none}
+use Rattle.listing.proofs.machine.left_of.Goals as goal
+use Rattle.listing.proofs.machine.left_of.Goals.{then-marks-eq0+else-more-eq0, else-marks-eq0}
+
+pub loop-i-init : goal.loop-i-init
+loop-i-init c = counting_start _ _ _
+
+pub returns-then-more-eq0 : goal.returns-then-more-eq0
+returns-then-more-eq0 c = let k = c.loop-i in (counting_here k.invariant (omega arith) c.if-marks-eq0.true c.if-more-eq0.true, omega arith)
+
+pub loop-i-preserved : goal.loop-i-preserved
+loop-i-preserved c =
+    let k = c.loop-i in
+    elim c.if-marks-eq0.branch [
+      | then-marks-eq0+else-more-eq0 w ↦ rw w.more-is (counting_next k.invariant (omega arith) w.if-marks-eq0.true (omega arith))
+      | else-marks-eq0 w ↦ rw w.more-is (counting_skip k.invariant (omega arith) w.if-marks-eq0.false)
+    ]
+
+pub returns-then-more-names : goal.returns-then-more-names
+returns-then-more-names c = let k = c.loop-i in (counting_new k.invariant (omega arith) (omega arith), omega arith)
+
+pub returns : goal.returns
+returns c = let k = c.loop-i in (counting_none k.invariant (omega arith) (omega arith), omega arith)
