@@ -12,8 +12,8 @@ mod settings;
 
 use wiring::panel::WIRES_BYTES;
 
-fn main() {
-    let a = settings::read();
+fn main(rt: HostRuntime) {
+    let a = settings::read(&rt);
     let mut bytes = [0u8; input::INPUT_BYTES];
     let n = input::read_input(a, &mut bytes);
     let mut sets = answer::large_buffer();

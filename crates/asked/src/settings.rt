@@ -4,12 +4,16 @@
 ghost use Rattle.std.specs.Prelude.{◌≡◌};
 ghost use Rattle.asked.specs.Settings.{asked, asked_thin, asked_wire, Roomy};
 
-use lines::number;
 use lines::number::Number;
+use lines::words;
 use report::prepare::Settings;
+use std::env::Env;
 
 // The most sets that there is room for.
 pub(crate) const MOST_SETS: usize = 20000;
+
+// One word more than can be right tells that there are more.
+const MOST_WORDS: usize = 9;
 
 #[derive(Clone, Copy)]
 pub enum Asked {
@@ -115,35 +119,36 @@ fn wiring_of(n: Number, marks: Number, degree: Number) -> Asked
     Asked::Wire { n, marks, degree }
 }
 
-// Word number i of the command line. One that is missing or over 4,096 bytes comes as an empty word, which is no
-// number.
-fn number_at(i: usize) -> Number {
-    let mut word = io::buffer();
-    let length = os::arg(i, &mut word);
-    number::number_of(&word[..length])
-}
-
 // What the command line asks for, which has the program's name before the words.
-pub(crate) fn read() -> Asked
+pub(crate) fn read<R: Env>(rt: &R) -> Asked
     ensures { Roomy result }
 {
-    let words = os::arg_count();
+    let words = words::count_words(rt, MOST_WORDS);
     if words == 4 {
-        return wiring_of(number_at(1), number_at(2), number_at(3));
+        return wiring_of(
+            words::number_at(rt, 1),
+            words::number_at(rt, 2),
+            words::number_at(rt, 3),
+        );
     }
     if words == 5 {
-        return thinning_of(number_at(1), number_at(2), number_at(3), number_at(4));
+        return thinning_of(
+            words::number_at(rt, 1),
+            words::number_at(rt, 2),
+            words::number_at(rt, 3),
+            words::number_at(rt, 4),
+        );
     }
     if words != 8 {
         return Asked::Wrong;
     }
     settings_of(
-        number_at(1),
-        number_at(2),
-        number_at(3),
-        number_at(4),
-        number_at(5),
-        number_at(6),
-        number_at(7),
+        words::number_at(rt, 1),
+        words::number_at(rt, 2),
+        words::number_at(rt, 3),
+        words::number_at(rt, 4),
+        words::number_at(rt, 5),
+        words::number_at(rt, 6),
+        words::number_at(rt, 7),
     )
 }

@@ -21,6 +21,9 @@ use wiring::panel::WIRES_BYTES;
 use wiring::reply;
 use wiring::reply::Reply;
 
+// One word more than can be right tells that there are more.
+const MOST_WORDS: usize = 6;
+
 // Writes line after line of a listing that is typed, until there is none.
 fn write_typing(t: Typing, wires: &[u8; WIRES_BYTES])
     requires { Ready t wires.now }
@@ -75,18 +78,18 @@ fn read_listing(n: u64, marks: u64, degree: u64, bytes: u64) {
 }
 
 // The program's name stands before the words.
-fn main() {
-    let count = os::arg_count();
+fn main(rt: HostRuntime) {
+    let count = lines::words::count_words(&rt, MOST_WORDS);
     if count == 4 {
-        type_listing(words::word_at(1), words::word_at(2), words::word_at(3));
+        type_listing(words::word_at(&rt, 1), words::word_at(&rt, 2), words::word_at(&rt, 3));
         return;
     }
     if count == 5 {
         read_listing(
-            words::word_at(1),
-            words::word_at(2),
-            words::word_at(3),
-            words::word_at(4),
+            words::word_at(&rt, 1),
+            words::word_at(&rt, 2),
+            words::word_at(&rt, 3),
+            words::word_at(&rt, 4),
         );
         return;
     }

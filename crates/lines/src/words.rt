@@ -1,0 +1,39 @@
+// The words of a command line. What they are is the system's to say, and no contract speaks of it.
+ghost use Rattle.std.specs.Prelude.{◌≤◌};
+
+use super::number;
+use super::number::Number;
+use std::env::{Env, FillError};
+
+// A longer word is taken for none.
+const WORD_BYTES: usize = 4096;
+
+fn has_word<R: Env>(rt: &R, i: usize) -> bool {
+    let mut none = [0u8; 0];
+    match rt.arg(i, &mut none) {
+        Err(FillError::NotPresent) => false,
+        _ => true,
+    }
+}
+
+// How many words there are, the program's name among them; `most` where there are more.
+pub fn count_words<R: Env>(rt: &R, most: usize) -> usize
+    ensures { result ≤ most }
+{
+    for i in 0..most {
+        if !has_word(rt, i) {
+            return i;
+        }
+    }
+    most
+}
+
+// Word number i, read as a number; the program's name has number 0. One that is missing or over 4,096 bytes comes as an
+// empty word, which is no number.
+pub fn number_at<R: Env>(rt: &R, i: usize) -> Number {
+    let mut word = [0u8; WORD_BYTES];
+    match rt.arg(i, &mut word) {
+        Ok(length) => number::number_of(&word[..length]),
+        Err(_) => number::number_of(&[]),
+    }
+}
