@@ -1,5 +1,5 @@
 -- The digest by halves: no product passes 64 bits. Assumes nothing.
-use Rattle.std.proofs.Common.{◌≡◌, ℕ, ◌+◌, ◌-◌, ◌*◌, ◌/◌, ◌%◌, ◌^◌, ◌<◌, ◌≤◌, List, length, get_or, drop, sym, refl, ap, ◌∙◌, add-one, arith, drop_of_length-le, drop-cons}
+use Rattle.std.proofs.Common.{◌≡◌, ℕ, ◌+◌, ◌*◌, ◌/◌, ◌%◌, ◌^◌, ◌<◌, ◌≤◌, List, length, get_or, drop, sym, refl, ap, ◌∙◌, add-one, arith, drop_of_length-le, drop-cons}
 use native.Mathlib.Nat.{mod-add-mod, add-mul-mod_self_left}
 use lib.Bits.{bit_xor, xor_lt}
 use Rattle.lines.specs.Digest.{mixed, multiplied, digest_from, digest}

@@ -10,19 +10,9 @@ use Rattle.monomial.proofs.Loops.{set_front}
 use Rattle.wiring.specs.Panel.{cards}
 use Rattle.wiring.proofs.signals.Arrays.{array_length, front_set}
 use borrow.Author.Rules.{rules}
-use Rattle.roster.proofs.roster.with_last.Statement.{statement}
-use Rattle.roster.proofs.roster.with_last.Tie as tie
+use Rattle.roster.proofs.roster.with_last.Goals as goal
 
-mul_m : tie.Need-overflow-mul-m
-mul_m c = search rules
-
-element_set_from_m : tie.Need-element-set-from-m
-element_set_from_m c = search rules
-
-add_next : tie.Need-overflow-add-next
-add_next c = search rules
-
-returns : tie.Need-returns
+pub returns : goal.returns
 returns c =
     let a = c.args in
     let k = a.set.len in
@@ -33,6 +23,3 @@ returns c =
     let placed : set (take (k + 1) all) k a.m.e ≡ take k all ++ (a.m.e ∷ []) =
     ap (λ (l : List Mono). set l k a.m.e) whole ∙ set_front [] all [] k a.m.e fits in
     (front_set (k + 1) a.set.m k a.m (omega arith) ∙ placed, refl)
-
-pub with_last_spec : {M : Type 1} → statement M
-with_last_spec = tie.close (tie.spec mul_m element_set_from_m add_next returns)
