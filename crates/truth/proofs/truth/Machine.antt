@@ -22,7 +22,7 @@ use Rattle.truth.specs.Sums.{most_number, most_sum}
 use Rattle.truth.proofs.truth.Laws.{zero_apart, apart_zero}
 
 -- ---- what fits
--- an element of an array of signed numbers does: `search (needs, cell-fits)`
+-- an element of an array of signed numbers does: `search (rules, cell_fits)`
 each_fits : (xs : List ℤ) (us : List Val) (i : ℕ) → shadow (each ℤ (SInt w64).own_val xs us) → SFits w64 (get_or xs i (pos 0))
 each_fits [] us i p = size_fits w64 (pos 0) (omega arith)
 each_fits (x ∷ xs) [] i p = absurd p
