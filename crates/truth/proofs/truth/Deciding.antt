@@ -10,7 +10,7 @@ use native.Mathlib.Omega.{arith}
 use lib.Dec.{T, T_not, not_T}
 use lib.IntN.{pos}
 use lib.ListN.{length, get_or, drop}
-use Rattle.monomial.specs.Lists.{all, below}
+use Rattle.monomial.specs.Lists.{below}
 use Rattle.monomial.specs.Monomial.{Mono}
 use Rattle.monomial.specs.Product.{mul}
 use Rattle.monomial.specs.Claims.{◌∈◌}

@@ -1,12 +1,12 @@
 -- What the machine's steps on 64 bits come to. The checker's arithmetic reads no whole numbers, so a bound is said of a number's size. Assumes nothing.
-use mathlib.Core.Path.{◌≡◌, sym, ap, ap₂, ◌∙◌, subst}
+use mathlib.Core.Path.{◌≡◌, refl, sym, ap, ap₂, ◌∙◌, subst}
 use mathlib.Core.Bool.{true, false}
 use mathlib.Core.List.{List, [], ◌∷◌, map, map-id}
 use Prim.Native.Nat.{ℕ, zero, suc, ◌+◌, ◌≤◌, ◌<◌}
 use native.Mathlib.Omega.{arith}
 use borrow.Author.Tests.{eq-eqb}
 use lib.Dec.{eqb, eqb→eq}
-use lib.IntN.{ℤ, pos, negsuc, nat_abs, neg_ℤ, ◌+ℤ◌, ◌-ℤ◌, +ℤ_idl}
+use lib.IntN.{ℤ, pos, nat_abs, neg_ℤ, ◌+ℤ◌, ◌-ℤ◌, +ℤ_idl}
 use lib.ListN.{get_or}
 use mir.Syntax.{w64}
 use mir.Val.{Val, SFits, to_z, of_z}
@@ -22,7 +22,7 @@ use Rattle.truth.specs.Sums.{most_number, most_sum}
 use Rattle.truth.proofs.truth.Laws.{zero_apart, apart_zero}
 
 -- ---- what fits
--- an element of an array of signed numbers does: `search (needs, cell-fits)`
+-- an element of an array of signed numbers does: `search (rules, cell_fits)`
 each_fits : (xs : List ℤ) (us : List Val) (i : ℕ) → shadow (each ℤ (SInt w64).own_val xs us) → SFits w64 (get_or xs i (pos 0))
 each_fits [] us i p = size_fits w64 (pos 0) (omega arith)
 each_fits (x ∷ xs) [] i p = absurd p
@@ -39,36 +39,36 @@ bits_same x y f g = same_test (eqb (of_z w64 x) (of_z w64 y)) (is_zero (x -ℤ y
     (λ t. is→T (eqb (of_z w64 x) (of_z w64 y)) (eq-eqb (of_z w64 x) (of_z w64 y) (ap (of_z w64) (zero_apart x y t))))
 
 -- ---- a coefficient: its size is the number that is written, or 1
-pub record Sized (number size : ℕ) : Type 0 where
-  pub small : size ≤ most_number
-  pub plus : pos size ≡ signed false number
-  pub minus : neg_ℤ (pos size) ≡ signed true number
+pub record Sized (number : ℕ) (size : ℤ) : Type 0 where
+  pub small : nat_abs size ≤ most_number
+  pub plus : size ≡ signed false number
+  pub minus : neg_ℤ size ≡ signed true number
 
-pub sized_written : (number size : ℕ) → number ≤ most_number → 0 < number → size ≡ number → Sized number size
+sized_of : (number n : ℕ) (size : ℤ) → n ≤ most_number → pos n ≡ signed false number → neg_ℤ (pos n) ≡ signed true number → size ≡ pos n → Sized number size
+sized_of number n size h p m e = record { small = rw e (omega (arith, h)); plus = e ∙ p; minus = ap neg_ℤ e ∙ m }
+
+pub sized_written : (number : ℕ) (size : ℤ) → number ≤ most_number → 0 < number → size ≡ to_z w64 number → Sized number size
 unfolding signed
 sized_written zero size h k e = let z : ⊥ = omega arith in absurd z
-sized_written (suc n) size h k e = record { small = omega arith; plus = ap pos e; minus = ap (λ (i : ℕ). neg_ℤ (pos i)) e }
+sized_written (suc n) size h k e = sized_of (suc n) (suc n) size h refl refl (e ∙ to_z_pos w64 (suc n) (omega (arith, h)))
 
-pub sized_unwritten : (number size : ℕ) → number ≤ 0 → size ≡ 1 → Sized number size
+pub sized_unwritten : (number : ℕ) (size : ℤ) → number ≤ 0 → size ≡ pos 1 → Sized number size
 unfolding signed
-sized_unwritten zero size h e = record { small = omega arith; plus = ap pos e; minus = ap (λ (i : ℕ). neg_ℤ (pos i)) e }
+sized_unwritten zero size h e = sized_of 0 1 size (omega arith) refl refl e
 sized_unwritten (suc n) size h e = let z : ⊥ = omega arith in absurd z
 
-module _ {number size : ℕ} (s : Sized number size) where
-  held_is : to_z w64 size ≡ pos size
-  held_is = to_z_pos w64 size (omega (arith, s.small))
+module _ {number : ℕ} {size : ℤ} (s : Sized number size) where
+  pub plus_is : size ≡ signed false number
+  plus_is = s.plus
 
-  pub plus_is : to_z w64 size ≡ signed false number
-  plus_is = held_is ∙ s.plus
+  turned : pos 0 -ℤ size ≡ neg_ℤ size
+  turned = +ℤ_idl (neg_ℤ size)
 
-  turned : pos 0 -ℤ to_z w64 size ≡ neg_ℤ (pos size)
-  turned = ap (λ (z : ℤ). pos 0 -ℤ z) held_is ∙ +ℤ_idl (neg_ℤ (pos size))
+  pub minus_fits : SFits w64 (pos 0 -ℤ size)
+  minus_fits = rw turned (size_fits w64 (neg_ℤ size) (omega (arith, s.small, abs_neg size)))
 
-  pub minus_fits : SFits w64 (pos 0 -ℤ to_z w64 size)
-  minus_fits = rw turned (size_fits w64 (neg_ℤ (pos size)) (omega (arith, s.small, abs_neg (pos size))))
-
-  pub minus_is : to_z w64 (of_z w64 (pos 0 -ℤ to_z w64 size)) ≡ signed true number
-  minus_is = to_z-of_z w64 (pos 0 -ℤ to_z w64 size) minus_fits ∙ turned ∙ s.minus
+  pub minus_is : to_z w64 (of_z w64 (pos 0 -ℤ size)) ≡ signed true number
+  minus_is = to_z-of_z w64 (pos 0 -ℤ size) minus_fits ∙ turned ∙ s.minus
 
 pub signed_small : (negative : _) (number : ℕ) → number ≤ most_number → nat_abs (signed negative number) ≤ most_number
 unfolding signed

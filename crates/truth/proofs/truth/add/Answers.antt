@@ -1,0 +1,66 @@
+-- `add` meets its contract: one cell changes, by the term's coefficient (`summed-next`). Assumes nothing.
+use mathlib.Core.Path.{◌≡◌, ap, ◌∙◌}
+use native.Mathlib.Omega.{arith}
+use borrow.Author.Rules.{rules}
+use lib.IntN.{ℤ, ◌+ℤ◌}
+use lib.ListN.{length, set}
+use Rattle.wiring.specs.Panel.{most_signals}
+use Rattle.wiring.specs.Signals.{signals_of}
+use Rattle.wiring.proofs.signals.Arrays.{array_length}
+use Rattle.truth.specs.Sums.{pair_cells, cell, held}
+use Rattle.truth.proofs.truth.Cells.{summed_next}
+use Rattle.truth.proofs.truth.Machine.{signed_small, sum_fits, sum_is}
+use Rattle.truth.proofs.truth.Places.{long, within, product_fits, product_is, product_met}
+use Rattle.truth.proofs.truth.add.Goals as goal
+
+pub times-requires : goal.times-requires
+times-requires c =
+    let s = c in
+    let v = s.args.v in
+    let room : length v.m ≡ most_signals = search (rules, array_length) in
+    product_fits v room s.requires.0 s.requires.1.0 s.args.a s.args.b s.requires.1.1.0 s.requires.1.1.1.0
+
+pub cell_of-at-requires : goal.cell_of-at-requires
+cell_of-at-requires c =
+    let s = c in
+    let v = s.args.v in
+    let room : length v.m ≡ most_signals = search (rules, array_length) in
+    (s.requires.0, (s.requires.1.0, product_met v room s.requires.0 s.requires.1.0 s.args.a s.args.b s.requires.1.1.0 s.requires.1.1.1.0 _ c.times.ensures))
+
+pub coefficient_of-c-requires : goal.coefficient_of-c-requires
+coefficient_of-c-requires c = c.requires.1.1.1.1.0
+
+pub bounds-cells-at : goal.bounds-cells-at
+bounds-cells-at c = c.cell_of-at.ensures.1
+
+pub overflow_add-cells : goal.overflow_add-cells
+overflow_add-cells c =
+    let s = c in
+    let p = s.requires.1.1.1.1 in
+    let at = c.cell_of-at.result in
+    let q = c.coefficient_of-c in
+    sum_fits (held s.args.sums at) q.result (p.1 at) (rw q.ensures (signed_small _ _ p.0))
+
+pub bounds-cells-at-2 : goal.bounds-cells-at-2
+bounds-cells-at-2 c = c.cell_of-at.ensures.1
+
+pub returns : goal.returns
+returns c =
+    let s = c in
+    let v = s.args.v in
+    let p = s.requires.1.1.1.1 in
+    let at = c.cell_of-at.result in
+    let q = c.coefficient_of-c in
+    let old = held s.args.sums at in
+    let room : length v.m ≡ most_signals = search (rules, array_length) in
+    let cells : length s.args.sums.cells ≡ pair_cells = search rules in
+    let few = s.requires.0 in
+    let wide = s.requires.1.0 in
+    let ha = s.requires.1.1.0 in
+    let hb = s.requires.1.1.1.0 in
+    let number = signed_small s.args.negative s.args.number p.0 in
+    let product = product_is v room few wide s.args.a s.args.b ha hb _ c.times.ensures in
+    let cell_is = c.cell_of-at.ensures.0 ∙ ap (cell (signals_of v)) product in
+    let sum = sum_is old q.result (p.1 at) (rw q.ensures (signed_small _ _ p.0)) ∙ ap (λ (x : ℤ). old +ℤ x) q.ensures in
+    λ line h. summed_next (signals_of v) (omega (arith, long v room few wide)) line _ (within v room few wide s.args.a ha) (within v room few wide s.args.b hb)
+    s.args.sums _ at cell_is (omega (arith, cells, c.cell_of-at.ensures.1)) (ap (set s.args.sums.cells at) sum) number h

@@ -1,0 +1,45 @@
+-- `agrees` meets its contract: the bits of the two coefficients are compared. Assumes nothing.
+use mathlib.Core.Path.{◌≡◌, ap, ap₂, ◌∙◌}
+use native.Mathlib.Omega.{arith}
+use borrow.Author.Rules.{rules}
+use lib.IntN.{ℤ, ◌-ℤ◌}
+use lib.ListN.{length}
+use mir.Syntax.{w32, w64}
+use mir.Val.{SFits, to_z, of_z}
+use Rattle.monomial.specs.Monomial.{width}
+use Rattle.wiring.specs.Coefficient.{is_zero}
+use Rattle.wiring.proofs.Ints.{size_fits}
+use Rattle.wiring.proofs.derivative.Bounds.{total_fits, total_held}
+use Rattle.truth.specs.Sums.{held, agrees}
+use Rattle.truth.proofs.truth.Machine.{cell_fits, bits_same}
+use Rattle.truth.proofs.truth.agrees.Goals as goal
+
+pub cell_of-at-requires : goal.cell_of-at-requires
+cell_of-at-requires c = let p = c.requires.1 in (p.0, (p.1.0, p.1.1.1))
+
+pub bounds-cells-at : goal.bounds-cells-at
+bounds-cells-at c = c.cell_of-at.ensures.1
+
+pub total-total-requires : goal.total-total-requires
+total-total-requires c = let p = c.requires in (p.0, p.1.1.1.0)
+
+pub overflow_cast-total : goal.overflow_cast-total
+overflow_cast-total c =
+    let terms = c.args.terms.now in
+    let z = c.args.z.e in
+    let m = c.args.m.e in
+    let long : length z ≡ width = search rules in
+    let small = c.requires.1.1.1.0 in
+    rw (total_held terms c.requires.0 z m long small _ c.total-total.ensures) (size_fits w64 _ (omega (arith, total_fits terms c.requires.0 z m long small)))
+
+pub returns : goal.returns
+unfolding agrees
+returns c =
+    let terms = c.args.terms.now in
+    let z = c.args.z.e in
+    let m = c.args.m.e in
+    let long : length z ≡ width = search rules in
+    let at = c.cell_of-at in
+    let told : SFits w64 (held c.args.sums at.result) = search (rules, cell_fits) in
+    let total = total_held terms c.requires.0 z m long c.requires.1.1.1.0 _ c.total-total.ensures in
+    bits_same _ (to_z w32 (of_z w32 c.total-total.result)) told (overflow_cast-total c) ∙ ap₂ (λ (x y : ℤ). is_zero (x -ℤ y)) (ap (held c.args.sums) at.ensures.0) total

@@ -1,0 +1,70 @@
+-- `is_true` meets its contract: the loop tests row after row (`Rows`), and what no row has is asked last (`decided-end`). Assumes nothing.
+use mathlib.Core.Path.{◌≡◌, refl}
+use Prim.Native.Nat.{◌<◌, ◌≤◌}
+use native.Mathlib.Omega.{arith}
+use borrow.Author.Rules.{rules}
+use lib.ListN.{length}
+use Rattle.wiring.specs.Panel.{most_signals}
+use Rattle.wiring.specs.Quadratic.{unmet}
+use Rattle.wiring.specs.Signals.{signals_of}
+use Rattle.wiring.proofs.signals.Arrays.{array_length}
+use Rattle.truth.proofs.truth.Deciding.{rows_start, rows_fail, rows_on, rows_end, decided_no, decided_end}
+use Rattle.truth.proofs.truth.Places.{long, within, at, small}
+use Rattle.truth.proofs.truth.is_true.Goals as goal
+
+pub loop-a-init : goal.loop-a-init
+loop-a-init c = (refl, (refl, rows_start _ _ _))
+
+pub row_agrees-requires : goal.row_agrees-requires
+row_agrees-requires c =
+    let s = c in
+    let v = s.args.v in
+    let room : length v.m ≡ most_signals = search (rules, array_length) in
+    let few = s.requires.1.0 in
+    let wide = s.requires.1.1.0 in
+    (s.requires.0, (few, (wide, (small v room few wide s.args.left s.requires.1.1.1, omega (arith, c.loop-a.invariant.0)))))
+
+pub returns-then-not-row_agrees : goal.returns-then-not-row_agrees
+returns-then-not-row_agrees c =
+    let s = c in
+    let v = s.args.v in
+    let k = c.loop-a in
+    let room : length v.m ≡ most_signals = search (rules, array_length) in
+    let few = s.requires.1.0 in
+    let wide = s.requires.1.1.0 in
+    let ha : k.a < v.len = omega (arith, k.invariant.0) in
+    let fails = rows_fail _ _ _ k.a k.invariant.1.1 (within v room few wide k.a ha) _ c.row_agrees.ensures c.if-not-row_agrees.true in
+    λ line told sums. decided_no _ _ _ line _ told sums _ (at v room few wide s.args.left s.requires.1.1.1) fails
+
+pub loop-a-preserved : goal.loop-a-preserved
+loop-a-preserved c =
+    let s = c in
+    let v = s.args.v in
+    let k = c.loop-a in
+    let room : length v.m ≡ most_signals = search (rules, array_length) in
+    let few = s.requires.1.0 in
+    let wide = s.requires.1.1.0 in
+    let ha : k.a < v.len = omega (arith, k.invariant.0) in
+    (k.invariant.0, (k.invariant.1.0, rows_on _ _ _ k.a k.invariant.1.1 (within v room few wide k.a ha) _ c.row_agrees.ensures c.if-not-row_agrees.false))
+
+pub lacks_pair-requires : goal.lacks_pair-requires
+lacks_pair-requires c =
+    let s = c in
+    let v = s.args.v in
+    let room : length v.m ≡ most_signals = search (rules, array_length) in
+    let few = s.requires.1.0 in
+    let wide = s.requires.1.1.0 in
+    (s.requires.0, (few, (wide, small v room few wide s.args.left s.requires.1.1.1)))
+
+pub returns : goal.returns
+unfolding unmet
+returns c =
+    let s = c in
+    let v = s.args.v in
+    let k = c.loop-a in
+    let room : length v.m ≡ most_signals = search (rules, array_length) in
+    let few = s.requires.1.0 in
+    let wide = s.requires.1.1.0 in
+    let all : length (signals_of v) ≤ k.a = omega (arith, k.invariant.0, long v room few wide) in
+    let rows = rows_end _ _ _ k.a k.invariant.1.1 all in
+    λ line told sums. decided_end _ _ _ line _ told sums _ (at v room few wide s.args.left s.requires.1.1.1) rows _ c.lacks_pair.ensures
