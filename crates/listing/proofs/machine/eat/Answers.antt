@@ -3,7 +3,7 @@ use Rattle.listing.specs.Machine.{eat}
 use Rattle.listing.proofs.machine.eat.Goals as goal
 
 pub eat_at-requires : goal.eat_at-requires
-eat_at-requires c = let q = c in (q.requires.0, rw c.in-At.is at q.requires.1)
+eat_at-requires c = (c.requires.0, rw c.in-At.is at c.requires.1)
 
 pub returns-in-Dead : goal.returns-in-Dead
 unfolding eat

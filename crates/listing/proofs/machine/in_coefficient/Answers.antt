@@ -15,13 +15,11 @@ returns-then-x-gt57 c = rw (le-leb _ _ c.if-x-lt48.false, lt-leb _ _ c.if-x-gt57
 pub returns-then-longer-gt1000000000 : goal.returns-then-longer-gt1000000000
 unfolding in_coefficient
 returns-then-longer-gt1000000000 c =
-    let at_if1 = c in
-    let q = at_if1.args in
+    let q = c.args in
     let over = lt-leb (longer q.s.number q.x) 1000000000 c.if-longer-gt1000000000.true in
-    rw (le-leb _ _ at_if1.if-x-lt48.false, le-leb _ _ c.if-x-gt57.false, over, at_if1.one-other.ensures, at_if1.behind.ensures)
+    rw (le-leb _ _ c.if-x-lt48.false, le-leb _ _ c.if-x-gt57.false, over, c.one-other.ensures, c.behind.ensures)
 
 pub returns : goal.returns
 unfolding in_coefficient
 returns c =
-    let at_if1 = c in
-    rw (le-leb _ _ at_if1.if-x-lt48.false, le-leb _ _ c.if-x-gt57.false, le-leb _ _ c.if-longer-gt1000000000.false)
+    rw (le-leb _ _ c.if-x-lt48.false, le-leb _ _ c.if-x-gt57.false, le-leb _ _ c.if-longer-gt1000000000.false)

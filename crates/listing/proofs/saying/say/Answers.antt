@@ -3,7 +3,7 @@ use Rattle.listing.specs.Saying.{saying}
 use Rattle.listing.proofs.saying.say.Goals as goal
 
 pub say_at-requires : goal.say_at-requires
-say_at-requires c = let q = c in (q.requires.0, (rw c.in-At.is at q.requires.1.0, q.requires.1.1))
+say_at-requires c = (c.requires.0, (rw c.in-At.is at c.requires.1.0, c.requires.1.1))
 
 pub returns-in-Dead : goal.returns-in-Dead
 unfolding saying

@@ -15,17 +15,15 @@ use Rattle.truth.proofs.truth.add.Goals as goal
 
 pub times-requires : goal.times-requires
 times-requires c =
-    let s = c in
-    let v = s.args.v in
+    let v = c.args.v in
     let room : length v.m ≡ most_signals = search (rules, array_length) in
-    product_fits v room s.requires.0 s.requires.1.0 s.args.a s.args.b s.requires.1.1.0 s.requires.1.1.1.0
+    product_fits v room c.requires.0 c.requires.1.0 c.args.a c.args.b c.requires.1.1.0 c.requires.1.1.1.0
 
 pub cell_of-at-requires : goal.cell_of-at-requires
 cell_of-at-requires c =
-    let s = c in
-    let v = s.args.v in
+    let v = c.args.v in
     let room : length v.m ≡ most_signals = search (rules, array_length) in
-    (s.requires.0, (s.requires.1.0, product_met v room s.requires.0 s.requires.1.0 s.args.a s.args.b s.requires.1.1.0 s.requires.1.1.1.0 _ c.times.ensures))
+    (c.requires.0, (c.requires.1.0, product_met v room c.requires.0 c.requires.1.0 c.args.a c.args.b c.requires.1.1.0 c.requires.1.1.1.0 _ c.times.ensures))
 
 pub coefficient_of-c-requires : goal.coefficient_of-c-requires
 coefficient_of-c-requires c = c.requires.1.1.1.1.0
@@ -35,32 +33,30 @@ bounds-cells-at c = c.cell_of-at.ensures.1
 
 pub overflow_add-cells : goal.overflow_add-cells
 overflow_add-cells c =
-    let s = c in
-    let p = s.requires.1.1.1.1 in
+    let p = c.requires.1.1.1.1 in
     let at = c.cell_of-at.result in
     let q = c.coefficient_of-c in
-    sum_fits (held s.args.sums at) q.result (p.1 at) (rw q.ensures (signed_small _ _ p.0))
+    sum_fits (held c.args.sums at) q.result (p.1 at) (rw q.ensures (signed_small _ _ p.0))
 
 pub bounds-cells-at-2 : goal.bounds-cells-at-2
 bounds-cells-at-2 c = c.cell_of-at.ensures.1
 
 pub returns : goal.returns
 returns c =
-    let s = c in
-    let v = s.args.v in
-    let p = s.requires.1.1.1.1 in
+    let v = c.args.v in
+    let p = c.requires.1.1.1.1 in
     let at = c.cell_of-at.result in
     let q = c.coefficient_of-c in
-    let old = held s.args.sums at in
+    let old = held c.args.sums at in
     let room : length v.m ≡ most_signals = search (rules, array_length) in
-    let cells : length s.args.sums.cells ≡ pair_cells = search rules in
-    let few = s.requires.0 in
-    let wide = s.requires.1.0 in
-    let ha = s.requires.1.1.0 in
-    let hb = s.requires.1.1.1.0 in
-    let number = signed_small s.args.negative s.args.number p.0 in
-    let product = product_is v room few wide s.args.a s.args.b ha hb _ c.times.ensures in
+    let cells : length c.args.sums.cells ≡ pair_cells = search rules in
+    let few = c.requires.0 in
+    let wide = c.requires.1.0 in
+    let ha = c.requires.1.1.0 in
+    let hb = c.requires.1.1.1.0 in
+    let number = signed_small c.args.negative c.args.number p.0 in
+    let product = product_is v room few wide c.args.a c.args.b ha hb _ c.times.ensures in
     let cell_is = c.cell_of-at.ensures.0 ∙ ap (cell (signals_of v)) product in
     let sum = sum_is old q.result (p.1 at) (rw q.ensures (signed_small _ _ p.0)) ∙ ap (λ (x : ℤ). old +ℤ x) q.ensures in
-    λ line h. summed_next (signals_of v) (omega (arith, long v room few wide)) line _ (within v room few wide s.args.a ha) (within v room few wide s.args.b hb)
-    s.args.sums _ at cell_is (omega (arith, cells, c.cell_of-at.ensures.1)) (ap (set s.args.sums.cells at) sum) number h
+    λ line h. summed_next (signals_of v) (omega (arith, long v room few wide)) line _ (within v room few wide c.args.a ha) (within v room few wide c.args.b hb)
+    c.args.sums _ at cell_is (omega (arith, cells, c.cell_of-at.ensures.1)) (ap (set c.args.sums.cells at) sum) number h

@@ -17,54 +17,49 @@ loop-a-init c = (refl, (refl, rows_start _ _ _))
 
 pub row_agrees-requires : goal.row_agrees-requires
 row_agrees-requires c =
-    let s = c in
-    let v = s.args.v in
+    let v = c.args.v in
     let room : length v.m ≡ most_signals = search (rules, array_length) in
-    let few = s.requires.1.0 in
-    let wide = s.requires.1.1.0 in
-    (s.requires.0, (few, (wide, (small v room few wide s.args.left s.requires.1.1.1, omega (arith, c.loop-a.invariant.0)))))
+    let few = c.requires.1.0 in
+    let wide = c.requires.1.1.0 in
+    (c.requires.0, (few, (wide, (small v room few wide c.args.left c.requires.1.1.1, omega (arith, c.loop-a.invariant.0)))))
 
 pub returns-then-not-row_agrees : goal.returns-then-not-row_agrees
 returns-then-not-row_agrees c =
-    let s = c in
-    let v = s.args.v in
+    let v = c.args.v in
     let k = c.loop-a in
     let room : length v.m ≡ most_signals = search (rules, array_length) in
-    let few = s.requires.1.0 in
-    let wide = s.requires.1.1.0 in
+    let few = c.requires.1.0 in
+    let wide = c.requires.1.1.0 in
     let ha : k.a < v.len = omega (arith, k.invariant.0) in
     let fails = rows_fail _ _ _ k.a k.invariant.1.1 (within v room few wide k.a ha) _ c.row_agrees.ensures c.if-not-row_agrees.true in
-    λ line told sums. decided_no _ _ _ line _ told sums _ (at v room few wide s.args.left s.requires.1.1.1) fails
+    λ line told sums. decided_no _ _ _ line _ told sums _ (at v room few wide c.args.left c.requires.1.1.1) fails
 
 pub loop-a-preserved : goal.loop-a-preserved
 loop-a-preserved c =
-    let s = c in
-    let v = s.args.v in
+    let v = c.args.v in
     let k = c.loop-a in
     let room : length v.m ≡ most_signals = search (rules, array_length) in
-    let few = s.requires.1.0 in
-    let wide = s.requires.1.1.0 in
+    let few = c.requires.1.0 in
+    let wide = c.requires.1.1.0 in
     let ha : k.a < v.len = omega (arith, k.invariant.0) in
     (k.invariant.0, (k.invariant.1.0, rows_on _ _ _ k.a k.invariant.1.1 (within v room few wide k.a ha) _ c.row_agrees.ensures c.if-not-row_agrees.false))
 
 pub lacks_pair-requires : goal.lacks_pair-requires
 lacks_pair-requires c =
-    let s = c in
-    let v = s.args.v in
+    let v = c.args.v in
     let room : length v.m ≡ most_signals = search (rules, array_length) in
-    let few = s.requires.1.0 in
-    let wide = s.requires.1.1.0 in
-    (s.requires.0, (few, (wide, small v room few wide s.args.left s.requires.1.1.1)))
+    let few = c.requires.1.0 in
+    let wide = c.requires.1.1.0 in
+    (c.requires.0, (few, (wide, small v room few wide c.args.left c.requires.1.1.1)))
 
 pub returns : goal.returns
 unfolding unmet
 returns c =
-    let s = c in
-    let v = s.args.v in
+    let v = c.args.v in
     let k = c.loop-a in
     let room : length v.m ≡ most_signals = search (rules, array_length) in
-    let few = s.requires.1.0 in
-    let wide = s.requires.1.1.0 in
+    let few = c.requires.1.0 in
+    let wide = c.requires.1.1.0 in
     let all : length (signals_of v) ≤ k.a = omega (arith, k.invariant.0, long v room few wide) in
     let rows = rows_end _ _ _ k.a k.invariant.1.1 all in
-    λ line told sums. decided_end _ _ _ line _ told sums _ (at v room few wide s.args.left s.requires.1.1.1) rows _ c.lacks_pair.ensures
+    λ line told sums. decided_end _ _ _ line _ told sums _ (at v room few wide c.args.left c.requires.1.1.1) rows _ c.lacks_pair.ensures

@@ -19,57 +19,52 @@ loop-b-init c = (refl, (refl, record { rest = refl }))
 
 pub times-requires : goal.times-requires
 times-requires c =
-    let s = c in
-    let v = s.args.v in
+    let v = c.args.v in
     let k = c.loop-b in
     let room : length v.m ≡ most_signals = search (rules, array_length) in
-    let few = s.requires.1.0 in
+    let few = c.requires.1.0 in
     let hb : k.b < v.len = omega (arith, k.invariant.0) in
-    product_fits v room few s.requires.1.1.0 s.args.a k.b s.requires.1.1.1.1 hb
+    product_fits v room few c.requires.1.1.0 c.args.a k.b c.requires.1.1.1.1 hb
 
 pub agrees-requires : goal.agrees-requires
 agrees-requires c =
-    let s = c in
-    let v = s.args.v in
+    let v = c.args.v in
     let k = c.loop-b in
     let room : length v.m ≡ most_signals = search (rules, array_length) in
-    let few = s.requires.1.0 in
+    let few = c.requires.1.0 in
     let hb : k.b < v.len = omega (arith, k.invariant.0) in
-    let met = product_met v room few s.requires.1.1.0 s.args.a k.b s.requires.1.1.1.1 hb _ c.times.ensures in
-    (s.requires.0, (few, (s.requires.1.1.0, (s.requires.1.1.1.0, met))))
+    let met = product_met v room few c.requires.1.1.0 c.args.a k.b c.requires.1.1.1.1 hb _ c.times.ensures in
+    (c.requires.0, (few, (c.requires.1.1.0, (c.requires.1.1.1.0, met))))
 
 pub returns-then-not-agrees : goal.returns-then-not-agrees
 unfolding row_agrees
 returns-then-not-agrees c =
-    let s = c in
-    let v = s.args.v in
+    let v = c.args.v in
     let k = c.loop-b in
     let room : length v.m ≡ most_signals = search (rules, array_length) in
-    let few = s.requires.1.0 in
-    let wide = s.requires.1.1.0 in
+    let few = c.requires.1.0 in
+    let wide = c.requires.1.1.0 in
     let hb : k.b < v.len = omega (arith, k.invariant.0) in
-    let product = product_is v room few wide s.args.a k.b s.requires.1.1.1.1 hb _ c.times.ensures in
+    let product = product_is v room few wide c.args.a k.b c.requires.1.1.1.1 hb _ c.times.ensures in
     let told = agrees_at _ _ _ _ _ _ product c.agrees.ensures in
     from_fails (plain.one 0) k.invariant.1.1 (within v room few wide k.b hb) (told ∙ c.if-not-agrees.true)
 
 pub loop-b-preserved : goal.loop-b-preserved
 loop-b-preserved c =
-    let s = c in
-    let v = s.args.v in
+    let v = c.args.v in
     let k = c.loop-b in
     let room : length v.m ≡ most_signals = search (rules, array_length) in
-    let few = s.requires.1.0 in
-    let wide = s.requires.1.1.0 in
+    let few = c.requires.1.0 in
+    let wide = c.requires.1.1.0 in
     let hb : k.b < v.len = omega (arith, k.invariant.0) in
-    let product = product_is v room few wide s.args.a k.b s.requires.1.1.1.1 hb _ c.times.ensures in
+    let product = product_is v room few wide c.args.a k.b c.requires.1.1.1.1 hb _ c.times.ensures in
     let told = agrees_at _ _ _ _ _ _ product c.agrees.ensures in
     (k.invariant.0, (k.invariant.1.0, from_on (plain.one 0) k.invariant.1.1 (within v room few wide k.b hb) (told ∙ c.if-not-agrees.false)))
 
 pub returns : goal.returns
 unfolding row_agrees
 returns c =
-    let s = c in
-    let v = s.args.v in
+    let v = c.args.v in
     let k = c.loop-b in
     let room : length v.m ≡ most_signals = search (rules, array_length) in
-    from_ends [] k.invariant.1.1 (omega (arith, k.invariant.0, long v room s.requires.1.0 s.requires.1.1.0))
+    from_ends [] k.invariant.1.1 (omega (arith, k.invariant.0, long v room c.requires.1.0 c.requires.1.1.0))

@@ -1,0 +1,60 @@
+-- `read_listing` meets its contract: the checks run in their order, and then the text is read. Assumes nothing.
+use mathlib.Core.Path.{sym, ◌∙◌}
+use native.Mathlib.Omega.{arith}
+use Rattle.wiring.specs.Sockets.{panel_of}
+use Rattle.wiring.specs.declared.terms.Fault.TheVariants.{Wrong, Repeated}
+use Rattle.desktop.proofs.read.Laws.{said_setting, said_terms_length, said_text_length, said_rest, said_read, reading_of}
+use Rattle.desktop.proofs.read.read_listing.Goals as goal
+
+pub returns-then-not-panel_right : goal.returns-then-not-panel_right
+returns-then-not-panel_right c =
+    let a = c.args in
+    let panel = panel_of a.n a.marks a.degree in
+    c.refused.ensures ∙ said_setting panel a.terms.now a.text.now (sym c.panel_right.ensures ∙ c.if-not-panel_right.true)
+
+pub returns-then-not-length_right : goal.returns-then-not-length_right
+returns-then-not-length_right c =
+    let a = c.args in
+    let panel = panel_of a.n a.marks a.degree in
+    let known = sym c.panel_right.ensures ∙ c.if-not-panel_right.false in
+    c.refused-then-not-length_right.ensures ∙ said_terms_length panel a.terms.now a.text.now known (sym c.length_right.ensures ∙ c.if-not-length_right.true)
+
+pub returns-then-text-gt-MOST_TEXT : goal.returns-then-text-gt-MOST_TEXT
+returns-then-text-gt-MOST_TEXT c =
+    let a = c.args in
+    let panel = panel_of a.n a.marks a.degree in
+    let known = sym c.panel_right.ensures ∙ c.if-not-panel_right.false in
+    let measured = sym c.length_right.ensures ∙ c.if-not-length_right.false in
+    c.refused-then-text-gt-MOST_TEXT.ensures ∙ said_text_length panel a.terms.now a.text.now known measured (omega arith)
+
+pub read_text-requires : goal.read_text-requires
+read_text-requires c =
+    let a = c.args in
+    let panel = panel_of a.n a.marks a.degree in
+    let known = sym c.panel_right.ensures ∙ c.if-not-panel_right.false in
+    reading_of panel a.terms.now a.text.now known (omega arith) (sym c.fault_of.ensures ∙ c.in-Clean.is)
+
+pub returns-in-Clean : goal.returns-in-Clean
+returns-in-Clean c =
+    let a = c.args in
+    let panel = panel_of a.n a.marks a.degree in
+    let known = sym c.panel_right.ensures ∙ c.if-not-panel_right.false in
+    let measured = sym c.length_right.ensures ∙ c.if-not-length_right.false in
+    let clean = sym c.in-Clean.is ∙ c.fault_of.ensures in
+    said_read panel a.terms.now a.text.now known measured (omega arith) clean _ c.read_text.ensures
+
+pub returns-in-Wrong : goal.returns-in-Wrong
+returns-in-Wrong c =
+    let a = c.args in
+    let panel = panel_of a.n a.marks a.degree in
+    let known = sym c.panel_right.ensures ∙ c.if-not-panel_right.false in
+    let measured = sym c.length_right.ensures ∙ c.if-not-length_right.false in
+    c.refused-in-Wrong.ensures ∙ said_rest panel a.terms.now a.text.now known measured (omega arith) (Wrong c.in-Wrong.place) (sym c.in-Wrong.is ∙ c.fault_of.ensures)
+
+pub returns-in-Repeated : goal.returns-in-Repeated
+returns-in-Repeated c =
+    let a = c.args in
+    let panel = panel_of a.n a.marks a.degree in
+    let known = sym c.panel_right.ensures ∙ c.if-not-panel_right.false in
+    let measured = sym c.length_right.ensures ∙ c.if-not-length_right.false in
+    c.refused-in-Repeated.ensures ∙ said_rest panel a.terms.now a.text.now known measured (omega arith) (Repeated c.in-Repeated.place) (sym c.in-Repeated.is ∙ c.fault_of.ensures)
