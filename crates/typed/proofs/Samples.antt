@@ -1,7 +1,7 @@
 -- Systems and sets beside their listings, computed by way of the bytes of the set record and the wiring records: one table, one claim. Assumes nothing.
 use mathlib.Core.Path.{◌≡◌, refl}
 use mathlib.Core.List.{List, [], ◌∷◌, ◌++◌, map}
-use Prim.Native.Nat.{ℕ, ◌*◌, ◌-◌}
+use Prim.Native.Nat.{ℕ, ◌-◌}
 use Prim.Native.String.{String}
 use lib.ListN.{length, take, replicate}
 use Rattle.monomial.specs.Lists.{any, some, all, keep, place, gather, below, pairwise, pointwise, dictionary, insert_by, arrange_by}
