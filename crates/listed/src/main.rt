@@ -81,7 +81,11 @@ fn read_listing(n: u64, marks: u64, degree: u64, bytes: u64) {
 fn main(rt: HostRuntime) {
     let count = lines::words::count_words(&rt, MOST_WORDS);
     if count == 4 {
-        type_listing(words::word_at(&rt, 1), words::word_at(&rt, 2), words::word_at(&rt, 3));
+        type_listing(
+            words::word_at(&rt, 1),
+            words::word_at(&rt, 2),
+            words::word_at(&rt, 3),
+        );
         return;
     }
     if count == 5 {
