@@ -28,7 +28,7 @@ use Rattle.wiring.specs.Answers.{missing}
 use Rattle.wiring.specs.Claims.{Wide}
 use Rattle.wiring.proofs.quadratic.Definition1.{definition1, quadratic_same}
 use Rattle.wiring.proofs.terms.Laws.{clean_for}
-use Rattle.walk.specs.Walk.{Finds, Rules, found, level, walked}
+use Rattle.walk.specs.Walk.{Finds, Rules, found, level}
 use Rattle.walk.specs.Turns.{Walked}
 use Rattle.walk.specs.Plan.{done, plan}
 use Rattle.walk.specs.Claims.{Orderly, Extends, Counts, Sparing, distinct, Barren, Ends, QuadraticList, NoneSmaller, Listed, Smallest, Finished, Proper, Sound}

@@ -1,7 +1,7 @@
 -- The subsets of a list: those with its first entry and those without, so 2 to the power of its length. Assumes nothing.
 use mathlib.Core.Path.{◌≡◌, refl, sym, ap, ◌∙◌}
 use mathlib.Core.List.{List, [], ◌∷◌, ◌++◌, map, map-map, map-append, append-nil, append_assoc}
-use Prim.Native.Nat.{suc, ◌+◌, ◌*◌, ◌^◌}
+use Prim.Native.Nat.{suc, ◌*◌, ◌^◌}
 use native.Mathlib.Omega.{arith}
 use native.Mathlib.Nat.{pow-succ'}
 use lib.ListN.{length, length-append, length-map}

@@ -159,7 +159,7 @@ module _ (r : Rules) (n : ℕ) (fs : List (Poly Mono)) (k limit room : ℕ) (s :
   stands_by {d} {w} {steps} {count} {out} [] shut h st = subst (λ (t : ℕ). Stands d w [] t count out) (omega arith) st
   stands_by {d} {w} {steps} {count} {out} (p ∷ ps) shut h st =
       let next : Stands d w [] (steps + 1 + length ps) count out =
-      stands_by ps (λ q i. shut q (there i)) (omega arith) (stands_shut st (omega arith) (shut p here)) in
+      stands_by {steps = steps + 1} ps (λ q i. shut q (there i)) (omega arith) (stands_shut st (omega arith) (shut p here)) in
       subst (λ (t : ℕ). Stands d w [] t count out) (omega arith) next
 
   pub stands_over : {d : ℕ} {w : Run} {steps count : ℕ} {out : List ℕ} (ps : List Pair) → ((p : Pair) → p ∈ ps → opens r n k s p ≡ false)

@@ -1,0 +1,8 @@
+-- `siragumon_wire` meets its contract: the reply of wiring goes out as its five numbers, beside the buffer. Assumes nothing.
+use Rattle.planner_c.proofs.calls.Laws.{handed_on}
+use Rattle.planner_c.proofs.calls.siragumon_wire.Goals as goal
+
+pub returns : goal.returns
+returns c =
+    let said = c.wire-r in
+    handed_on said.result _ _ _ c.numbers.ensures said.ensures

@@ -1,0 +1,38 @@
+-- `join` meets its contract: the record stands behind the others, or there is no room for it. Assumes nothing.
+use mathlib.Core.Path.{◌≡◌, ap, ap₂, ◌∙◌}
+use mathlib.Core.List.{List}
+use Prim.Native.Nat.{ℕ, ◌*◌}
+use native.Mathlib.Omega.{arith}
+use lib.ListN.{length}
+use lib.Seq.{paste}
+use Rattle.wiring.specs.Panel.{cards, set_bytes}
+use Rattle.wiring.specs.Sets.{monomials_of, set_record}
+use Rattle.wiring.proofs.signals.Arrays.{array_length}
+use Rattle.thin.proofs.subsets.Listing.{set_long, begun_past, begun_more}
+use borrow.Author.Rules.{rules}
+use Rattle.thin.proofs.subsets.join.Goals as goal
+
+pub returns-then-count-out : goal.returns-then-count-out
+returns-then-count-out c =
+    λ l many b.
+    let at_put = c in
+    let at_record_of = at_put in
+    let at_if1 = at_record_of in
+    let start = at_if1 in
+    let a = start.args in
+    let s = monomials_of a.set in
+    let full : length a.set.m ≡ cards = search (rules, array_length, start.well_formed.1.1.0) in
+    let long = set_long a.set full start.requires.0 start.requires.1 in
+    let written : at_put.put.new.out ≡ paste a.out.now (set_bytes * length l) (set_record s) set_bytes =
+    at_put.put.ensures
+    ∙ ap₂ (λ (k : ℕ) (r : List ℕ). paste a.out.now (set_bytes * k) r (length r)) many at_record_of.record_of-r.ensures.1
+    ∙ ap (λ (k : ℕ). paste a.out.now (set_bytes * length l) (set_record s) k) long in
+    begun_more l s a.out.now b long (omega (arith, many, at_if1.if-count-out.true)) at_put.put.new.out written
+
+pub returns-else-count-out : goal.returns-else-count-out
+returns-else-count-out c =
+    λ l many b.
+    let start = c in
+    let a = start.args in
+    let full : length a.set.m ≡ cards = search (rules, array_length) in
+    begun_past l (monomials_of a.set) a.out.now b (set_long a.set full start.requires.0 start.requires.1) (omega (arith, c.if-count-out.false))

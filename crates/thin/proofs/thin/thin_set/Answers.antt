@@ -1,0 +1,34 @@
+-- `thin_set` meets its contract: when all subsets are sifted, the list has room or it has not. Assumes nothing.
+use mathlib.Core.Path.{◌≡◌}
+use lib.ListN.{length}
+use Rattle.wiring.specs.Panel.{cards}
+use Rattle.wiring.proofs.signals.Arrays.{array_length}
+use Rattle.thin.proofs.thin.Laws.{start_deciding, start_bounded, ended_done, ended_full}
+use borrow.Author.Rules.{rules}
+use Rattle.thin.proofs.thin.thin_set.Goals as goal
+
+pub decide-best-requires : goal.decide-best-requires
+decide-best-requires c =
+    let start = c in
+    let full : length start.args.set.m ≡ cards = search (rules, array_length) in
+    let a = start.args in
+    (start_deciding a.n a.terms.now a.set a.out.now start.requires.0 start.requires.1 full, start_bounded a.n a.terms.now a.set a.out.now start.requires.0 start.requires.1 full)
+
+pub returns-then-out-best : goal.returns-then-out-best
+returns-then-out-best c =
+    let start = c in
+    let full : length start.args.set.m ≡ cards = search (rules, array_length) in
+    let a = start.args in
+    let sifted = c.decide-best in
+    let at_clear = c in
+    ended_full a.n a.terms.now a.set a.out.now start.requires.0 start.requires.1 full sifted.result sifted.new.out sifted.ensures sifted.auto.out
+    at_clear.if-out-best.true at_clear.clear.new.out at_clear.clear.ensures
+
+pub returns : goal.returns
+returns c =
+    let start = c in
+    let full : length start.args.set.m ≡ cards = search (rules, array_length) in
+    let a = start.args in
+    let sifted = c.decide-best in
+    ended_done a.n a.terms.now a.set a.out.now start.requires.0 start.requires.1 full sifted.result sifted.new.out sifted.ensures sifted.auto.out
+    c.if-out-best.false

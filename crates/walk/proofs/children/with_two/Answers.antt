@@ -1,0 +1,39 @@
+-- `with_two` meets its contract: refused where two more are too many or one of them may not be, or made one after the other. Assumes nothing.
+use mathlib.Core.Path.{refl, sym, ◌∙◌}
+use Rattle.walk.proofs.children.Offers.{copied, two_refused, first_barred, second_barred, two_made}
+use Rattle.wiring.specs.Sockets.{can_build}
+use Rattle.walk.proofs.children.with_two.Goals as goal
+
+pub returns-then-level-len : goal.returns-then-level-len
+returns-then-level-len c =
+    let a = c.args in
+    λ lacks lacks_first. two_refused a.set.now (can_build a.panel) a.level _ _ _ _ lacks lacks_first refl c.if-level-len.true
+
+pub returns-then-not-can_build : goal.returns-then-not-can_build
+returns-then-not-can_build c =
+    let a = c.args in
+    let bars = sym c.can_build.ensures ∙ c.if-not-can_build.true in
+    λ lacks lacks_first. first_barred a.set.now (can_build a.panel) a.level _ _ _ _ lacks lacks_first refl bars
+
+pub returns-then-not-can_build-2 : goal.returns-then-not-can_build-2
+returns-then-not-can_build-2 c =
+    let a = c.args in
+    let bars = sym c.can_build-2.ensures ∙ c.if-not-can_build-2.true in
+    λ lacks lacks_first. second_barred a.set.now (can_build a.panel) a.level _ _ _ _ lacks lacks_first refl bars
+
+pub returns : goal.returns
+returns c =
+    let at_second = c in
+    let at_first = at_second in
+    let at_put = at_first in
+    let at_if3 = at_put in
+    let at_if2 = at_if3 in
+    let at_if1 = at_if2 in
+    let start = at_if1 in
+    let a = start.args in
+    let may_first = sym at_if2.can_build.ensures ∙ at_if2.if-not-can_build.false in
+    let may_second = sym at_if3.can_build-2.ensures ∙ at_if3.if-not-can_build-2.false in
+    let held = copied a.set.now start.requires.whole _ _ at_put.put.ensures in
+    λ lacks lacks_first.
+    two_made a.set.now (can_build a.panel) a.level _ _ _ _ lacks lacks_first refl refl at_if1.if-level-len.false may_first may_second
+    _ _ held at_first.put_in.ensures at_second.put_in-2.ensures start.requires.ascending

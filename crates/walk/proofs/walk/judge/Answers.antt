@@ -1,0 +1,48 @@
+-- `judge` meets its contract: the set is judged at its level or below it. Assumes nothing.
+use mathlib.Core.Path.{refl, sym, ap, subst}
+use mathlib.Core.Bool.{not}
+use Prim.Native.Nat.{ℕ, ◌-◌, ◌<◌}
+use native.Mathlib.Omega.{arith}
+use lib.ListN.{length}
+use Rattle.wiring.specs.Poly.{plain}
+use Rattle.wiring.specs.Derivative.{derivative}
+use Rattle.wiring.specs.Quadratic.{nonsquares}
+use Rattle.wiring.specs.Signals.{tabled, signals_at}
+use Rattle.wiring.specs.Sockets.{can_build}
+use Rattle.wiring.specs.Terms.{records, system}
+use Rattle.wiring.proofs.signals.Tables.{tabled_length}
+use Rattle.counting.specs.Verdict.{Weighing, Judged}
+use Rattle.walk.proofs.walk.Laws.{signals_fit}
+use Rattle.walk.proofs.walk.Judging.{weighed_last, weighing, weighed_below}
+use Rattle.walk.proofs.walk.judge.Goals as goal
+
+pub is_unmet-requires : goal.is_unmet-requires
+is_unmet-requires c =
+    let s = c in
+    let p = s.requires.0 in
+    (p.clean, (p.few, (signals_fit s.args.f.panel.n s.args.set.now p.walked, s.requires.1.summed)))
+
+pub returns-then-f-len : goal.returns-then-f-len
+returns-then-f-len c =
+    let s = c in
+    let a = s.args in
+    weighed_last a.f.panel a.terms.now a.f.level a.set.now s.requires.0 _ refl (ap not c.is_unmet.ensures) (omega (arith, tabled_length a.set.now, c.if-f-len.true))
+
+pub verdict_of-requires : goal.verdict_of-requires
+verdict_of-requires c =
+    let s = c in
+    let a = s.args in
+    let low : length (tabled a.set.now) < a.f.level = omega (arith, tabled_length a.set.now, c.if-f-len.false) in
+    let asked = weighing a.f.panel a.terms.now a.f.level a.set.now s.requires.0 low a.f.cancels s.requires.1.summed in
+    (subst (λ (k : ℕ). Weighing a.terms.now a.f.panel.n a.set.now a.f.cancels (a.f.level - k)) (tabled_length a.set.now) asked, s.requires.1.roomy)
+
+pub returns : goal.returns
+returns c =
+    let s = c in
+    let a = s.args in
+    let low : length (tabled a.set.now) < a.f.level = omega (arith, tabled_length a.set.now, c.if-f-len.false) in
+    let v = signals_at a.f.panel.n a.set.now in
+    let gaps = nonsquares plain v (derivative plain (system (records a.terms.now))) in
+    let said = c.verdict_of in
+    weighed_below a.f.panel a.terms.now a.f.level a.set.now s.requires.0 low said.result
+    (subst (λ (k : ℕ). Judged (can_build a.f.panel) (a.f.level - k) v gaps said.result) (sym (tabled_length a.set.now)) said.ensures)

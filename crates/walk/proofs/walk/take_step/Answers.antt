@@ -1,0 +1,46 @@
+-- `take_step` meets its contract: spent, found, at its end, or to be split. Assumes nothing.
+use mathlib.Core.Path.{refl, sym, subst}
+use Prim.Native.Nat.{◌/◌}
+use native.Mathlib.Omega.{arith}
+use lib.ListN.{length}
+use Rattle.wiring.specs.Panel.{set_bytes}
+use Rattle.wiring.specs.Signals.{tabled}
+use Rattle.wiring.specs.Terms.{records, system}
+use Rattle.walk.specs.Walk.{kit_rules}
+use Rattle.walk.specs.Turns.{Tells}
+use Rattle.walk.proofs.walk.Laws.{open_spent}
+use Rattle.walk.proofs.walk.Judging.{found_runs, lost_steps}
+use Rattle.walk.proofs.walk.take_step.Goals as goal
+
+pub returns-then-f-taken : goal.returns-then-f-taken
+returns-then-f-taken c =
+    λ d finds p sh.
+    let a = c.args in
+    open_spent (kit_rules a.f.panel) a.f.panel.n (system (records a.terms.now)) a.f.level a.f.limit (length a.out.now / set_bytes) a.st.steps finds (tabled a.set.now) d p (omega arith)
+
+pub judge-o-requires : goal.judge-o-requires
+judge-o-requires c =
+    let start = c in
+    (start.requires.0.opening, start.requires.1)
+
+pub found-requires : goal.found-requires
+found-requires c =
+    let start = c in
+    let p = start.requires.0 in
+    record { lies = record { whole = p.opening.whole; recorded = p.opening.walked.recorded }; showing = p.showing }
+
+pub returns-then-o : goal.returns-then-o
+returns-then-o c =
+    λ d finds p sh.
+    let start = c in
+    let a = start.args in
+    let j = c.judge-o in
+    let told = found_runs (kit_rules a.f.panel) a.f.panel.n a.terms.now a.f.level a.f.limit a.set.now a.st a.out.now _ j.ensures (omega (arith, c.if-f-taken.false)) c.if-o.true d finds p in
+    subst (Tells c.found.result c.found.new.out) (sym told) (c.found.ensures finds sh)
+
+pub returns : goal.returns
+returns c =
+    let start = c in
+    let a = start.args in
+    let j = c.judge-o in
+    lost_steps (kit_rules a.f.panel) a.f.panel.n a.terms.now a.f.level a.f.limit a.set.now a.st a.out.now _ j.ensures (omega arith) c.if-o.false _ refl refl
