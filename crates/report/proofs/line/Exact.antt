@@ -20,7 +20,7 @@ use Rattle.lines.proofs.answer.Laws.{reply_some, wire_some, set_some}
 use Rattle.report.specs.declared.prepare.Prepared.{Prepared}
 use Rattle.report.specs.Prepare.{Results, results_in}
 use Rattle.report.specs.Report.{slots, set_lines, wire_lines, lines_of, line_at}
-use Rattle.report.proofs.line.Laws.{behind, shown_sets, shown_wires, sets_length, wires_length}
+use Rattle.report.proofs.line.Laws.{shown_sets, shown_wires, sets_length, wires_length}
 
 -- ---- the promise leaves nothing open: the length of the line, and every byte that was lent
 pub line_determined : (lines : List (List ℕ)) (k : ℕ) {e f : ℕ} {l m n : List ℕ}

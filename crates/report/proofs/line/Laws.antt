@@ -1,11 +1,11 @@
 -- Each line of a report by its number. Assumes nothing.
 use mathlib.Core.Path.{◌≡◌, refl, sym, ap, ◌∙◌}
-use mathlib.Core.List.{List, [], ◌∷◌, ◌++◌, map, append-nil}
+use mathlib.Core.List.{List, [], ◌∷◌, ◌++◌, map}
 use Prim.Native.Nat.{ℕ, zero, suc, ◌+◌, ◌-◌, ◌/◌, ◌≤◌, ◌<◌, min}
 use native.Mathlib.Omega.{arith}
 use borrow.Author.Tests.{eq-eqb, ne_eqb}
-use lib.ListN.{length, get_or, take, drop, length-map, length-drop, drop_of_length-le, get_or-append}
-use lib.Seq.{get_or-append-add, take_all, length-take-le}
+use lib.ListN.{length, get_or, take, drop, length-map, get_or-append}
+use lib.Seq.{get_or-append-add}
 use Rattle.monomial.specs.Lists.{below}
 use Rattle.monomial.proofs.Counting.{below_length, below_at}
 use Rattle.wiring.specs.Panel.{set_bytes, wire_bytes}
@@ -101,16 +101,6 @@ module _ (r : Results) where
     pub none_next : (k : ℕ) → (k ≡ 0 → ⊥) → shown_sets ≤ k - 1 → shown_wires ≤ k - 1 - shown_sets → [] ≡ line_at (lines_of r) k
     none_next k h i j = sym (behind_sets k h i ∙ behind (wire_lines r.wiring) (k - 1 - shown_sets) [] (rw wires_length j))
 
--- a record that was copied out of a buffer, over as many bytes
-pub copied : (size at : ℕ) (bytes blank copy : List ℕ) → at + size ≤ length bytes → length blank ≡ size
-    → copy
-    ≡ take (length (take (at + size - at) (drop at bytes))) (take (at + size - at) (drop at bytes))
-    ++ drop (length (take (at + size - at) (drop at bytes))) blank
-    → copy ≡ take size (drop at bytes)
-copied size at bytes blank copy h b e =
-    let same : at + size - at ≡ size = omega arith in
-    let long : length (take size (drop at bytes)) ≡ size = length-take-le size (drop at bytes) (simp length-drop (omega arith)) in
-    let whole : take size (take size (drop at bytes)) ≡ take size (drop at bytes) = take_all size (take size (drop at bytes)) (omega arith) in
-    let short : length blank ≤ size = omega arith in
-    let none : drop size blank ≡ [] = drop_of_length-le blank short in
-    rw (same, long, whole, none, append-nil (take size (drop at bytes))) at e
+-- a record that was copied out of a buffer
+pub copied : (size at : ℕ) (bytes copy : List ℕ) → copy ≡ take (at + size - at) (drop at bytes) → copy ≡ take size (drop at bytes)
+copied size at bytes copy e = let same : at + size - at ≡ size = omega arith in rw same at e

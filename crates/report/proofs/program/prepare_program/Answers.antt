@@ -7,17 +7,10 @@ use Rattle.wiring.specs.Panel.{set_bytes}
 use Rattle.report.specs.Program.{program}
 use Rattle.report.proofs.prepare.Laws.{roomy}
 use borrow.Author.Rules.{rules}
-use Rattle.report.proofs.program.prepare_program.Statement.{statement}
-use Rattle.report.proofs.program.prepare_program.Tie as tie
+use Rattle.report.proofs.program.prepare_program.Goals as goal
 
-prepare_requires : tie.Need-prepare-requires
-prepare_requires c κs = search rules
-
-returns : tie.Need-returns
+pub returns : goal.returns
 returns c =
-    let start = c.before.before.before.before in
+    let start = c in
     let long : length start.args.sets.now ≡ set_bytes * program.room = search rules in
     roomy program start.args.terms.now (omega arith) c.prepare.ensures
-
-pub prepare_program_spec : {M : Type 1} → statement M
-prepare_program_spec = tie.close (tie.spec prepare_requires returns)

@@ -1,0 +1,19 @@
+-- `read` meets its contract: field by field. Assumes nothing.
+use Rattle.compare.specs.Head.{head_of}
+use Rattle.compare.proofs.head.read.Goals as goal
+
+pub returns : goal.returns
+unfolding head_of
+returns c =
+    let low = c in
+    rw (
+      low.two_at.ensures.0,
+      low.two_at-2.ensures.0,
+      low.four_at.ensures.0,
+      c.eight_at.ensures,
+      c.eight_at-2.ensures,
+      c.eight_at-3.ensures,
+      c.eight_at-4.ensures,
+      c.eight_at-5.ensures,
+      c.eight_at-6.ensures,
+    )
