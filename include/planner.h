@@ -1,6 +1,6 @@
 /*
- * The patch planner for C: planning, wiring, thinning, and reading a listing. Link libplanner_c.a, which
- * `rt staticlib planner_c` makes.
+ * The patch planner for C: planning, wiring, thinning, and reading a listing. Link libplanner_c.a, which `rt lib` makes
+ * in crates/planner_c/out when it is called in crates/planner_c.
  *
  * Numbers. A reply is five numbers, written to `five` in every case: code, order, count, steps, place. A number that
  * the table below does not name is 0.
