@@ -6,9 +6,7 @@ use Rattle.compare.proofs.answer_head.Goals as goal
 
 pub answer_rest-requires : goal.answer_rest-requires
 answer_rest-requires c =
-    let made = c in
-    let tested = made in
-    let h = right_within _ (sym tested.is_right.ensures ∙ tested.if-not-is_right.false) in (
-      omega (arith, h.terms, made.buffer-terms.ensures),
-      (omega (arith, h.given, made.large_buffer-given.ensures), omega (arith, h.size, made.large_buffer-buffer.ensures)),
+    let h = right_within _ (sym c.is_right.ensures ∙ c.if-not-is_right.false) in (
+      omega (arith, h.terms, c.buffer-terms.ensures),
+      (omega (arith, h.given, c.large_buffer-given.ensures), omega (arith, h.size, c.large_buffer-buffer.ensures)),
     )

@@ -1,6 +1,7 @@
 -- A piece put behind another is one piece (`adds`): each line is made by this law alone. Then what the pieces are: digits, signs, what is joined.
 -- Assumes nothing.
-use Rattle.std.proofs.Common.{◌≡◌, ℕ, zero, suc, ◌+◌, ◌-◌, ◌*◌, ◌/◌, ◌%◌, ◌^◌, ◌<◌, ◌≤◌, true, false, leb, List, [], ◌∷◌, ◌++◌, length, get_or, take, drop, ℤ, pos, negsuc, ◌-ℤ◌, nat_abs, sym, refl, ap, ◌∙◌, append_assoc, append-nil, add-one, arith, lit<, lit≤, length-append, take-append-drop, length-take-le, take_all, take-suc, drop-drop, w32, SFits, to_z, of_z, le-ltb, lt-ltb, leb-false, leb-true}
+use Rattle.std.proofs.Common.{◌≡◌, ℕ, zero, suc, ◌+◌, ◌-◌, ◌*◌, ◌/◌, ◌%◌, ◌^◌, ◌<◌, ◌≤◌, true, false, leb, List, [], ◌∷◌, ◌++◌, length, get_or, take, drop, ℤ, pos, negsuc, ◌-ℤ◌, nat_abs}
+use Rattle.std.proofs.Common.{sym, refl, ap, ◌∙◌, append_assoc, append-nil, add-one, arith, lit<, lit≤, length-append, take-append-drop, length-take-le, take_all, take-suc, drop-drop, w32, SFits, to_z, of_z, le-ltb, lt-ltb, leb-false, leb-true}
 use native.Mathlib.Nat.{pow-succ', one-le-pow, pow-le-pow_right}
 use lib.Signed.{le_z}
 use lib.Seq.{paste, take-paste, drop-paste, length-paste, take-length}

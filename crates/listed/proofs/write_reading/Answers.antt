@@ -11,18 +11,16 @@ loop-h-init c = tt
 
 pub overflow_add-k : goal.overflow_add-k
 overflow_add-k c =
-    let line = c in
-    let h = line.args.h in
+    let h = c.args.h in
     let o = outcome h.reply h.set in
-    let told = line_told (heard_lines o) (heard_filled o) _ line.reading_line-end.ensures c.if-end-eq0.false in
+    let told = line_told (heard_lines o) (heard_filled o) _ c.reading_line-end.ensures c.if-end-eq0.false in
     omega (arith, heard_few o)
 
 pub loop-h-smaller : goal.loop-h-smaller
 loop-h-smaller c =
-    let line = c in
-    let h = line.args.h in
+    let h = c.args.h in
     let o = outcome h.reply h.set in
-    let told = line_told (heard_lines o) (heard_filled o) _ line.reading_line-end.ensures c.if-end-eq0.false in
+    let told = line_told (heard_lines o) (heard_filled o) _ c.reading_line-end.ensures c.if-end-eq0.false in
     omega arith
 
 pub loop-h-preserved : goal.loop-h-preserved

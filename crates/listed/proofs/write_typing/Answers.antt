@@ -13,20 +13,16 @@ typing_line-end-requires c = c.requires
 
 pub overflow_add-k : goal.overflow_add-k
 overflow_add-k c =
-    let line = c in
-    let start = line in
-    let t = start.args.t in
-    let wires = start.args.wires.now in
-    let told = line_told (typed_lines t wires) (typed_filled t wires) _ line.typing_line-end.ensures c.if-end-eq0.false in
-    omega (arith, typed_few t wires start.requires)
+    let t = c.args.t in
+    let wires = c.args.wires.now in
+    let told = line_told (typed_lines t wires) (typed_filled t wires) _ c.typing_line-end.ensures c.if-end-eq0.false in
+    omega (arith, typed_few t wires c.requires)
 
 pub loop-t-smaller : goal.loop-t-smaller
 loop-t-smaller c =
-    let line = c in
-    let start = line in
-    let t = start.args.t in
-    let wires = start.args.wires.now in
-    let told = line_told (typed_lines t wires) (typed_filled t wires) _ line.typing_line-end.ensures c.if-end-eq0.false in
+    let t = c.args.t in
+    let wires = c.args.wires.now in
+    let told = line_told (typed_lines t wires) (typed_filled t wires) _ c.typing_line-end.ensures c.if-end-eq0.false in
     omega arith
 
 pub loop-t-preserved : goal.loop-t-preserved

@@ -58,9 +58,6 @@ sized_unwritten zero size h e = sized_of 0 1 size (omega arith) refl refl e
 sized_unwritten (suc n) size h e = let z : ⊥ = omega arith in absurd z
 
 module _ {number : ℕ} {size : ℤ} (s : Sized number size) where
-  pub plus_is : size ≡ signed false number
-  plus_is = s.plus
-
   turned : pos 0 -ℤ size ≡ neg_ℤ size
   turned = +ℤ_idl (neg_ℤ size)
 

@@ -14,25 +14,22 @@ slice_bounds-set-end c =
 
 pub returns-in-Plan : goal.returns-in-Plan
 returns-in-Plan c =
-    let at_least_lem = c in
-    let args = at_least_lem.args in
-    let cut = rw at_least_lem.given_bytes.ensures.value at at_least_lem.least-at.ensures in
+    let args = c.args in
+    let cut = rw c.given_bytes.ensures.value at c.least-at.ensures in
     let asked = c.in-Plan.is in
     rw asked (rw (rest_within args.input.now (given_bytes args.a) _ cut, asked) at c.prepare.ensures)
 
 pub returns-in-Thin : goal.returns-in-Thin
 returns-in-Thin c =
-    let at_least_lem = c in
-    let args = at_least_lem.args in
-    let cut = rw at_least_lem.given_bytes.ensures.value at at_least_lem.least-at.ensures in
+    let args = c.args in
+    let cut = rw c.given_bytes.ensures.value at c.least-at.ensures in
     let asked = c.in-Thin.is in
     rw asked (rw (rest_within args.input.now (given_bytes args.a) _ cut, front_within args.input.now (given_bytes args.a) _ cut, asked) at c.prepare_thin.ensures)
 
 pub returns-in-Wire : goal.returns-in-Wire
 returns-in-Wire c =
-    let at_least_lem = c in
-    let args = at_least_lem.args in
-    let cut = rw at_least_lem.given_bytes.ensures.value at at_least_lem.least-at.ensures in
+    let args = c.args in
+    let cut = rw c.given_bytes.ensures.value at c.least-at.ensures in
     let asked = c.in-Wire.is in
     rw asked (rw (rest_within args.input.now (given_bytes args.a) _ cut, front_within args.input.now (given_bytes args.a) _ cut, asked) at (c.prepare_wire.ensures args.sets.now))
 

@@ -9,29 +9,19 @@ returns-in_default c = rw c.in_default.is
 pub returns-in_default-marks : goal.returns-in_default-marks
 unfolding asked_thin
 returns-in_default-marks c =
-    let first = c in
-    rw (first.in-Of.is, c.in_default-marks.is)
+    rw (c.in-Of.is, c.in_default-marks.is)
 
 pub returns-in_default-degree : goal.returns-in_default-degree
 unfolding asked_thin
 returns-in_default-degree c =
-    let second = c in
-    let first = second in
-    rw (first.in-Of.is, second.in-Of-marks.is, c.in_default-degree.is)
+    rw (c.in-Of.is, c.in-Of-marks.is, c.in_default-degree.is)
 
 pub returns-in_default-which : goal.returns-in_default-which
 unfolding asked_thin
 returns-in_default-which c =
-    let third = c in
-    let second = third in
-    let first = second in
-    rw (first.in-Of.is, second.in-Of-marks.is, third.in-Of-degree.is, c.in_default-which.is)
+    rw (c.in-Of.is, c.in-Of-marks.is, c.in-Of-degree.is, c.in_default-which.is)
 
 pub returns : goal.returns
 unfolding asked_thin
 returns c =
-    let fourth = c in
-    let third = fourth in
-    let second = third in
-    let first = second in
-    rw (first.in-Of.is, second.in-Of-marks.is, third.in-Of-degree.is, fourth.in-Of-which.is)
+    rw (c.in-Of.is, c.in-Of-marks.is, c.in-Of-degree.is, c.in-Of-which.is)

@@ -9,20 +9,14 @@ returns-in_default c = rw c.in_default.is
 pub returns-in_default-marks : goal.returns-in_default-marks
 unfolding asked_wire
 returns-in_default-marks c =
-    let first = c in
-    rw (first.in-Of.is, c.in_default-marks.is)
+    rw (c.in-Of.is, c.in_default-marks.is)
 
 pub returns-in_default-degree : goal.returns-in_default-degree
 unfolding asked_wire
 returns-in_default-degree c =
-    let second = c in
-    let first = second in
-    rw (first.in-Of.is, second.in-Of-marks.is, c.in_default-degree.is)
+    rw (c.in-Of.is, c.in-Of-marks.is, c.in_default-degree.is)
 
 pub returns : goal.returns
 unfolding asked_wire
 returns c =
-    let third = c in
-    let second = third in
-    let first = second in
-    rw (first.in-Of.is, second.in-Of-marks.is, third.in-Of-degree.is)
+    rw (c.in-Of.is, c.in-Of-marks.is, c.in-Of-degree.is)

@@ -14,29 +14,24 @@ returns-then-h-gt-OPERATIONS c = rw (le-leb 1 _ c.if-h-lt1.false, lt-leb _ opera
 pub returns-then-h-gt-LONGEST_TERMS : goal.returns-then-h-gt-LONGEST_TERMS
 unfolding right
 returns-then-h-gt-LONGEST_TERMS c =
-    let low = c in
-    rw (le-leb 1 _ low.if-h-lt1.false, le-leb _ operations low.if-h-gt-OPERATIONS.false, lt-leb _ longest_terms c.if-h-gt-LONGEST_TERMS.true)
+    rw (le-leb 1 _ c.if-h-lt1.false, le-leb _ operations c.if-h-gt-OPERATIONS.false, lt-leb _ longest_terms c.if-h-gt-LONGEST_TERMS.true)
 
 pub returns-then-h-gt-LONGEST_GIVEN : goal.returns-then-h-gt-LONGEST_GIVEN
 unfolding right
 returns-then-h-gt-LONGEST_GIVEN c =
-    let high = c in
-    let low = high in
     rw (
-      le-leb 1 _ low.if-h-lt1.false,
-      le-leb _ operations low.if-h-gt-OPERATIONS.false,
-      le-leb _ longest_terms high.if-h-gt-LONGEST_TERMS.false,
+      le-leb 1 _ c.if-h-lt1.false,
+      le-leb _ operations c.if-h-gt-OPERATIONS.false,
+      le-leb _ longest_terms c.if-h-gt-LONGEST_TERMS.false,
       lt-leb _ longest_given c.if-h-gt-LONGEST_GIVEN.true,
     )
 
 pub returns : goal.returns
 unfolding right
 returns c =
-    let high = c in
-    let low = high in
     rw (
-      le-leb 1 _ low.if-h-lt1.false,
-      le-leb _ operations low.if-h-gt-OPERATIONS.false,
-      le-leb _ longest_terms high.if-h-gt-LONGEST_TERMS.false,
+      le-leb 1 _ c.if-h-lt1.false,
+      le-leb _ operations c.if-h-gt-OPERATIONS.false,
+      le-leb _ longest_terms c.if-h-gt-LONGEST_TERMS.false,
       le-leb _ longest_given c.if-h-gt-LONGEST_GIVEN.false,
     )

@@ -5,11 +5,10 @@ use Rattle.compare.proofs.head.read.Goals as goal
 pub returns : goal.returns
 unfolding head_of
 returns c =
-    let low = c in
     rw (
-      low.two_at.ensures.0,
-      low.two_at-2.ensures.0,
-      low.four_at.ensures.0,
+      c.two_at.ensures.0,
+      c.two_at-2.ensures.0,
+      c.four_at.ensures.0,
       c.eight_at.ensures,
       c.eight_at-2.ensures,
       c.eight_at-3.ensures,

@@ -18,10 +18,9 @@ use Rattle.counting.proofs.counting.begins_at.Goals as goal
 
 pub returns-then-not-divides : goal.returns-then-not-divides
 returns-then-not-divides c =
-    let start = c in
-    let a = start.args in
+    let a = c.args in
     let l = a.list.now in
-    let here = c.read-m.ensures ∙ sym (tabled_at l a.i (one width) start.requires.0) in
+    let here = c.read-m.ensures ∙ sym (tabled_at l a.i (one width) c.requires.0) in
     begins_undivided (can_build a.panel) _ _ _ _ _ _ (sym c.divides.ensures ∙ c.if-not-divides.true)
     ∙ ap (λ (m : Mono). begins (can_build a.panel) (signals_at a.panel.n a.set.now) a.often (take a.i (tabled l)) (drop (a.i + 1) (tabled l)) m a.x.e) here
 
@@ -30,64 +29,51 @@ over-q-requires c = is→T _ (sym c.divides.ensures ∙ c.if-not-divides.false)
 
 pub returns-then-not-can_build : goal.returns-then-not-can_build
 returns-then-not-can_build c =
-    let at_over = c in
-    let at_divides = at_over in
-    let start = at_divides in
-    let a = start.args in
+    let a = c.args in
     let l = a.list.now in
     let may = can_build a.panel in
-    let here = at_divides.read-m.ensures ∙ sym (tabled_at l a.i (one width) start.requires.0) in
-    let divided = sym at_divides.divides.ensures ∙ at_over.if-not-divides.false in
-    let barred = ap may (sym at_over.over-q.ensures) ∙ sym c.can_build.ensures ∙ c.if-not-can_build.true in
+    let here = c.read-m.ensures ∙ sym (tabled_at l a.i (one width) c.requires.0) in
+    let divided = sym c.divides.ensures ∙ c.if-not-divides.false in
+    let barred = ap may (sym c.over-q.ensures) ∙ sym c.can_build.ensures ∙ c.if-not-can_build.true in
     begins_barred may _ _ _ _ _ _ divided barred
     ∙ ap (λ (m : Mono). begins may (signals_at a.panel.n a.set.now) a.often (take a.i (tabled l)) (drop (a.i + 1) (tabled l)) m a.x.e) here
 
 pub returns-then-not-recurs : goal.returns-then-not-recurs
 returns-then-not-recurs c =
-    let at_can_build = c in
-    let at_over = at_can_build in
-    let at_divides = at_over in
-    let start = at_divides in
-    let a = start.args in
+    let a = c.args in
     let l = a.list.now in
     let v = signals_at a.panel.n a.set.now in
     let may = can_build a.panel in
-    let here = at_divides.read-m.ensures ∙ sym (tabled_at l a.i (one width) start.requires.0) in
-    let divided = sym at_divides.divides.ensures ∙ at_over.if-not-divides.false in
-    let allowed = ap may (sym at_over.over-q.ensures) ∙ sym at_can_build.can_build.ensures ∙ c.if-not-can_build.false in
+    let here = c.read-m.ensures ∙ sym (tabled_at l a.i (one width) c.requires.0) in
+    let divided = sym c.divides.ensures ∙ c.if-not-divides.false in
+    let allowed = ap may (sym c.over-q.ensures) ∙ sym c.can_build.ensures ∙ c.if-not-can_build.false in
     let rare =
-    ap (λ (q : Mono). leb (a.often - 1) (hits v q (drop (a.i + 1) (tabled l)))) (sym at_over.over-q.ensures) ∙ sym c.recurs.ensures ∙ c.if-not-recurs.true in
-    begins_rare may _ _ _ _ _ _ divided allowed (a.often - 1) (omega (arith, start.requires.1)) rare
+    ap (λ (q : Mono). leb (a.often - 1) (hits v q (drop (a.i + 1) (tabled l)))) (sym c.over-q.ensures) ∙ sym c.recurs.ensures ∙ c.if-not-recurs.true in
+    begins_rare may _ _ _ _ _ _ divided allowed (a.often - 1) (omega (arith, c.requires.1)) rare
     ∙ ap (λ (m : Mono). begins may v a.often (take a.i (tabled l)) (drop (a.i + 1) (tabled l)) m a.x.e) here
 
 pub slice_bounds-recurs-end : goal.slice_bounds-recurs-end
 slice_bounds-recurs-end c =
-    let start = c in
-    let near = start.requires.0 in
-    sym (length-take-le (width * start.args.i) start.args.list.now (omega arith))
+    let near = c.requires.0 in
+    sym (length-take-le (width * c.args.i) c.args.list.now (omega arith))
 
 pub returns : goal.returns
 returns c =
-    let at_recurs = c in
-    let at_can_build = at_recurs in
-    let at_over = at_can_build in
-    let at_divides = at_over in
-    let start = at_divides in
-    let a = start.args in
+    let a = c.args in
     let l = a.list.now in
     let v = signals_at a.panel.n a.set.now in
-    let near = start.requires.0 in
+    let near = c.requires.0 in
     let may = can_build a.panel in
-    let here = at_divides.read-m.ensures ∙ sym (tabled_at l a.i (one width) start.requires.0) in
-    let divided = sym at_divides.divides.ensures ∙ at_over.if-not-divides.false in
-    let quotient = sym at_over.over-q.ensures in
-    let allowed = ap may quotient ∙ sym at_can_build.can_build.ensures ∙ at_recurs.if-not-can_build.false in
+    let here = c.read-m.ensures ∙ sym (tabled_at l a.i (one width) c.requires.0) in
+    let divided = sym c.divides.ensures ∙ c.if-not-divides.false in
+    let quotient = sym c.over-q.ensures in
+    let allowed = ap may quotient ∙ sym c.can_build.ensures ∙ c.if-not-can_build.false in
     let enough =
-    ap (λ (q : Mono). leb (a.often - 1) (hits v q (drop (a.i + 1) (tabled l)))) quotient ∙ sym at_recurs.recurs.ensures ∙ c.if-not-recurs.false in
+    ap (λ (q : Mono). leb (a.often - 1) (hits v q (drop (a.i + 1) (tabled l)))) quotient ∙ sym c.recurs.ensures ∙ c.if-not-recurs.false in
     let before =
     ap (λ (q : Mono). leb 1 (hits v q (take a.i (tabled l)))) quotient
-    ∙ ap (λ (r : List Mono). leb 1 (hits v at_over.over-q.result.e r)) (sym (tabled_take l a.i (omega arith)))
+    ∙ ap (λ (r : List Mono). leb 1 (hits v c.over-q.result.e r)) (sym (tabled_take l a.i (omega arith)))
     ∙ sym c.recurs-2.ensures in
     ap not (sym before)
-    ∙ begins_first may _ _ _ _ _ _ divided allowed (a.often - 1) (omega (arith, start.requires.1)) enough
+    ∙ begins_first may _ _ _ _ _ _ divided allowed (a.often - 1) (omega (arith, c.requires.1)) enough
     ∙ ap (λ (m : Mono). begins may v a.often (take a.i (tabled l)) (drop (a.i + 1) (tabled l)) m a.x.e) here

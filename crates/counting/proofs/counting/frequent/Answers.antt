@@ -20,10 +20,8 @@ overflow_sub-len c = omega (arith, c.loop-i.invariant.1.within, tabled_length c.
 
 pub tally_at-met-requires : goal.tally_at-met-requires
 tally_at-met-requires c =
-    let at_loop = c in
-    let start = at_loop in
-    let more = start.requires.1.0 in
-    (start.requires.0, (omega arith, (more, at_loop.loop-i.invariant.1.low)))
+    let more = c.requires.1.0 in
+    (c.requires.0, (omega arith, (more, c.loop-i.invariant.1.low)))
 
 pub loop-i-smaller : goal.loop-i-smaller
 loop-i-smaller c =
@@ -33,16 +31,14 @@ loop-i-smaller c =
 pub loop-i-preserved : goal.loop-i-preserved
 loop-i-preserved c =
     let k = c.loop-i in
-    let start = c in
-    let l = start.args.list.now in
-    let more = start.requires.1.0 in
+    let l = c.args.list.now in
+    let more = c.requires.1.0 in
     (k.invariant.0, finding_next _ _ _ _ _ k.invariant.1 (one width) _ (omega (arith, tabled_length l)) c.tally_at-met.ensures)
 
 pub returns : goal.returns
 returns c =
     let k = c.loop-i in
-    let start = c in
-    let a = start.args in
+    let a = c.args in
     let v = signals_at a.panel.n a.set.now in
     finding_end _ _ _ _ _ k.invariant.1 (omega (arith, tabled_length a.list.now))
-    ∙ ap (up_to a.cap) (news_frequent (can_build a.panel) v (signals_at_wide a.panel.n a.set.now) start.requires.1.1 a.often (tabled a.list.now))
+    ∙ ap (up_to a.cap) (news_frequent (can_build a.panel) v (signals_at_wide a.panel.n a.set.now) c.requires.1.1 a.often (tabled a.list.now))

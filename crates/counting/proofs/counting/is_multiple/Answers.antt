@@ -22,10 +22,9 @@ over-requires c = is→T _ (sym c.divides.ensures ∙ c.if-not-divides.false)
 
 pub returns : goal.returns
 returns c =
-    let at_if1 = c in
-    let a = at_if1.args in
+    let a = c.args in
     let long : length a.q.e ≡ width = search rules in
-    let at = at_if1.divides in
+    let at = c.divides in
     let divided = is→T _ (sym at.ensures ∙ c.if-not-divides.false) in
     c.is_signal.ensures ∙ ap (λ (x : Mono). any (same x) (signals_at a.n a.set.now)) c.over.ensures
     ∙ share_quotient (signals_at a.n a.set.now) (signals_at_wide a.n a.set.now) a.q.e a.m.e long divided

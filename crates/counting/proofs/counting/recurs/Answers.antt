@@ -36,9 +36,8 @@ loop-left-smaller c =
 
 pub loop-left-preserved : goal.loop-left-preserved
 loop-left-preserved c =
-    let at_loop = c in
-    let k = at_loop.loop-left in
-    let a = at_loop.args in
+    let k = c.loop-left in
+    let a = c.args in
     let l = a.list.now in
     let gap = c.if-len-a.false in
     let near : k.a < length l / width = omega arith in

@@ -15,9 +15,8 @@ returns-then-left-many c = summing_enough _ _ _ _ c.loop-left.invariant _ c.freq
 
 pub returns-then-many-lt1 : goal.returns-then-many-lt1
 returns-then-many-lt1 c =
-    let at_loop = c in
-    let roomy = at_loop.requires.1.0 in
-    summing_none _ _ _ _ at_loop.loop-left.invariant _ c.frequent-many.ensures (omega arith) (omega arith) roomy
+    let roomy = c.requires.1.0 in
+    summing_none _ _ _ _ c.loop-left.invariant _ c.frequent-many.ensures (omega arith) (omega arith) roomy
 
 pub overflow_add-often : goal.overflow_add-often
 overflow_add-often c =

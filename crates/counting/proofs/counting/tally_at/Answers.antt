@@ -20,9 +20,8 @@ returns-then-cap-met c = tallying_full _ _ _ _ c.loop-j.invariant.1 (omega arith
 
 pub signal-requires : goal.signal-requires
 signal-requires c =
-    let s = c in
-    let long = signals_at_length s.args.panel.n s.args.set.now s.requires.0 in
-    (s.requires.0, omega (arith, c.loop-j.invariant.0))
+    let long = signals_at_length c.args.panel.n c.args.set.now c.requires.0 in
+    (c.requires.0, omega (arith, c.loop-j.invariant.0))
 
 pub begins_at-requires : goal.begins_at-requires
 begins_at-requires c =
@@ -31,9 +30,8 @@ begins_at-requires c =
 
 pub loop-j-preserved : goal.loop-j-preserved
 loop-j-preserved c =
-    let at_loop = c in
-    let k = at_loop.loop-j in
-    let a = at_loop.args in
+    let k = c.loop-j in
+    let a = c.args in
     let l = a.list.now in
     let v = signals_at a.panel.n a.set.now in
     let few : k.j < length v = omega arith in

@@ -19,9 +19,8 @@ loop-i-init c = (refl, collecting_start _ _ _ (λ y h. Memᴰ.not-nil h))
 
 pub loop-i-preserved : goal.loop-i-preserved
 loop-i-preserved c =
-    let at_loop = c in
-    let l = at_loop.args.list.now in
-    let k = at_loop.loop-i in
+    let l = c.args.list.now in
+    let k = c.loop-i in
     let few : k.i < length (tabled l) = omega (arith, tabled_length l) in
     let here : get_or (tabled l) k.i [] ≡ _ = tabled_at l k.i [] (omega arith) ∙ sym c.read.ensures in (
       k.invariant.0,

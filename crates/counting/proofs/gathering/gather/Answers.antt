@@ -21,96 +21,87 @@ loop-i-init c = (refl, collecting_last _ _ _ _ (sym (signals_at_length _ _ c.req
 
 pub overflow_mul-i : goal.overflow_mul-i
 overflow_mul-i c =
-    let s = c in
-    let few : c.loop-i.i ≤ length s.args.set.now / width =
-    omega (arith, c.loop-i.invariant.1.within, signals_at_length s.args.n s.args.set.now s.requires.1.0) in
+    let few : c.loop-i.i ≤ length c.args.set.now / width =
+    omega (arith, c.loop-i.invariant.1.within, signals_at_length c.args.n c.args.set.now c.requires.1.0) in
     search rules
 
 pub read-z-requires : goal.read-z-requires
 read-z-requires c =
-    let s = c in
-    omega (arith, c.loop-i.invariant.1.within, signals_at_length s.args.n s.args.set.now s.requires.1.0)
+    omega (arith, c.loop-i.invariant.1.within, signals_at_length c.args.n c.args.set.now c.requires.1.0)
 
 pub gather_in-got-requires : goal.gather_in-got-requires
 gather_in-got-requires c =
-    let s = c in
     let k = c.loop-i in
-    let v = signals_at s.args.n s.args.set.now in
-    let long = signals_at_length s.args.n s.args.set.now s.requires.1.0 in
-    let near : k.i - 1 < length s.args.set.now / width = omega (arith, k.invariant.1.within) in
-    let here : get_or v (s.args.n + 1 + (k.i - 1)) (one width) ≡ c.read-z.result.e =
-    signals_new s.args.n (tabled s.args.set.now) (k.i - 1) (one width) s.requires.1.0 ∙ tabled_at s.args.set.now (k.i - 1) (one width) near ∙ sym c.read-z.ensures in
-    let fits = fitting_at set_exponent v (s.args.n + 1 + (k.i - 1)) (one width) s.requires.1.1.0 (omega (arith, k.invariant.1.within)) in
-    (s.requires.0, (rw (sym here) fits, (holds_lent k.invariant.1.holds (omega (arith, s.requires.1.1.1.1, k.invariant.0)), s.requires.1.1.1.0)))
+    let v = signals_at c.args.n c.args.set.now in
+    let long = signals_at_length c.args.n c.args.set.now c.requires.1.0 in
+    let near : k.i - 1 < length c.args.set.now / width = omega (arith, k.invariant.1.within) in
+    let here : get_or v (c.args.n + 1 + (k.i - 1)) (one width) ≡ c.read-z.result.e =
+    signals_new c.args.n (tabled c.args.set.now) (k.i - 1) (one width) c.requires.1.0 ∙ tabled_at c.args.set.now (k.i - 1) (one width) near ∙ sym c.read-z.ensures in
+    let fits = fitting_at set_exponent v (c.args.n + 1 + (k.i - 1)) (one width) c.requires.1.1.0 (omega (arith, k.invariant.1.within)) in
+    (c.requires.0, (rw (sym here) fits, (holds_lent k.invariant.1.holds (omega (arith, c.requires.1.1.1.1, k.invariant.0)), c.requires.1.1.1.0)))
 
 pub shape_of-list-then-got : goal.shape_of-list-then-got
 shape_of-list-then-got c = c.gather_in-got.auto.list ∙ c.loop-i.invariant.0
 
 pub returns-then-got : goal.returns-then-got
 returns-then-got c =
-    let s = c in
     let k = c.loop-i in
-    let v = signals_at s.args.n s.args.set.now in
-    let long = signals_at_length s.args.n s.args.set.now s.requires.1.0 in
-    let near : k.i - 1 < length s.args.set.now / width = omega (arith, k.invariant.1.within) in
-    let here : get_or v (s.args.n + 1 + (k.i - 1)) (one width) ≡ c.read-z.result.e =
-    signals_new s.args.n (tabled s.args.set.now) (k.i - 1) (one width) s.requires.1.0 ∙ tabled_at s.args.set.now (k.i - 1) (one width) near ∙ sym c.read-z.ensures in
-    gathering_over v (derivative plain (system (records s.args.terms.now))) k.invariant.1 (s.args.n + 1 + (k.i - 1)) (omega arith) _ here _ _ c.if-got.true (c.gather_in-got.ensures.more c.if-got.true)
+    let v = signals_at c.args.n c.args.set.now in
+    let long = signals_at_length c.args.n c.args.set.now c.requires.1.0 in
+    let near : k.i - 1 < length c.args.set.now / width = omega (arith, k.invariant.1.within) in
+    let here : get_or v (c.args.n + 1 + (k.i - 1)) (one width) ≡ c.read-z.result.e =
+    signals_new c.args.n (tabled c.args.set.now) (k.i - 1) (one width) c.requires.1.0 ∙ tabled_at c.args.set.now (k.i - 1) (one width) near ∙ sym c.read-z.ensures in
+    gathering_over v (derivative plain (system (records c.args.terms.now))) k.invariant.1 (c.args.n + 1 + (k.i - 1)) (omega arith) _ here _ _ c.if-got.true (c.gather_in-got.ensures.more c.if-got.true)
 
 pub loop-i-preserved : goal.loop-i-preserved
 loop-i-preserved c =
-    let s = c in
     let k = c.loop-i in
-    let v = signals_at s.args.n s.args.set.now in
-    let long = signals_at_length s.args.n s.args.set.now s.requires.1.0 in
-    let near : k.i - 1 < length s.args.set.now / width = omega (arith, k.invariant.1.within) in
-    let here : get_or v (s.args.n + 1 + (k.i - 1)) (one width) ≡ c.read-z.result.e =
-    signals_new s.args.n (tabled s.args.set.now) (k.i - 1) (one width) s.requires.1.0 ∙ tabled_at s.args.set.now (k.i - 1) (one width) near ∙ sym c.read-z.ensures in
+    let v = signals_at c.args.n c.args.set.now in
+    let long = signals_at_length c.args.n c.args.set.now c.requires.1.0 in
+    let near : k.i - 1 < length c.args.set.now / width = omega (arith, k.invariant.1.within) in
+    let here : get_or v (c.args.n + 1 + (k.i - 1)) (one width) ≡ c.read-z.result.e =
+    signals_new c.args.n (tabled c.args.set.now) (k.i - 1) (one width) c.requires.1.0 ∙ tabled_at c.args.set.now (k.i - 1) (one width) near ∙ sym c.read-z.ensures in
     let made = c.gather_in-got in (
       made.auto.list ∙ k.invariant.0,
-      gathering_next v (derivative plain (system (records s.args.terms.now))) k.invariant.1 (s.args.n + 1 + (k.i - 1)) (omega arith) _ here _ _ (made.ensures.all c.if-got.false),
+      gathering_next v (derivative plain (system (records c.args.terms.now))) k.invariant.1 (c.args.n + 1 + (k.i - 1)) (omega arith) _ here _ _ (made.ensures.all c.if-got.false),
     )
 
 pub loop-j-init : goal.loop-j-init
 loop-j-init c =
-    let s = c in
     let k = c.loop-i in
-    let v = signals_at s.args.n s.args.set.now in
-    let last : s.args.n + 1 + k.i ≡ s.args.n + 1 = omega arith in
-    ((refl, omega arith), subst (Gathering v (derivative plain (system (records s.args.terms.now))) s.args.most k.len k.list) last k.invariant.1)
+    let v = signals_at c.args.n c.args.set.now in
+    let last : c.args.n + 1 + k.i ≡ c.args.n + 1 = omega arith in
+    ((refl, omega arith), subst (Gathering v (derivative plain (system (records c.args.terms.now))) c.args.most k.len k.list) last k.invariant.1)
 
 pub gather_in-got-requires-in-loop-j : goal.gather_in-got-requires-in-loop-j
 gather_in-got-requires-in-loop-j c =
-    let s = c in
     let k = c.loop-j in
-    let v = signals_at s.args.n s.args.set.now in
+    let v = signals_at c.args.n c.args.set.now in
     let here : get_or v (k.j - 1) (one width) ≡ c.constant-z.result.e =
-    signals_constant s.args.n (tabled s.args.set.now) (k.j - 1) (one width) s.requires.1.0 (omega (arith, k.invariant.0.1)) ∙ sym c.constant-z.ensures in
-    let fits = fitting_at set_exponent v (k.j - 1) (one width) s.requires.1.1.0 (omega (arith, k.invariant.1.within)) in
-    (s.requires.0, (rw (sym here) fits, (holds_lent k.invariant.1.holds (omega (arith, s.requires.1.1.1.1, k.invariant.0.0, c.loop-i.invariant.0)), s.requires.1.1.1.0)))
+    signals_constant c.args.n (tabled c.args.set.now) (k.j - 1) (one width) c.requires.1.0 (omega (arith, k.invariant.0.1)) ∙ sym c.constant-z.ensures in
+    let fits = fitting_at set_exponent v (k.j - 1) (one width) c.requires.1.1.0 (omega (arith, k.invariant.1.within)) in
+    (c.requires.0, (rw (sym here) fits, (holds_lent k.invariant.1.holds (omega (arith, c.requires.1.1.1.1, k.invariant.0.0, c.loop-i.invariant.0)), c.requires.1.1.1.0)))
 
 pub shape_of-list-then-got-2 : goal.shape_of-list-then-got-2
 shape_of-list-then-got-2 c = c.gather_in-got-in-loop-j.auto.list ∙ c.loop-j.invariant.0.0 ∙ c.loop-i.invariant.0
 
 pub returns-then-got-2 : goal.returns-then-got-2
 returns-then-got-2 c =
-    let s = c in
     let k = c.loop-j in
-    let v = signals_at s.args.n s.args.set.now in
+    let v = signals_at c.args.n c.args.set.now in
     let here : get_or v (k.j - 1) (one width) ≡ c.constant-z.result.e =
-    signals_constant s.args.n (tabled s.args.set.now) (k.j - 1) (one width) s.requires.1.0 (omega (arith, k.invariant.0.1)) ∙ sym c.constant-z.ensures in
-    gathering_over v (derivative plain (system (records s.args.terms.now))) k.invariant.1 (k.j - 1) (omega arith) _ here _ _ c.if-got-2.true (c.gather_in-got-in-loop-j.ensures.more c.if-got-2.true)
+    signals_constant c.args.n (tabled c.args.set.now) (k.j - 1) (one width) c.requires.1.0 (omega (arith, k.invariant.0.1)) ∙ sym c.constant-z.ensures in
+    gathering_over v (derivative plain (system (records c.args.terms.now))) k.invariant.1 (k.j - 1) (omega arith) _ here _ _ c.if-got-2.true (c.gather_in-got-in-loop-j.ensures.more c.if-got-2.true)
 
 pub loop-j-preserved : goal.loop-j-preserved
 loop-j-preserved c =
-    let s = c in
     let k = c.loop-j in
-    let v = signals_at s.args.n s.args.set.now in
+    let v = signals_at c.args.n c.args.set.now in
     let here : get_or v (k.j - 1) (one width) ≡ c.constant-z.result.e =
-    signals_constant s.args.n (tabled s.args.set.now) (k.j - 1) (one width) s.requires.1.0 (omega (arith, k.invariant.0.1)) ∙ sym c.constant-z.ensures in
+    signals_constant c.args.n (tabled c.args.set.now) (k.j - 1) (one width) c.requires.1.0 (omega (arith, k.invariant.0.1)) ∙ sym c.constant-z.ensures in
     let made = c.gather_in-got-in-loop-j in (
       (made.auto.list ∙ k.invariant.0.0, omega (arith, k.invariant.0.1)),
-      gathering_next v (derivative plain (system (records s.args.terms.now))) k.invariant.1 (k.j - 1) (omega arith) _ here _ _ (made.ensures.all c.if-got-2.false),
+      gathering_next v (derivative plain (system (records c.args.terms.now))) k.invariant.1 (k.j - 1) (omega arith) _ here _ _ (made.ensures.all c.if-got-2.false),
     )
 
 pub shape_of-list : goal.shape_of-list
@@ -118,8 +109,7 @@ shape_of-list c = c.loop-j.invariant.0.0 ∙ c.loop-i.invariant.0
 
 pub returns : goal.returns
 returns c =
-    let s = c in
     let k = c.loop-j in
-    let v = signals_at s.args.n s.args.set.now in
+    let v = signals_at c.args.n c.args.set.now in
     let last : k.j ≡ 0 = omega arith in
-    gathering_ends v (derivative plain (system (records s.args.terms.now))) (subst (Gathering v (derivative plain (system (records s.args.terms.now))) s.args.most k.len k.list) last k.invariant.1) (omega (arith, s.requires.1.1.1.1, k.invariant.0.0, c.loop-i.invariant.0))
+    gathering_ends v (derivative plain (system (records c.args.terms.now))) (subst (Gathering v (derivative plain (system (records c.args.terms.now))) c.args.most k.len k.list) last k.invariant.1) (omega (arith, c.requires.1.1.1.1, k.invariant.0.0, c.loop-i.invariant.0))

@@ -15,44 +15,35 @@ use Rattle.counting.proofs.gathering.gather_in.Goals.{then-p+else-got, else-p}
 
 pub loop-t-init : goal.loop-t-init
 loop-t-init c =
-    let s = c in
-    (refl, (refl, collecting_start _ _ _ (lent_holds s.requires.1.1.0)))
+    (refl, (refl, collecting_start _ _ _ (lent_holds c.requires.1.1.0)))
 
 pub nonsquare_of-p-requires : goal.nonsquare_of-p-requires
 nonsquare_of-p-requires c =
-    let s = c in
-    (s.requires.0, (omega arith, (s.requires.1.0, s.requires.1.1.1)))
+    (c.requires.0, (omega arith, (c.requires.1.0, c.requires.1.1.1)))
 
 pub note-got-requires : goal.note-got-requires
 note-got-requires c =
-    let at_loop = c in
-    let s = at_loop in
-    let k = at_loop.loop-t in
-    holds_lent k.invariant.1.1.holds (omega (arith, s.requires.1.1.0.room))
+    let k = c.loop-t in
+    holds_lent k.invariant.1.1.holds (omega (arith, c.requires.1.1.0.room))
 
 pub shape_of-list-then-got : goal.shape_of-list-then-got
 shape_of-list-then-got c =
-    let at_loop = c in
-    c.note-got.auto.list ∙ at_loop.loop-t.invariant.1.0
+    c.note-got.auto.list ∙ c.loop-t.invariant.1.0
 
 pub returns-then-got : goal.returns-then-got
 returns-then-got c =
-    let at_note = c in
-    let at_if1 = at_note in
-    let at_loop = at_if1 in
-    let a = at_loop.args in
-    let k = at_loop.loop-t in
-    let offer = at_if1.nonsquare_of-p in
+    let a = c.args in
+    let k = c.loop-t in
+    let offer = c.nonsquare_of-p in
     notes_more _ c.if-got.true
     (meeting_over (listed a.len a.list.now) (signals_at a.n a.set.now) (records a.terms.now) a.z.e k.invariant.1.1
-    (record_at a.terms.now k.t) offer.result offer.ensures at_if1.if-p.true (at_note.note-got.ensures.more c.if-got.true))
+    (record_at a.terms.now k.t) offer.result offer.ensures c.if-p.true (c.note-got.ensures.more c.if-got.true))
 
 pub loop-t-preserved : goal.loop-t-preserved
 loop-t-preserved c =
-    let at_loop = c in
-    let a = at_loop.args in
+    let a = c.args in
     let l = a.terms.now in
-    let k = at_loop.loop-t in
+    let k = c.loop-t in
     let f = offering (outside (signals_at a.n a.set.now)) (records l) a.z.e in
     let offer = c.nonsquare_of-p in
     let told = at_record f l k.t (omega arith) ∙ sym offer.ensures.told in

@@ -12,23 +12,18 @@ slice_bounds-is_among-end-2 c = sym (lent_part c.requires)
 
 pub returns-then-is_among : goal.returns-then-is_among
 returns-then-is_among c =
-    let s = c in
-    notes_all _ refl (note_old s.requires s.args.m.e (sym c.is_among.ensures ∙ c.if-is_among.true))
+    notes_all _ refl (note_old c.requires c.args.m.e (sym c.is_among.ensures ∙ c.if-is_among.true))
 
 pub returns-then-most-len : goal.returns-then-most-len
 returns-then-most-len c =
-    let s = c in
-    notes_more _ refl (note_full s.requires s.args.m.e (sym c.is_among.ensures ∙ c.if-is_among.false) c.if-most-len.true)
+    notes_more _ refl (note_full c.requires c.args.m.e (sym c.is_among.ensures ∙ c.if-is_among.false) c.if-most-len.true)
 
 pub write-requires : goal.write-requires
 write-requires c =
-    let s = c in
-    omega (arith, s.requires.room, c.if-most-len.false)
+    omega (arith, c.requires.room, c.if-most-len.false)
 
 pub returns : goal.returns
 returns c =
-    let at_if2 = c in
-    let s = at_if2 in
-    let wide : length s.args.m.e ≡ width = search rules in
-    let fresh = sym at_if2.is_among.ensures ∙ at_if2.if-is_among.false in
-    notes_all _ refl (note_new s.requires s.args.m.e fresh (omega (arith, at_if2.if-most-len.false)) wide _ c.write.ensures)
+    let wide : length c.args.m.e ≡ width = search rules in
+    let fresh = sym c.is_among.ensures ∙ c.if-is_among.false in
+    notes_all _ refl (note_new c.requires c.args.m.e fresh (omega (arith, c.if-most-len.false)) wide _ c.write.ensures)

@@ -37,44 +37,38 @@ overflow_add-most-2 c =
 
 pub gather-g-requires : goal.gather-g-requires
 gather-g-requires c =
-    let s = c in
-    let w = s.requires.0 in
-    (w.clean, (w.few, (w.fitting, (w.summed, omega (arith, list_fits w, s.requires.1)))))
+    let w = c.requires.0 in
+    (w.clean, (w.few, (w.fitting, (w.summed, omega (arith, list_fits w, c.requires.1)))))
 
 pub returns-then-g : goal.returns-then-g
 returns-then-g c =
-    let s = c in
-    let v = signals_at s.args.panel.n s.args.set.now in
+    let v = signals_at c.args.panel.n c.args.set.now in
     let many = c.gather-g.ensures.more c.if-g.true in
-    judged_closed (can_build s.args.panel) _ _ _ _ refl refl (over_closes s.requires.0 _ _ (nonsquares_asc plain mono_order v _) many)
+    judged_closed (can_build c.args.panel) _ _ _ _ refl refl (over_closes c.requires.0 _ _ (nonsquares_asc plain mono_order v _) many)
 
 pub returns-then-g-lt1 : goal.returns-then-g-lt1
 returns-then-g-lt1 c =
-    let s = c in
     let l = c.gather-g.ensures.all c.if-g.false in
-    judged_found (can_build s.args.panel) _ _ _ _ refl (omega (arith, l.many))
+    judged_found (can_build c.args.panel) _ _ _ _ refl (omega (arith, l.many))
 
 pub overflow_mul-used : goal.overflow_mul-used
 overflow_mul-used c =
-    let s = c in
     let l = c.gather-g.ensures.all c.if-g.false in
     let few = l.few in
-    let small = list_fits s.requires.0 in
+    let small = list_fits c.requires.0 in
     search rules
 
 pub slice_bounds-closes-end : goal.slice_bounds-closes-end
 slice_bounds-closes-end c =
-    let s = c in
     let made = c.gather-g in
     let l = made.ensures.all c.if-g.false in
-    omega (arith, l.few, list_fits s.requires.0, s.requires.1, made.auto.list)
+    omega (arith, l.few, list_fits c.requires.0, c.requires.1, made.auto.list)
 
 pub slice_bounds-closes-end-2 : goal.slice_bounds-closes-end-2
 slice_bounds-closes-end-2 c =
-    let s = c in
     let made = c.gather-g in
     let l = made.ensures.all c.if-g.false in
-    sym (length-take-le (width * made.result.len) made.new.list (omega (arith, l.few, list_fits s.requires.0, s.requires.1, made.auto.list)))
+    sym (length-take-le (width * made.result.len) made.new.list (omega (arith, l.few, list_fits c.requires.0, c.requires.1, made.auto.list)))
 
 pub closes-requires : goal.closes-requires
 closes-requires c =
@@ -83,33 +77,29 @@ closes-requires c =
 
 pub returns-then-closes : goal.returns-then-closes
 returns-then-closes c =
-    let s = c in
     let l = c.gather-g.ensures.all c.if-g.false in
-    let may = can_build s.args.panel in
-    judged_closed may _ _ _ _ refl refl (sym (list_closes s.requires.0 may _ _ l.are) ∙ sym c.closes.ensures ∙ c.if-closes.true)
+    let may = can_build c.args.panel in
+    judged_closed may _ _ _ _ refl refl (sym (list_closes c.requires.0 may _ _ l.are) ∙ sym c.closes.ensures ∙ c.if-closes.true)
 
 pub slice_bounds-cheapest_of-end : goal.slice_bounds-cheapest_of-end
 slice_bounds-cheapest_of-end c =
-    let s = c in
     let made = c.gather-g in
     let l = made.ensures.all c.if-g.false in
-    omega (arith, l.few, list_fits s.requires.0, s.requires.1, made.auto.list)
+    omega (arith, l.few, list_fits c.requires.0, c.requires.1, made.auto.list)
 
 pub slice_bounds-cheapest_of-end-2 : goal.slice_bounds-cheapest_of-end-2
 slice_bounds-cheapest_of-end-2 c =
-    let s = c in
     let made = c.gather-g in
     let l = made.ensures.all c.if-g.false in
-    sym (length-take-le (width * made.result.len) made.new.list (omega (arith, l.few, list_fits s.requires.0, s.requires.1, made.auto.list)))
+    sym (length-take-le (width * made.result.len) made.new.list (omega (arith, l.few, list_fits c.requires.0, c.requires.1, made.auto.list)))
 
 pub returns : goal.returns
 returns c =
-    let s = c in
     let made = c.gather-g in
     let l = made.ensures.all c.if-g.false in
-    let may = can_build s.args.panel in
-    let on = sym (list_closes s.requires.0 may _ _ l.are) ∙ sym c.closes.ensures ∙ c.if-closes.false in
-    let v = signals_at s.args.panel.n s.args.set.now in
-    let ns = nonsquares plain v (derivative plain (system (records s.args.terms.now))) in
+    let may = can_build c.args.panel in
+    let on = sym (list_closes c.requires.0 may _ _ l.are) ∙ sym c.closes.ensures ∙ c.if-closes.false in
+    let v = signals_at c.args.panel.n c.args.set.now in
+    let ns = nonsquares plain v (derivative plain (system (records c.args.terms.now))) in
     let picked = picked_of ns (listed made.result.len made.new.list) c.cheapest_of-p.result l.are c.cheapest_of-p.ensures in
     judged_split may _ _ _ _ c.cheapest_of-p.result refl refl refl (omega (arith, l.many)) on picked

@@ -12,7 +12,6 @@ slice_bounds-terms-end c =
 
 pub returns : goal.returns
 returns c =
-    let cut = c in
-    let a = cut.args in
-    let at = cut.first_bytes-at.ensures in
+    let a = c.args in
+    let at = c.first_bytes-at.ensures in
     rw (rest_within a.input.now a.bytes _ at, front_within a.input.now a.bytes _ at) at c.read_listing.ensures

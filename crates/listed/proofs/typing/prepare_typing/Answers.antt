@@ -17,18 +17,15 @@ slice_bounds-given-end c =
 
 pub put-requires : goal.put-requires
 put-requires c =
-    let cut = c in
-    let input = cut.args.input.now in
-    omega (arith, length-take cut.first_bytes-at.result input, cut.first_bytes-at.ensures)
+    let input = c.args.input.now in
+    omega (arith, length-take c.first_bytes-at.result input, c.first_bytes-at.ensures)
 
 pub returns : goal.returns
 returns c =
-    let at_put = c in
-    let cut = at_put in
-    let a = cut.args in
+    let a = c.args in
     let input = a.input.now in
-    let at = cut.first_bytes-at.ensures in
+    let at = c.first_bytes-at.ensures in
     let long : length a.wires.now ≡ wires_bytes = search rules in
     let front = front_within input set_bytes _ at in
-    let held = held_padded (set_in input) _ (rw front at at_put.put.ensures) in
+    let held = held_padded (set_in input) _ (rw front at c.put.ensures) in
     types a.n a.marks a.degree _ _ _ _ _ long (rw (rest_within input set_bytes _ at, front) at c.wire-reply.ensures) _ held

@@ -18,17 +18,15 @@ many n set few = signals_length n (tabled set) few ∙ ap (λ (k : ℕ). n + 1 +
 
 pub returns-then-j-n : goal.returns-then-j-n
 returns-then-j-n c =
-    let start = c in
-    let a = start.args in
+    let a = c.args in
     let v = signals_at a.n a.set.now in
-    let inside : a.j < length v = omega (arith, many a.n a.set.now start.requires.0, c.if-j-n.true) in
+    let inside : a.j < length v = omega (arith, many a.n a.set.now c.requires.0, c.if-j-n.true) in
     c.lead_of.ensures ∙ ap (lead_of a.m.e) (c.signal.ensures ∙ sym (get_or-append v (root_of a.m.e ∷ []) (one width) a.j inside))
 
 pub returns : goal.returns
 returns c =
-    let start = c in
-    let a = start.args in
+    let a = c.args in
     let v = signals_at a.n a.set.now in
-    let last : length v ≡ a.j = omega (arith, many a.n a.set.now start.requires.0, start.requires.1, c.if-j-n.false) in
+    let last : length v ≡ a.j = omega (arith, many a.n a.set.now c.requires.0, c.requires.1, c.if-j-n.false) in
     c.lead_of-2.ensures
     ∙ ap (lead_of a.m.e) (c.half.ensures ∙ sym (get_or-append_seam v (root_of a.m.e) [] (one width)) ∙ ap (λ (k : ℕ). get_or (asked v a.m.e) k (one width)) last)

@@ -18,16 +18,14 @@ leads-requires c = is→T _ (sym c.divides.ensures ∙ c.if-not-divides.false)
 
 pub returns-then-leads : goal.returns-then-leads
 returns-then-leads c =
-    let at_divides = c in
-    let a = at_divides.args in
-    sym (lead_own a.m.e a.w.e (sym at_divides.divides.ensures ∙ c.if-not-divides.false) (sym c.leads.ensures ∙ c.if-leads.true))
+    let a = c.args in
+    sym (lead_own a.m.e a.w.e (sym c.divides.ensures ∙ c.if-not-divides.false) (sym c.leads.ensures ∙ c.if-leads.true))
 
 pub over-requires : goal.over-requires
 over-requires c = is→T _ (sym c.divides.ensures ∙ c.if-not-divides.false)
 
 pub returns : goal.returns
 returns c =
-    let at_divides = c in
-    let a = at_divides.args in
+    let a = c.args in
     c.over.ensures
-    ∙ sym (lead_other a.m.e a.w.e (sym at_divides.divides.ensures ∙ c.if-not-divides.false) (sym c.leads.ensures ∙ c.if-leads.false))
+    ∙ sym (lead_other a.m.e a.w.e (sym c.divides.ensures ∙ c.if-not-divides.false) (sym c.leads.ensures ∙ c.if-leads.false))

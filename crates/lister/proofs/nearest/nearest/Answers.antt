@@ -23,9 +23,8 @@ candidate-c-requires c = (c.requires, omega (arith, c.loop-j-test.true))
 -- what is tried is the first of a pair
 pub nearer-near-requires : goal.nearer-near-requires
 nearer-near-requires c =
-    let k = c in
-    let a = k.args in
-    let w = get_or (asked (signals_at a.n a.set.now) a.m.e) k.loop-j.j (one width) in
+    let a = c.args in
+    let w = get_or (asked (signals_at a.n a.set.now) a.m.e) c.loop-j.j (one width) in
     rw c.candidate-c.ensures (lead_divides a.m.e w, lead_leads a.m.e w)
 
 pub loop-j-preserved : goal.loop-j-preserved
@@ -35,10 +34,8 @@ loop-j-preserved c =
 
 pub returns : goal.returns
 returns c =
-    let k = c in
-    let s = k in
-    let a = s.args in
+    let a = c.args in
     let v = signals_at a.n a.set.now in
-    let many : length v ≡ a.n + 1 + length a.set.now / width = signals_length a.n (tabled a.set.now) s.requires ∙ ap (λ (n : ℕ). a.n + 1 + n) (tabled_length a.set.now) in
-    let through : length (asked v a.m.e) ≤ k.loop-j.j = omega (arith, many, length-append v (root_of a.m.e ∷ []), c.loop-j-test.false) in
-    nearing_end v a.m.e a.a.e k.loop-j.invariant.1.1 through
+    let many : length v ≡ a.n + 1 + length a.set.now / width = signals_length a.n (tabled a.set.now) c.requires ∙ ap (λ (n : ℕ). a.n + 1 + n) (tabled_length a.set.now) in
+    let through : length (asked v a.m.e) ≤ c.loop-j.j = omega (arith, many, length-append v (root_of a.m.e ∷ []), c.loop-j-test.false) in
+    nearing_end v a.m.e a.a.e c.loop-j.invariant.1.1 through

@@ -22,35 +22,30 @@ use Rattle.lister.proofs.passes.by_v.Goals as goal
 
 pub returns-then-not-near : goal.returns-then-not-near
 returns-then-not-near c =
-    let at_nearest = c in
-    let s = at_nearest in
-    let a = s.args in
+    let a = c.args in
     let v = signals_at a.n a.set.now in
     let m = a.m.e in
-    let none_left = nearest_none v m s.requires.1.0 a.from.a.e at_nearest.nearest-near.result at_nearest.nearest-near.ensures (not-true _ c.if-not-near.true) in
-    sought_none v m a.from s.requires.1.1.0 _ refl (subst (λ (b : Bool). keep (of_kind v b) (pairs_from m a.from.a.e) ≡ []) (sym s.requires.1.1.1) none_left) refl refl
+    let none_left = nearest_none v m c.requires.1.0 a.from.a.e c.nearest-near.result c.nearest-near.ensures (not-true _ c.if-not-near.true) in
+    sought_none v m a.from c.requires.1.1.0 _ refl (subst (λ (b : Bool). keep (of_kind v b) (pairs_from m a.from.a.e) ≡ []) (sym c.requires.1.1.1) none_left) refl refl
 
 pub overflow_add-result : goal.overflow_add-result
 overflow_add-result c =
-    let s = c in
-    let a = s.args in
+    let a = c.args in
     let m = a.m.e in
     -- six bytes have so many divisors that their pairs can be counted
     let l : length m ≡ width = search rules in
     let bytes : (k : ℕ) → Fits w8 (get_or m k 0) = λ k. search rules in
-    let few = standing_few (signals_at a.n a.set.now) m a.from.rest a.from.a.e a.from.listed s.requires.1.1.0 in
+    let few = standing_few (signals_at a.n a.set.now) m a.from.rest a.from.a.e a.from.listed c.requires.1.1.0 in
     record { fits = omega (arith, few, pairs_few m, score_bytes m width l bytes) }
 
 pub returns : goal.returns
 returns c =
-    let at_nearest = c in
-    let s = at_nearest in
-    let a = s.args in
+    let a = c.args in
     let v = signals_at a.n a.set.now in
     let m = a.m.e in
-    let near = at_nearest.nearest-near.result in
+    let near = c.nearest-near.result in
     let some = not-false _ c.if-not-near.false in
-    let own = at_nearest.nearest-near.ensures.own some in
-    let comes = nearest_comes v m s.requires.1.0 a.from.a.e near at_nearest.nearest-near.ensures some in
-    sought_found v m a.from s.requires.1.1.0 _ refl own.0.divisor own.0.leading own.1
-    (subst (λ (b : Bool). keep (of_kind v b) (pairs_from m a.from.a.e) ≡ split m near.a.e ∷ keep (of_kind v b) (pairs_from m (next m near.a.e))) (sym s.requires.1.1.1) comes) refl refl
+    let own = c.nearest-near.ensures.own some in
+    let comes = nearest_comes v m c.requires.1.0 a.from.a.e near c.nearest-near.ensures some in
+    sought_found v m a.from c.requires.1.1.0 _ refl own.0.divisor own.0.leading own.1
+    (subst (λ (b : Bool). keep (of_kind v b) (pairs_from m a.from.a.e) ≡ split m near.a.e ∷ keep (of_kind v b) (pairs_from m (next m near.a.e))) (sym c.requires.1.1.1) comes) refl refl

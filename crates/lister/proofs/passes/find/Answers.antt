@@ -44,34 +44,30 @@ returns-then-not-all c = found (goal.at.returns-then-not-all c).After-pass-h (λ
 
 pub left-requires : goal.left-requires
 left-requires c =
-    let w = c in
     let a = c.args in
     let v = signals_at a.n a.set.now in
-    omega (arith, w.pass-h.ensures.over c.if-h.false, keep_length (of_kind v w.loop-m.at.rest) (pairs a.m.e))
+    omega (arith, c.pass-h.ensures.over c.if-h.false, keep_length (of_kind v c.loop-m.at.rest) (pairs a.m.e))
 
 pub returns-then-left-lt1 : goal.returns-then-left-lt1
 returns-then-left-lt1 c =
-    let w = c in
     let a = c.args in
     let v = signals_at a.n a.set.now in
-    let k = w.loop-m in
-    let through : length (pairs a.m.e) ≤ w.pass-h.result.at.listed = omega (arith, c.left.ensures, c.if-left-lt1.true) in
-    found_same v a.m.e a.all a.from.rest k.at.rest a.from.a.e k.at.a.e w.pass-h.result k.invariant.1.1
-    (found_through v a.m.e a.all k.at k.invariant.1.0 w.pass-h.result w.pass-h.ensures c.if-h.false c.if-at.false through)
+    let k = c.loop-m in
+    let through : length (pairs a.m.e) ≤ c.pass-h.result.at.listed = omega (arith, c.left.ensures, c.if-left-lt1.true) in
+    found_same v a.m.e a.all a.from.rest k.at.rest a.from.a.e k.at.a.e c.pass-h.result k.invariant.1.1
+    (found_through v a.m.e a.all k.at k.invariant.1.0 c.pass-h.result c.pass-h.ensures c.if-h.false c.if-at.false through)
 
 pub loop-m-smaller : goal.loop-m-smaller
 loop-m-smaller c = rw (c.rest_of-at.ensures.0, c.if-at.false) (omega arith)
 
 pub loop-m-preserved : goal.loop-m-preserved
 loop-m-preserved c =
-    let w = c in
-    let s = c in
-    let a = s.args in
+    let a = c.args in
     let v = signals_at a.n a.set.now in
-    let k = w.loop-m in
+    let k = c.loop-m in
     let l : length a.m.e ≡ width = search rules in
     let first : one width ≡ one (length a.m.e) = ap one (sym l) in
     let all = c.if-not-all.false in
-    let on = found_on v a.m.e a.all k.at k.invariant.1.0 w.pass-h.result w.pass-h.ensures c.if-h.false c.if-at.false all (one width) first in
+    let on = found_on v a.m.e a.all k.at k.invariant.1.0 c.pass-h.result c.pass-h.ensures c.if-h.false c.if-at.false all (one width) first in
     rw (c.rest_of-at.ensures.0, c.rest_of-at.ensures.1.0, c.rest_of-at.ensures.1.1)
     (standing_start v a.m.e true (one width) first, (λ e. absurd (is_not _ all e), k.invariant.1.1 ∙ on))

@@ -52,19 +52,17 @@ over-requires c = c.loop-m.invariant.divisor
 pub overflow_add-result : goal.overflow_add-result
 overflow_add-result c =
     let w = (goal.at.overflow_add-result c).After-is_of in
-    let s = c in
     -- six bytes have so many divisors that their pairs can be counted
     let l : length (m w) ≡ width = search rules in
     let bytes : (k : ℕ) → Fits w8 (get_or (m w) k 0) = λ k. search rules in
-    let few = standing_few (v w) (m w) s.args.from.rest s.args.from.a.e s.args.from.listed s.requires.1 in
+    let few = standing_few (v w) (m w) c.args.from.rest c.args.from.a.e c.args.from.listed c.requires.1 in
     record { fits = omega (arith, few, pairs_few (m w), score_bytes (m w) width l bytes) }
 
 pub returns-then-is_of : goal.returns-then-is_of
 returns-then-is_of c =
     let w = (goal.at.returns-then-is_of c).After-is_of in
-    let s = c in
-    let comes = seeking_found (m w) s.requires.0 (of_kind (v w) s.args.from.rest) c.loop-m.invariant (leading w) (sym (told w) ∙ c.if-is_of.true) in
-    sought_found (v w) (m w) s.args.from s.requires.1 _ refl c.loop-m.invariant.divisor (leading w) (held w) comes refl refl
+    let comes = seeking_found (m w) c.requires.0 (of_kind (v w) c.args.from.rest) c.loop-m.invariant (leading w) (sym (told w) ∙ c.if-is_of.true) in
+    sought_found (v w) (m w) c.args.from c.requires.1 _ refl c.loop-m.invariant.divisor (leading w) (held w) comes refl refl
 
 pub loop-m-smaller : goal.loop-m-smaller
 loop-m-smaller c =
@@ -79,8 +77,6 @@ loop-m-preserved c =
 
 pub returns : goal.returns
 returns c =
-    let k = c in
-    let s = k in
-    let b = s.args in
-    let none_left = seeking_none b.m.e s.requires.0 (of_kind (signals_at b.n b.set.now) b.from.rest) k.loop-m.invariant (is→n_t _ (sym c.leads.ensures ∙ c.loop-m-test.false)) in
-    sought_none (signals_at b.n b.set.now) b.m.e b.from s.requires.1 _ refl none_left refl refl
+    let b = c.args in
+    let none_left = seeking_none b.m.e c.requires.0 (of_kind (signals_at b.n b.set.now) b.from.rest) c.loop-m.invariant (is→n_t _ (sym c.leads.ensures ∙ c.loop-m-test.false)) in
+    sought_none (signals_at b.n b.set.now) b.m.e b.from c.requires.1 _ refl none_left refl refl

@@ -19,8 +19,7 @@ loop-i-init c = carrying_start width _ _ (search rules) (search rules)
 
 pub overflow_add-r : goal.overflow_add-r
 overflow_add-r c =
-    let start = c in
-    let top = start.args.m.e in
+    let top = c.args.m.e in
     let byte : Fits w8 (get_or top (c.loop-i.i - 1) 0) = search rules in
     record { fits = omega arith }
 

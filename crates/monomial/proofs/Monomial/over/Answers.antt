@@ -14,19 +14,16 @@ loop-i-init c = filling_start 0 width _ _ refl
 
 pub overflow_sub-r : goal.overflow_sub-r
 overflow_sub-r c =
-    let s = c in
-    divides_at s.args.other.e s.args.self.e c.loop-i.i s.requires
+    divides_at c.args.other.e c.args.self.e c.loop-i.i c.requires
 
 pub loop-i-preserved : goal.loop-i-preserved
 loop-i-preserved c =
-    let s = c in
-    let a : length s.args.self.e ≡ width = search rules in
-    let b : length s.args.other.e ≡ width = search rules in
+    let a : length c.args.self.e ≡ width = search rules in
+    let b : length c.args.other.e ≡ width = search rules in
     filling_next 0 _ c.loop-i.invariant (omega arith) (pointwise_length ◌-◌ _ _ (a ∙ sym b) ∙ a) (sym (pointwise_at ◌-◌ _ _ _ 0 0 0 (omega arith) (omega arith)))
 
 pub returns : goal.returns
 returns c =
-    let s = c in
-    let a : length s.args.self.e ≡ width = search rules in
-    let b : length s.args.other.e ≡ width = search rules in
+    let a : length c.args.self.e ≡ width = search rules in
+    let b : length c.args.other.e ≡ width = search rules in
     filling_end 0 c.loop-i.invariant (omega arith) (pointwise_length ◌-◌ _ _ (a ∙ sym b) ∙ a)

@@ -16,8 +16,7 @@ loop-i-init c = (omega arith, omega arith)
 
 pub overflow_mul-r : goal.overflow_mul-r
 overflow_mul-r c =
-    let s = c in
-    let es = s.args.self.e in
+    let es = c.args.self.e in
     let l : length es ≡ width = search rules in
     let bytes : (k : ℕ) → Fits w8 (get_or es k 0) = λ k. search rules in
     let k = c.loop-i in

@@ -14,21 +14,18 @@ loop-i-init c = filling_start 0 width _ _ refl
 
 pub overflow_add-r : goal.overflow_add-r
 overflow_add-r c =
-    let s = c in
-    let a : length s.args.self.e ≡ width = search rules in
-    let b : length s.args.other.e ≡ width = search rules in
-    record { fits = omega (arith, product_fits 255 s.args.self.e s.args.other.e c.loop-i.i (omega arith) (omega arith) s.requires) }
+    let a : length c.args.self.e ≡ width = search rules in
+    let b : length c.args.other.e ≡ width = search rules in
+    record { fits = omega (arith, product_fits 255 c.args.self.e c.args.other.e c.loop-i.i (omega arith) (omega arith) c.requires) }
 
 pub loop-i-preserved : goal.loop-i-preserved
 loop-i-preserved c =
-    let s = c in
-    let a : length s.args.self.e ≡ width = search rules in
-    let b : length s.args.other.e ≡ width = search rules in
+    let a : length c.args.self.e ≡ width = search rules in
+    let b : length c.args.other.e ≡ width = search rules in
     filling_next 0 _ c.loop-i.invariant (omega arith) (pointwise_length ◌+◌ _ _ (a ∙ sym b) ∙ a) (sym (pointwise_at ◌+◌ _ _ _ 0 0 0 (omega arith) (omega arith)))
 
 pub returns : goal.returns
 returns c =
-    let s = c in
-    let a : length s.args.self.e ≡ width = search rules in
-    let b : length s.args.other.e ≡ width = search rules in
+    let a : length c.args.self.e ≡ width = search rules in
+    let b : length c.args.other.e ≡ width = search rules in
     filling_end 0 c.loop-i.invariant (omega arith) (pointwise_length ◌+◌ _ _ (a ∙ sym b) ∙ a)

@@ -14,58 +14,41 @@ results_for reply sets count wires = record { listed = outcome reply sets; wirin
 
 pub returns-then-k-eq0 : goal.returns-then-k-eq0
 returns-then-k-eq0 c =
-    let tested = c in
-    let start = tested in
-    let r = results_for start.args.reply start.args.sets.now start.args.count start.args.wires.now in
-    rw (tested.numbers-five.ensures, reply_first r start.args.k tested.if-k-eq0.true) at c.reply_line.ensures
+    let r = results_for c.args.reply c.args.sets.now c.args.count c.args.wires.now in
+    rw (c.numbers-five.ensures, reply_first r c.args.k c.if-k-eq0.true) at c.reply_line.ensures
 
 pub returns-then-five-ne0 : goal.returns-then-five-ne0
 returns-then-five-ne0 c =
-    let given = c in
-    let start = given in
-    let r = results_for start.args.reply start.args.sets.now start.args.count start.args.wires.now in
-    let refused : r.listed.said.code ≡ 0 → ⊥ = rw given.numbers-five.ensures at c.if-five-ne0.true in
-    rw (← refused_none r start.args.k c.if-k-eq0.false refused) (stands_nothing _)
+    let r = results_for c.args.reply c.args.sets.now c.args.count c.args.wires.now in
+    let refused : r.listed.said.code ≡ 0 → ⊥ = rw c.numbers-five.ensures at c.if-five-ne0.true in
+    rw (← refused_none r c.args.k c.if-k-eq0.false refused) (stands_nothing _)
 
 pub returns-then-i-shown : goal.returns-then-i-shown
 returns-then-i-shown c =
-    let tested = c in
-    let later = tested in
-    let given = later in
-    let start = given in
-    let r = results_for start.args.reply start.args.sets.now start.args.count start.args.wires.now in
-    let five = given.numbers-five.ensures in
-    let done : r.listed.said.code ≡ 0 = rw five at later.if-five-ne0.false in
-    let low : start.args.k - 1 < shown_sets r = rw (rw five at tested.held-shown.ensures) at tested.if-i-shown.true in
-    rw (five, set_next r done start.args.k later.if-k-eq0.false low) at c.set_at.ensures
+    let r = results_for c.args.reply c.args.sets.now c.args.count c.args.wires.now in
+    let five = c.numbers-five.ensures in
+    let done : r.listed.said.code ≡ 0 = rw five at c.if-five-ne0.false in
+    let low : c.args.k - 1 < shown_sets r = rw (rw five at c.held-shown.ensures) at c.if-i-shown.true in
+    rw (five, set_next r done c.args.k c.if-k-eq0.false low) at c.set_at.ensures
 
 pub returns-then-j-held : goal.returns-then-j-held
 returns-then-j-held c =
-    let tested = c in
-    let passed = tested in
-    let later = passed in
-    let given = later in
-    let start = given in
-    let k = start.args.k in
-    let r = results_for start.args.reply start.args.sets.now start.args.count start.args.wires.now in
-    let five = given.numbers-five.ensures in
-    let done : r.listed.said.code ≡ 0 = rw five at later.if-five-ne0.false in
-    let sets : passed.held-shown.result ≡ shown_sets r = rw five at passed.held-shown.ensures in
-    let high : shown_sets r ≤ k - 1 = rw sets at passed.if-i-shown.false in
-    let low : k - 1 - shown_sets r < shown_wires r = rw (sets, tested.held.ensures) at tested.if-j-held.true in
-    rw (sets, wire_next r done k later.if-k-eq0.false high low) at c.wire_at.ensures
+    let k = c.args.k in
+    let r = results_for c.args.reply c.args.sets.now c.args.count c.args.wires.now in
+    let five = c.numbers-five.ensures in
+    let done : r.listed.said.code ≡ 0 = rw five at c.if-five-ne0.false in
+    let sets : c.held-shown.result ≡ shown_sets r = rw five at c.held-shown.ensures in
+    let high : shown_sets r ≤ k - 1 = rw sets at c.if-i-shown.false in
+    let low : k - 1 - shown_sets r < shown_wires r = rw (sets, c.held.ensures) at c.if-j-held.true in
+    rw (sets, wire_next r done k c.if-k-eq0.false high low) at c.wire_at.ensures
 
 pub returns : goal.returns
 returns c =
-    let passed = c in
-    let later = passed in
-    let given = later in
-    let start = given in
-    let k = start.args.k in
-    let r = results_for start.args.reply start.args.sets.now start.args.count start.args.wires.now in
-    let five = given.numbers-five.ensures in
-    let done : r.listed.said.code ≡ 0 = rw five at later.if-five-ne0.false in
-    let sets : passed.held-shown.result ≡ shown_sets r = rw five at passed.held-shown.ensures in
-    let high : shown_sets r ≤ k - 1 = rw sets at passed.if-i-shown.false in
+    let k = c.args.k in
+    let r = results_for c.args.reply c.args.sets.now c.args.count c.args.wires.now in
+    let five = c.numbers-five.ensures in
+    let done : r.listed.said.code ≡ 0 = rw five at c.if-five-ne0.false in
+    let sets : c.held-shown.result ≡ shown_sets r = rw five at c.held-shown.ensures in
+    let high : shown_sets r ≤ k - 1 = rw sets at c.if-i-shown.false in
     let all : shown_wires r ≤ k - 1 - shown_sets r = rw (sets, c.held.ensures) at c.if-j-held.false in
-    rw (← none_next r done k later.if-k-eq0.false high all) (stands_nothing _)
+    rw (← none_next r done k c.if-k-eq0.false high all) (stands_nothing _)

@@ -12,6 +12,4 @@ slice_bounds-line_in-end c =
 
 pub returns : goal.returns
 returns c =
-    let at_least_lem = c in
-    let start = at_least_lem in
-    rw (front_within start.args.sets.now start.args.p.lent _ at_least_lem.least-lent.ensures) at c.line_in.ensures
+    rw (front_within c.args.sets.now c.args.p.lent _ c.least-lent.ensures) at c.line_in.ensures

@@ -9,7 +9,6 @@ use Rattle.report.proofs.prepare.prepare_wire.Goals as goal
 
 pub returns : goal.returns
 returns c =
-    let at_wire = c in
-    let a = at_wire.args in
+    let a = c.args in
     let long : length a.out.now ≡ wires_bytes = search rules in
-    prepares_wire (panel_of a.n a.marks a.degree) a.terms.now a.set.now _ long at_wire.wire-reply.result _ _ at_wire.wire-reply.ensures c.numbers-five.ensures
+    prepares_wire (panel_of a.n a.marks a.degree) a.terms.now a.set.now _ long c.wire-reply.result _ _ c.wire-reply.ensures c.numbers-five.ensures

@@ -9,18 +9,15 @@ use Rattle.report.proofs.prepare.wire_set.Goals as goal
 
 pub returns-then-which-lt1 : goal.returns-then-which-lt1
 returns-then-which-lt1 c =
-    let start = c in
-    let long : length start.args.out.now ≡ wires_bytes = search rules in
+    let long : length c.args.out.now ≡ wires_bytes = search rules in
     wires_zero _ _ _ _ _ _ long _ c.clear.ensures c.if-which-lt1.true
 
 pub returns-then-count-which : goal.returns-then-count-which
 returns-then-count-which c =
-    let start = c in
-    let long : length start.args.out.now ≡ wires_bytes = search rules in
+    let long : length c.args.out.now ≡ wires_bytes = search rules in
     wires_beyond _ _ _ _ _ _ long _ c.clear.ensures (omega arith) c.if-count-which.true
 
 pub returns : goal.returns
 returns c =
-    let at_clear = c in
-    let long : length at_clear.clear.new.out ≡ wires_bytes = search rules in
+    let long : length c.clear.new.out ≡ wires_bytes = search rules in
     wires_there _ _ _ _ _ _ long (omega arith) (omega arith) _ refl c.wire-said.result _ _ c.wire-said.ensures c.numbers-five.ensures

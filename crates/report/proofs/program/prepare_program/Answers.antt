@@ -11,6 +11,5 @@ use Rattle.report.proofs.program.prepare_program.Goals as goal
 
 pub returns : goal.returns
 returns c =
-    let start = c in
-    let long : length start.args.sets.now ≡ set_bytes * program.room = search rules in
-    roomy program start.args.terms.now (omega arith) c.prepare.ensures
+    let long : length c.args.sets.now ≡ set_bytes * program.room = search rules in
+    roomy program c.args.terms.now (omega arith) c.prepare.ensures

@@ -9,20 +9,16 @@ loop-p-init c = tt
 
 pub overflow_add-k : goal.overflow_add-k
 overflow_add-k c =
-    let line = c in
-    let start = line in
-    let p = start.args.p in
-    let sets = start.args.sets.now in
-    let wires = start.args.wires.now in
-    let told = line_told (results_in p sets wires) _ line.line_of-end.ensures c.if-end-eq0.false in
+    let p = c.args.p in
+    let sets = c.args.sets.now in
+    let wires = c.args.wires.now in
+    let told = line_told (results_in p sets wires) _ c.line_of-end.ensures c.if-end-eq0.false in
     omega (arith, lines_few p sets wires)
 
 pub loop-p-smaller : goal.loop-p-smaller
 loop-p-smaller c =
-    let line = c in
-    let start = line in
-    let r = results_in start.args.p start.args.sets.now start.args.wires.now in
-    let told = line_told r _ line.line_of-end.ensures c.if-end-eq0.false in
+    let r = results_in c.args.p c.args.sets.now c.args.wires.now in
+    let told = line_told r _ c.line_of-end.ensures c.if-end-eq0.false in
     omega arith
 
 pub loop-p-preserved : goal.loop-p-preserved

@@ -15,24 +15,19 @@ use Rattle.thin.proofs.subsets.join.Goals as goal
 pub returns-then-count-out : goal.returns-then-count-out
 returns-then-count-out c =
     λ l many b.
-    let at_put = c in
-    let at_record_of = at_put in
-    let at_if1 = at_record_of in
-    let start = at_if1 in
-    let a = start.args in
+    let a = c.args in
     let s = monomials_of a.set in
-    let full : length a.set.m ≡ cards = search (rules, array_length, start.well_formed.1.1.0) in
-    let long = set_long a.set full start.requires.0 start.requires.1 in
-    let written : at_put.put.new.out ≡ paste a.out.now (set_bytes * length l) (set_record s) set_bytes =
-    at_put.put.ensures
-    ∙ ap₂ (λ (k : ℕ) (r : List ℕ). paste a.out.now (set_bytes * k) r (length r)) many at_record_of.record_of-r.ensures.1
+    let full : length a.set.m ≡ cards = search (rules, array_length, c.well_formed.1.1.0) in
+    let long = set_long a.set full c.requires.0 c.requires.1 in
+    let written : c.put.new.out ≡ paste a.out.now (set_bytes * length l) (set_record s) set_bytes =
+    c.put.ensures
+    ∙ ap₂ (λ (k : ℕ) (r : List ℕ). paste a.out.now (set_bytes * k) r (length r)) many c.record_of-r.ensures.1
     ∙ ap (λ (k : ℕ). paste a.out.now (set_bytes * length l) (set_record s) k) long in
-    begun_more l s a.out.now b long (omega (arith, many, at_if1.if-count-out.true)) at_put.put.new.out written
+    begun_more l s a.out.now b long (omega (arith, many, c.if-count-out.true)) c.put.new.out written
 
 pub returns-else-count-out : goal.returns-else-count-out
 returns-else-count-out c =
     λ l many b.
-    let start = c in
-    let a = start.args in
+    let a = c.args in
     let full : length a.set.m ≡ cards = search (rules, array_length) in
-    begun_past l (monomials_of a.set) a.out.now b (set_long a.set full start.requires.0 start.requires.1) (omega (arith, c.if-count-out.false))
+    begun_past l (monomials_of a.set) a.out.now b (set_long a.set full c.requires.0 c.requires.1) (omega (arith, c.if-count-out.false))

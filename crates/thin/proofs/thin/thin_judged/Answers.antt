@@ -21,8 +21,7 @@ verdict_of-said-requires c = c.requires.0
 
 pub returns-in-NotQuadratic : goal.returns-in-NotQuadratic
 returns-in-NotQuadratic c =
-    let s = c in
-    let a = s.args in
+    let a = c.args in
     let fs = system (records a.terms.now) in
     let size = length a.out.now in
     let ends = thinning a.n fs (monomials_of a.set) (size / set_bytes) in
@@ -30,7 +29,7 @@ returns-in-NotQuadratic c =
     let not = c.in-NotQuadratic.is in
     let judges = says_missing a.n fs (monomials_of a.set) 0 said.result said.ensures _ _ not in
     let code = ap (λ (r : Reply). (numbers r).code) not in
-    ap (outcome said.result) s.requires.1 ∙ sym (by_refused said.result ends size (λ z. omega arith)) ∙ ap (λ (r : Reply). thinned_by r ends size) judges.1
+    ap (outcome said.result) c.requires.1 ∙ sym (by_refused said.result ends size (λ z. omega arith)) ∙ ap (λ (r : Reply). thinned_by r ends size) judges.1
 
 pub thin_set-requires : goal.thin_set-requires
 thin_set-requires c = c.requires

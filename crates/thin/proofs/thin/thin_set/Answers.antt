@@ -9,26 +9,22 @@ use Rattle.thin.proofs.thin.thin_set.Goals as goal
 
 pub decide-best-requires : goal.decide-best-requires
 decide-best-requires c =
-    let start = c in
-    let full : length start.args.set.m ≡ cards = search (rules, array_length) in
-    let a = start.args in
-    (start_deciding a.n a.terms.now a.set a.out.now start.requires.0 start.requires.1 full, start_bounded a.n a.terms.now a.set a.out.now start.requires.0 start.requires.1 full)
+    let full : length c.args.set.m ≡ cards = search (rules, array_length) in
+    let a = c.args in
+    (start_deciding a.n a.terms.now a.set a.out.now c.requires.0 c.requires.1 full, start_bounded a.n a.terms.now a.set a.out.now c.requires.0 c.requires.1 full)
 
 pub returns-then-out-best : goal.returns-then-out-best
 returns-then-out-best c =
-    let start = c in
-    let full : length start.args.set.m ≡ cards = search (rules, array_length) in
-    let a = start.args in
+    let full : length c.args.set.m ≡ cards = search (rules, array_length) in
+    let a = c.args in
     let sifted = c.decide-best in
-    let at_clear = c in
-    ended_full a.n a.terms.now a.set a.out.now start.requires.0 start.requires.1 full sifted.result sifted.new.out sifted.ensures sifted.auto.out
-    at_clear.if-out-best.true at_clear.clear.new.out at_clear.clear.ensures
+    ended_full a.n a.terms.now a.set a.out.now c.requires.0 c.requires.1 full sifted.result sifted.new.out sifted.ensures sifted.auto.out
+    c.if-out-best.true c.clear.new.out c.clear.ensures
 
 pub returns : goal.returns
 returns c =
-    let start = c in
-    let full : length start.args.set.m ≡ cards = search (rules, array_length) in
-    let a = start.args in
+    let full : length c.args.set.m ≡ cards = search (rules, array_length) in
+    let a = c.args in
     let sifted = c.decide-best in
-    ended_done a.n a.terms.now a.set a.out.now start.requires.0 start.requires.1 full sifted.result sifted.new.out sifted.ensures sifted.auto.out
+    ended_done a.n a.terms.now a.set a.out.now c.requires.0 c.requires.1 full sifted.result sifted.new.out sifted.ensures sifted.auto.out
     c.if-out-best.false

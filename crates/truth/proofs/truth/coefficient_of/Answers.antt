@@ -3,7 +3,7 @@ use mathlib.Core.Path.{sym, ap, ◌∙◌}
 use mir.Syntax.{w64}
 use mir.Val.{to_z}
 use Rattle.listing.specs.Meaning.{signed}
-use Rattle.truth.proofs.truth.Machine.{Sized, sized_written, sized_unwritten, plus_is, minus_fits, minus_is}
+use Rattle.truth.proofs.truth.Machine.{Sized, sized_written, sized_unwritten, minus_fits, minus_is}
 use Rattle.truth.proofs.truth.coefficient_of.Goals as goal
 use Rattle.truth.proofs.truth.coefficient_of.Goals.{Joined-number-gt0, then-number-gt0, else-number-gt0}
 
@@ -21,4 +21,4 @@ pub returns-then-negative : goal.returns-then-negative
 returns-then-negative c = minus_is (sized (goal.at.returns-then-negative c).Joined-number-gt0) ∙ ap (λ b. signed b c.args.number) (sym c.if-negative.true)
 
 pub returns : goal.returns
-returns c = plus_is (sized (goal.at.returns c).Joined-number-gt0) ∙ ap (λ b. signed b c.args.number) (sym c.if-negative.false)
+returns c = (sized (goal.at.returns c).Joined-number-gt0).plus ∙ ap (λ b. signed b c.args.number) (sym c.if-negative.false)

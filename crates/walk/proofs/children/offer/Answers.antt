@@ -10,50 +10,41 @@ use Rattle.walk.proofs.children.offer.Goals.{then-held+else-held-2, else-held+el
 
 pub returns-then-held-2 : goal.returns-then-held-2
 returns-then-held-2 c =
-    let at_put = c in
-    let at_if2 = at_put in
-    let start = at_if2 in
-    let a = start.args in
+    let a = c.args in
     let s = tabled a.set.now in
-    let has = sym start.requires.1.second ∙ at_if2.if-held-2.true in
-    let met = sym start.requires.1.first ∙ at_if2.if-held.true in
-    let up = start.requires.0.ascending in
-    same_child (opens_none a.panel.n s a.a.e a.b.e (kit_rules a.panel) a.level up start.requires.0.within has met)
-    (child_none a.panel.n s a.a.e a.b.e up has met) (made_own a.set.now start.requires.0.whole _ _ at_put.put.ensures _ refl refl)
+    let has = sym c.requires.1.second ∙ c.if-held-2.true in
+    let met = sym c.requires.1.first ∙ c.if-held.true in
+    let up = c.requires.0.ascending in
+    same_child (opens_none a.panel.n s a.a.e a.b.e (kit_rules a.panel) a.level up c.requires.0.within has met)
+    (child_none a.panel.n s a.a.e a.b.e up has met) (made_own a.set.now c.requires.0.whole _ _ c.put.ensures _ refl refl)
 
 pub returns-then-not-held : goal.returns-then-not-held
 returns-then-not-held c =
-    let at_with_two = c in
-    let at_if3 = at_with_two in
-    let start = at_if3 in
-    let a = start.args in
+    let a = c.args in
     let s = tabled a.set.now in
-    let lacks = sym start.requires.1.second ∙ not-true _ at_if3.if-not-held.true in
-    let unmet = sym start.requires.1.first ∙ at_if3.if-held.false in
+    let lacks = sym c.requires.1.second ∙ not-true _ c.if-not-held.true in
+    let unmet = sym c.requires.1.first ∙ c.if-held.false in
     same_child (opens_both a.panel.n s a.a.e a.b.e (kit_rules a.panel) a.level lacks unmet)
     (child_both a.panel.n s a.a.e a.b.e lacks unmet)
-    (at_with_two.with_two.ensures (set_lacks a.panel.n s a.a.e a.b.e a.b.e lacks) (both_lack a.panel.n s a.a.e a.b.e unmet))
+    (c.with_two.ensures (set_lacks a.panel.n s a.a.e a.b.e a.b.e lacks) (both_lack a.panel.n s a.a.e a.b.e unmet))
 
 pub returns : goal.returns
 returns c =
-    let at_with_one = c in
-    let at_if1 = at_with_one in
-    let start = at_if1 in
-    let a = start.args in
+    let a = c.args in
     let s = tabled a.set.now in
-    let up = start.requires.0.ascending in
-    elim at_if1.if-held.branch [
+    let up = c.requires.0.ascending in
+    elim c.if-held.branch [
       | then-held+else-held-2 w ↦
-          let lacks = sym start.requires.1.second ∙ w.if-held-2.false in
-          let met = sym start.requires.1.first ∙ w.if-held.true in
-          let told = rw w.m-is at at_with_one.with_one.ensures in
+          let lacks = sym c.requires.1.second ∙ w.if-held-2.false in
+          let met = sym c.requires.1.first ∙ w.if-held.true in
+          let told = rw w.m-is at c.with_one.ensures in
           same_child (opens_second a.panel.n s a.a.e a.b.e (kit_rules a.panel) a.level up lacks met)
           (child_second a.panel.n s a.a.e a.b.e up lacks met)
           (told (set_lacks a.panel.n s a.a.e a.b.e a.b.e lacks))
       | else-held+else-not-held w ↦
-          let has = sym start.requires.1.second ∙ not-false _ w.if-not-held.false in
-          let unmet = sym start.requires.1.first ∙ w.if-held.false in
-          let told = rw w.m-is at at_with_one.with_one.ensures in
+          let has = sym c.requires.1.second ∙ not-false _ w.if-not-held.false in
+          let unmet = sym c.requires.1.first ∙ w.if-held.false in
+          let told = rw w.m-is at c.with_one.ensures in
           same_child (opens_first a.panel.n s a.a.e a.b.e (kit_rules a.panel) a.level has unmet)
           (child_first a.panel.n s a.a.e a.b.e has unmet)
           (told (first_lacks a.panel.n s a.a.e a.b.e unmet))

@@ -22,35 +22,25 @@ write-requires c = inserting_room c.loop-i.invariant
 
 pub loop-i-preserved : goal.loop-i-preserved
 loop-i-preserved c =
-    let at_write = c in
-    let at_if1 = at_write in
-    let at_before = at_if1 in
-    let at_read = at_before in
-    let at_test = at_read in
-    let at_loop = at_test in
-    let a = at_loop.args in
-    let not_before = sym at_before.before-in-loop-i.ensures ∙ at_if1.if-before.false in
-    let next = inserting_on at_loop.loop-i.invariant at_read.read-x.result.e at_test.loop-i-test.true at_read.read-x.ensures not_before in
-    subst (λ (b : List ℕ). Inserting a.m.e a.len a.s.now b (at_loop.loop-i.i - 1)) (sym at_write.write.ensures) next
+    let a = c.args in
+    let not_before = sym c.before-in-loop-i.ensures ∙ c.if-before.false in
+    let next = inserting_on c.loop-i.invariant c.read-x.result.e c.loop-i-test.true c.read-x.ensures not_before in
+    subst (λ (b : List ℕ). Inserting a.m.e a.len a.s.now b (c.loop-i.i - 1)) (sym c.write.ensures) next
 
 pub write-requires-2 : goal.write-requires-2
 write-requires-2 c = inserting_room c.loop-i.invariant
 
 pub shape_of-s : goal.shape_of-s
-shape_of-s c = let at_write = c in at_write.write-2.auto.s ∙ at_write.loop-i.invariant.long
+shape_of-s c = c.write-2.auto.s ∙ c.loop-i.invariant.long
 
 pub returns : goal.returns
 returns c =
-    let at_write = c in
-    let at_test = at_write in
-    let at_loop = at_test in
-    let start = at_loop in
-    let a = start.args in
-    let w = at_loop.loop-i.invariant in
-    let wide : length a.m.e ≡ width = search (rules, start.well_formed.1.1.0) in
+    let a = c.args in
+    let w = c.loop-i.invariant in
+    let wide : length a.m.e ≡ width = search (rules, c.well_formed.1.1.0) in
     λ up lacks.
-    ap (λ (b : List ℕ). listed (a.len + 1) b) at_write.write-2.ensures
-    ∙ elim at_test.loop-i-test.branch [
+    ap (λ (b : List ℕ). listed (a.len + 1) b) c.write-2.ensures
+    ∙ elim c.loop-i-test.branch [
       | else-loop-i-test z ↦ inserting_first w wide up lacks (omega arith)
       | then-loop-i-test+then-before z ↦ inserting_behind w wide up lacks _ z.loop-i-test.true z.read-x.ensures (sym z.before-in-loop-i.ensures ∙ z.if-before.true)
     ]

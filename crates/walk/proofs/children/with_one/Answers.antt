@@ -16,13 +16,7 @@ returns-then-not-can_build c =
 
 pub returns : goal.returns
 returns c =
-    let at_put_in = c in
-    let at_put = at_put_in in
-    let at_if2 = at_put in
-    let at_can_build = at_if2 in
-    let at_if1 = at_can_build in
-    let start = at_if1 in
-    let a = start.args in
-    let may = sym at_can_build.can_build.ensures ∙ at_if2.if-not-can_build.false in
-    let held = copied a.set.now start.requires.whole _ _ at_put.put.ensures in
-    λ lacks. one_made a.set.now (can_build a.panel) a.level _ _ _ refl refl at_if1.if-level-len.false may _ held at_put_in.put_in.ensures start.requires.ascending lacks
+    let a = c.args in
+    let may = sym c.can_build.ensures ∙ c.if-not-can_build.false in
+    let held = copied a.set.now c.requires.whole _ _ c.put.ensures in
+    λ lacks. one_made a.set.now (can_build a.panel) a.level _ _ _ refl refl c.if-level-len.false may _ held c.put_in.ensures c.requires.ascending lacks

@@ -23,17 +23,10 @@ returns-then-not-can_build-2 c =
 
 pub returns : goal.returns
 returns c =
-    let at_second = c in
-    let at_first = at_second in
-    let at_put = at_first in
-    let at_if3 = at_put in
-    let at_if2 = at_if3 in
-    let at_if1 = at_if2 in
-    let start = at_if1 in
-    let a = start.args in
-    let may_first = sym at_if2.can_build.ensures ∙ at_if2.if-not-can_build.false in
-    let may_second = sym at_if3.can_build-2.ensures ∙ at_if3.if-not-can_build-2.false in
-    let held = copied a.set.now start.requires.whole _ _ at_put.put.ensures in
+    let a = c.args in
+    let may_first = sym c.can_build.ensures ∙ c.if-not-can_build.false in
+    let may_second = sym c.can_build-2.ensures ∙ c.if-not-can_build-2.false in
+    let held = copied a.set.now c.requires.whole _ _ c.put.ensures in
     λ lacks lacks_first.
-    two_made a.set.now (can_build a.panel) a.level _ _ _ _ lacks lacks_first refl refl at_if1.if-level-len.false may_first may_second
-    _ _ held at_first.put_in.ensures at_second.put_in-2.ensures start.requires.ascending
+    two_made a.set.now (can_build a.panel) a.level _ _ _ _ lacks lacks_first refl refl c.if-level-len.false may_first may_second
+    _ _ held c.put_in.ensures c.put_in-2.ensures c.requires.ascending

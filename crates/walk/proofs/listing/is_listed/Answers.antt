@@ -11,8 +11,7 @@ loop-i-init c = (omega arith, λ finds s. seeking_start _ finds)
 
 pub is_same-requires : goal.is_same-requires
 is_same-requires c =
-    let s = c in
-    (cut_length s.args.s.now c.loop-i.i (omega (arith, s.requires.1)), s.requires.0)
+    (cut_length c.args.s.now c.loop-i.i (omega (arith, c.requires.1)), c.requires.0)
 
 pub returns-then-is_same : goal.returns-then-is_same
 returns-then-is_same c =

@@ -15,14 +15,12 @@ bounds-s-i c = omega (arith, c.loop-i.invariant.left)
 
 pub returns-then-s-i : goal.returns-then-s-i
 returns-then-s-i c =
-    let s = c in
-    let own = record-at s.args.set.now s.requires.1 c.loop-i.i ∙ sym c.byte_at.ensures in
+    let own = record-at c.args.set.now c.requires.1 c.loop-i.i ∙ sym c.byte_at.ensures in
     pairwise_fails 0 eqb c.loop-i.invariant (omega arith) (ne_eqb _ _ (λ e. c.if-s-i.true (e ∙ own)))
 
 pub loop-i-preserved : goal.loop-i-preserved
 loop-i-preserved c =
-    let s = c in
-    let own = record-at s.args.set.now s.requires.1 c.loop-i.i ∙ sym c.byte_at.ensures in
+    let own = record-at c.args.set.now c.requires.1 c.loop-i.i ∙ sym c.byte_at.ensures in
     pairwise_on 0 eqb c.loop-i.invariant (omega arith) (eq-eqb _ _ (c.if-s-i.false ∙ sym own))
 
 pub returns : goal.returns

@@ -38,10 +38,9 @@ put-requires c =
 pub returns : goal.returns
 returns c =
     λ finds taken s.
-    let start = c in
-    let a = start.args in
+    let a = c.args in
     let x = tabled a.set.now in
-    let own = start.requires.0.recorded in
+    let own = c.requires.0.recorded in
     let new = sym (c.is_listed.ensures finds s) ∙ c.if-is_listed.false in
     let place = c.place_of-at.ensures in
     let move = c.move_up in

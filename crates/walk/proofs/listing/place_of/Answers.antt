@@ -12,8 +12,7 @@ loop-i-init c = (omega arith, λ finds s. placing_start _ finds)
 
 pub stands_before-requires : goal.stands_before-requires
 stands_before-requires c =
-    let s = c in
-    (cut_length s.args.s.now c.loop-i.i (omega (arith, s.requires.1)), s.requires.0)
+    (cut_length c.args.s.now c.loop-i.i (omega (arith, c.requires.1)), c.requires.0)
 
 pub returns-then-not-stands_before : goal.returns-then-not-stands_before
 returns-then-not-stands_before c =

@@ -14,8 +14,7 @@ bounds-out-at c = pasting_room 0 c.loop-i.invariant (omega arith)
 
 pub loop-i-preserved : goal.loop-i-preserved
 loop-i-preserved c =
-    let s = c in
-    let own = c.byte_at.ensures ∙ sym (record-at s.args.set.now s.requires.0 c.loop-i.i) in
+    let own = c.byte_at.ensures ∙ sym (record-at c.args.set.now c.requires.0 c.loop-i.i) in
     rw own (pasting_next 0 c.loop-i.invariant (omega arith))
 
 pub shape_of-out : goal.shape_of-out

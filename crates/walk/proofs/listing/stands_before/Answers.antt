@@ -17,25 +17,22 @@ bounds-s-i c = omega (arith, c.loop-i.invariant.left)
 
 pub returns-then-s-i : goal.returns-then-s-i
 returns-then-s-i c =
-    let s = c in
-    let own = record-at s.args.set.now s.requires.1 c.loop-i.i ∙ sym c.byte_at-b.ensures in
-    dictionary_before ℕ-order 0 c.loop-i.invariant (omega arith) (subst (λ (b : ℕ). T (ltb (get_or s.args.s.now c.loop-i.i 0) b)) (sym own) (lt→ltb _ _ c.if-s-i.true))
+    let own = record-at c.args.set.now c.requires.1 c.loop-i.i ∙ sym c.byte_at-b.ensures in
+    dictionary_before ℕ-order 0 c.loop-i.invariant (omega arith) (subst (λ (b : ℕ). T (ltb (get_or c.args.s.now c.loop-i.i 0) b)) (sym own) (lt→ltb _ _ c.if-s-i.true))
 
 pub bounds-s-i-in-loop-i : goal.bounds-s-i-in-loop-i
 bounds-s-i-in-loop-i c = omega (arith, c.loop-i.invariant.left)
 
 pub returns-then-b-s : goal.returns-then-b-s
 returns-then-b-s c =
-    let s = c in
-    let own = record-at s.args.set.now s.requires.1 c.loop-i.i ∙ sym c.byte_at-b.ensures in
-    dictionary_behind ℕ-order 0 c.loop-i.invariant (omega arith) (subst (λ (b : ℕ). T (ltb b (get_or s.args.s.now c.loop-i.i 0))) (sym own) (lt→ltb _ _ c.if-b-s.true))
+    let own = record-at c.args.set.now c.requires.1 c.loop-i.i ∙ sym c.byte_at-b.ensures in
+    dictionary_behind ℕ-order 0 c.loop-i.invariant (omega arith) (subst (λ (b : ℕ). T (ltb b (get_or c.args.s.now c.loop-i.i 0))) (sym own) (lt→ltb _ _ c.if-b-s.true))
 
 pub loop-i-preserved : goal.loop-i-preserved
 loop-i-preserved c =
-    let s = c in
-    let own = record-at s.args.set.now s.requires.1 c.loop-i.i ∙ sym c.byte_at-b.ensures in
-    let not_less = subst (λ (b : ℕ). T (ltb (get_or s.args.s.now c.loop-i.i 0) b) → ⊥) (sym own) (not_ltb _ _ c.if-s-i.false) in
-    let not_more = subst (λ (b : ℕ). T (ltb b (get_or s.args.s.now c.loop-i.i 0)) → ⊥) (sym own) (not_ltb _ _ c.if-b-s.false) in
+    let own = record-at c.args.set.now c.requires.1 c.loop-i.i ∙ sym c.byte_at-b.ensures in
+    let not_less = subst (λ (b : ℕ). T (ltb (get_or c.args.s.now c.loop-i.i 0) b) → ⊥) (sym own) (not_ltb _ _ c.if-s-i.false) in
+    let not_more = subst (λ (b : ℕ). T (ltb b (get_or c.args.s.now c.loop-i.i 0)) → ⊥) (sym own) (not_ltb _ _ c.if-b-s.false) in
     dictionary_on ℕ-order 0 c.loop-i.invariant (omega arith) not_less not_more
 
 pub returns : goal.returns

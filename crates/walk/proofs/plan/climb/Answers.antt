@@ -15,20 +15,18 @@ may_cancel-cancels-requires c = c.requires.1.1.0
 
 pub loop-k-init : goal.loop-k-init
 loop-k-init c =
-    let s = c in
-    let a = s.args in
-    (climb_start (kit_rules a.panel) a.panel.n (system (records a.terms.now)) a.limit a.cap (length a.out.now) a.out.now refl s.requires.1.1.1 (omega arith), refl)
+    let a = c.args in
+    (climb_start (kit_rules a.panel) a.panel.n (system (records a.terms.now)) a.limit a.cap (length a.out.now) a.out.now refl c.requires.1.1.1 (omega arith), refl)
 
 pub slice_bounds-open-end : goal.slice_bounds-open-end
 slice_bounds-open-end c = sym c.loop-k.invariant.1
 
 pub open-requires : goal.open-requires
 open-requires c =
-    let start = c in
-    let p = start.requires in
+    let p = c.requires in
     let k = c.loop-k in (
       record {
-        opening = empty_openable start.args.panel.n start.args.terms.now k.k (omega (arith, p.1.0, c.loop-k-test.true)) p.0 p.1.1.0;
+        opening = empty_openable c.args.panel.n c.args.terms.now k.k (omega (arith, p.1.0, c.loop-k-test.true)) p.0 p.1.1.0;
         showing = record { finds = []; shown = shown_none k.out k.invariant.0.blank };
       },
       record { summed = c.may_cancel-cancels.ensures; roomy = omega (arith, k.invariant.1) },
@@ -36,72 +34,52 @@ open-requires c =
 
 pub shape_of-out-then-count-gt0 : goal.shape_of-out-then-count-gt0
 shape_of-out-then-count-gt0 c =
-    let at_open = c in
-    let at_loop = at_open in
-    at_open.«open».auto.out ∙ at_loop.loop-k.invariant.0.long
+    c.«open».auto.out ∙ c.loop-k.invariant.0.long
 
 pub returns-then-count-gt0 : goal.returns-then-count-gt0
 returns-then-count-gt0 c =
-    let at_open = c in
-    let at_loop_test = at_open in
-    let at_loop = at_loop_test in
-    let k = at_loop.loop-k in
-    let r = at_open.«open» in
-    let low = at_loop_test.loop-k-test.true in
-    let a = at_loop.args in
+    let k = c.loop-k in
+    let r = c.«open» in
+    let low = c.loop-k-test.true in
+    let a = c.args in
     let told = opening_at (kit_rules a.panel) a.panel.n (system (records a.terms.now)) a.limit a.cap (length a.out.now) k.k k.steps k.out r.result r.new.out _ tabled_none r.ensures in
     climb_done k.invariant.0 low r.result r.new.out told r.auto.out c.in-Going.s c.in-Going.is c.if-count-gt0.true
 
 pub shape_of-out-in-Spent : goal.shape_of-out-in-Spent
 shape_of-out-in-Spent c =
-    let at_open = c in
-    let at_loop = at_open in
-    c.clear.auto.out ∙ at_open.«open».auto.out
-    ∙ at_loop.loop-k.invariant.0.long
+    c.clear.auto.out ∙ c.«open».auto.out
+    ∙ c.loop-k.invariant.0.long
 
 pub returns-in-Spent : goal.returns-in-Spent
 returns-in-Spent c =
-    let at_enum_told = c in
-    let at_open = at_enum_told in
-    let at_loop_test = at_open in
-    let at_loop = at_loop_test in
-    let k = at_loop.loop-k in
-    let r = at_open.«open» in
-    let low = at_loop_test.loop-k-test.true in
-    let a = at_loop.args in
+    let k = c.loop-k in
+    let r = c.«open» in
+    let low = c.loop-k-test.true in
+    let a = c.args in
     let told = opening_at (kit_rules a.panel) a.panel.n (system (records a.terms.now)) a.limit a.cap (length a.out.now) k.k k.steps k.out r.result r.new.out _ tabled_none r.ensures in
     climb_spent k.invariant.0 low r.result r.new.out told r.auto.out _ c.clear.ensures
-    at_enum_told.in-Spent.is
+    c.in-Spent.is
 
 pub shape_of-out-in-Full : goal.shape_of-out-in-Full
 shape_of-out-in-Full c =
-    let at_open = c in
-    let at_loop = at_open in
-    c.clear-in-Full.auto.out ∙ at_open.«open».auto.out
-    ∙ at_loop.loop-k.invariant.0.long
+    c.clear-in-Full.auto.out ∙ c.«open».auto.out
+    ∙ c.loop-k.invariant.0.long
 
 pub returns-in-Full : goal.returns-in-Full
 returns-in-Full c =
-    let at_taken = c in
-    let at_open = at_taken in
-    let at_loop_test = at_open in
-    let at_loop = at_loop_test in
-    let k = at_loop.loop-k in
-    let r = at_open.«open» in
-    let low = at_loop_test.loop-k-test.true in
-    let a = at_loop.args in
+    let k = c.loop-k in
+    let r = c.«open» in
+    let low = c.loop-k-test.true in
+    let a = c.args in
     let told = opening_at (kit_rules a.panel) a.panel.n (system (records a.terms.now)) a.limit a.cap (length a.out.now) k.k k.steps k.out r.result r.new.out _ tabled_none r.ensures in
     climb_full k.invariant.0 low r.result r.new.out told r.auto.out _ c.clear-in-Full.ensures c.in-Full.taken c.in-Full.is
 
 pub loop-k-preserved : goal.loop-k-preserved
 loop-k-preserved c =
-    let at_open = c in
-    let at_loop_test = at_open in
-    let at_loop = at_loop_test in
-    let k = at_loop.loop-k in
-    let r = at_open.«open» in
-    let low = at_loop_test.loop-k-test.true in
-    let a = at_loop.args in
+    let k = c.loop-k in
+    let r = c.«open» in
+    let low = c.loop-k-test.true in
+    let a = c.args in
     let told = opening_at (kit_rules a.panel) a.panel.n (system (records a.terms.now)) a.limit a.cap (length a.out.now) k.k k.steps k.out r.result r.new.out _ tabled_none r.ensures in
     (climb_on k.invariant.0 low r.result r.new.out told r.auto.out c.in-Going.s c.in-Going.is c.if-count-gt0.false, r.auto.list ∙ k.invariant.1)
 

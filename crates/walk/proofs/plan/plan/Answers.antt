@@ -7,86 +7,54 @@ use Rattle.walk.proofs.plan.plan.Goals as goal
 
 pub returns-then-not-settings_right : goal.returns-then-not-settings_right
 returns-then-not-settings_right c =
-    let at_clear = c in
-    let start = at_clear in
-    let a = start.args in
+    let a = c.args in
     let wrong = sym c.settings_right.ensures ∙ c.if-not-settings_right.true in
-    said_setting (panel_of a.n a.marks a.degree) a.cap a.limit a.terms.now (length a.out.now) _ at_clear.clear.ensures wrong
+    said_setting (panel_of a.n a.marks a.degree) a.cap a.limit a.terms.now (length a.out.now) _ c.clear.ensures wrong
 
 pub returns-then-not-length_right : goal.returns-then-not-length_right
 returns-then-not-length_right c =
-    let at_settings_right = c in
-    let at_clear = at_settings_right in
-    let start = at_clear in
-    let a = start.args in
-    let right = sym at_settings_right.settings_right.ensures ∙ c.if-not-settings_right.false in
+    let a = c.args in
+    let right = sym c.settings_right.ensures ∙ c.if-not-settings_right.false in
     let wrong = sym c.length_right.ensures ∙ c.if-not-length_right.true in
-    said_length (panel_of a.n a.marks a.degree) a.cap a.limit a.terms.now (length a.out.now) _ at_clear.clear.ensures right wrong
+    said_length (panel_of a.n a.marks a.degree) a.cap a.limit a.terms.now (length a.out.now) _ c.clear.ensures right wrong
 
 pub climb-requires : goal.climb-requires
 climb-requires c =
-    let at_fault_of = c in
-    let at_if1 = at_fault_of in
-    let at_settings_right = at_if1 in
-    let at_clear = at_settings_right in
-    let start = at_clear in
-    let a = start.args in
-    let blank = at_clear.clear in
-    let right = sym at_settings_right.settings_right.ensures
-    ∙ at_if1.if-not-settings_right.false in
-    let clean = settings_clean (panel_of a.n a.marks a.degree) a.cap a.limit right a.terms.now (sym at_fault_of.fault_of.ensures ∙ c.in-Clean.is) in
+    let a = c.args in
+    let blank = c.clear in
+    let right = sym c.settings_right.ensures
+    ∙ c.if-not-settings_right.false in
+    let clean = settings_clean (panel_of a.n a.marks a.degree) a.cap a.limit right a.terms.now (sym c.fault_of.ensures ∙ c.in-Clean.is) in
     let zeros = zeros_long (length a.out.now) blank.new.out blank.auto.out blank.ensures in
     (settings_few (panel_of a.n a.marks a.degree) a.cap a.limit right, (settings_low (panel_of a.n a.marks a.degree) a.cap a.limit right, (clean, zeros)))
 
 pub returns-in-Clean : goal.returns-in-Clean
 returns-in-Clean c =
-    let at_enum_told = c in
-    let at_fault_of = at_enum_told in
-    let at_if2 = at_fault_of in
-    let at_length_right = at_if2 in
-    let at_if1 = at_length_right in
-    let at_settings_right = at_if1 in
-    let at_clear = at_settings_right in
-    let start = at_clear in
-    let a = start.args in
-    let right = sym at_settings_right.settings_right.ensures
-    ∙ at_if1.if-not-settings_right.false in
-    let measured = sym at_length_right.length_right.ensures
-    ∙ at_if2.if-not-length_right.false in
-    let clean = sym at_fault_of.fault_of.ensures ∙ at_enum_told.in-Clean.is in
+    let a = c.args in
+    let right = sym c.settings_right.ensures
+    ∙ c.if-not-settings_right.false in
+    let measured = sym c.length_right.ensures
+    ∙ c.if-not-length_right.false in
+    let clean = sym c.fault_of.ensures ∙ c.in-Clean.is in
     said_walked (panel_of a.n a.marks a.degree) a.cap a.limit a.terms.now (length a.out.now) _ _
-    c.climb.ensures at_clear.clear.auto.out right measured clean
+    c.climb.ensures c.clear.auto.out right measured clean
 
 pub returns-in-Wrong : goal.returns-in-Wrong
 returns-in-Wrong c =
-    let at_fault_of = c in
-    let at_if2 = at_fault_of in
-    let at_length_right = at_if2 in
-    let at_if1 = at_length_right in
-    let at_settings_right = at_if1 in
-    let at_clear = at_settings_right in
-    let start = at_clear in
-    let a = start.args in
-    let right = sym at_settings_right.settings_right.ensures
-    ∙ at_if1.if-not-settings_right.false in
-    let measured = sym at_length_right.length_right.ensures ∙ at_if2.if-not-length_right.false in
-    let wrong = sym at_fault_of.fault_of.ensures ∙ c.in-Wrong.is in
+    let a = c.args in
+    let right = sym c.settings_right.ensures
+    ∙ c.if-not-settings_right.false in
+    let measured = sym c.length_right.ensures ∙ c.if-not-length_right.false in
+    let wrong = sym c.fault_of.ensures ∙ c.in-Wrong.is in
     said_wrong (panel_of a.n a.marks a.degree) a.cap a.limit a.terms.now (length a.out.now) _
-    at_clear.clear.ensures right measured _ wrong
+    c.clear.ensures right measured _ wrong
 
 pub returns-in-Repeated : goal.returns-in-Repeated
 returns-in-Repeated c =
-    let at_fault_of = c in
-    let at_if2 = at_fault_of in
-    let at_length_right = at_if2 in
-    let at_if1 = at_length_right in
-    let at_settings_right = at_if1 in
-    let at_clear = at_settings_right in
-    let start = at_clear in
-    let a = start.args in
-    let right = sym at_settings_right.settings_right.ensures
-    ∙ at_if1.if-not-settings_right.false in
-    let measured = sym at_length_right.length_right.ensures ∙ at_if2.if-not-length_right.false in
-    let again = sym at_fault_of.fault_of.ensures ∙ c.in-Repeated.is in
+    let a = c.args in
+    let right = sym c.settings_right.ensures
+    ∙ c.if-not-settings_right.false in
+    let measured = sym c.length_right.ensures ∙ c.if-not-length_right.false in
+    let again = sym c.fault_of.ensures ∙ c.in-Repeated.is in
     said_repeated (panel_of a.n a.marks a.degree) a.cap a.limit a.terms.now (length a.out.now) _
-    at_clear.clear.ensures right measured _ again
+    c.clear.ensures right measured _ again

@@ -16,16 +16,13 @@ keep-requires c =
 
 pub shape_of-out-in-Held : goal.shape_of-out-in-Held
 shape_of-out-in-Held c =
-    let at_keep = c in
-    at_keep.keep.auto.out
+    c.keep.auto.out
 
 pub returns-in-Held : goal.returns-in-Held
 returns-in-Held c =
     λ finds sh.
-    let at_keep = c in
-    let start = at_keep in
-    let a = start.args in
-    let k = at_keep.keep in
+    let a = c.args in
+    let k = c.keep in
     let outcome : Run = kept (length a.out.now / set_bytes) (tabled a.set.now) a.st.steps finds in
     let held = subst (λ (r : Kept). KeptAs r a.st.steps k.new.out outcome) c.in-Held.is (k.ensures finds a.st.steps sh) in
     record { finds = held.0; shown = held.1; is = held.2 }
@@ -36,9 +33,7 @@ shape_of-out-in-NoRoom c = c.keep.auto.out
 pub returns-in-NoRoom : goal.returns-in-NoRoom
 returns-in-NoRoom c =
     λ finds sh.
-    let at_keep = c in
-    let start = at_keep in
-    let a = start.args in
-    let k = at_keep.keep in
+    let a = c.args in
+    let k = c.keep in
     let outcome : Run = kept (length a.out.now / set_bytes) (tabled a.set.now) a.st.steps finds in
     subst (λ (r : Kept). KeptAs r a.st.steps k.new.out outcome) c.in-NoRoom.is (k.ensures finds a.st.steps sh)

@@ -20,27 +20,23 @@ returns-then-f-taken c =
 
 pub judge-o-requires : goal.judge-o-requires
 judge-o-requires c =
-    let start = c in
-    (start.requires.0.opening, start.requires.1)
+    (c.requires.0.opening, c.requires.1)
 
 pub found-requires : goal.found-requires
 found-requires c =
-    let start = c in
-    let p = start.requires.0 in
+    let p = c.requires.0 in
     record { lies = record { whole = p.opening.whole; recorded = p.opening.walked.recorded }; showing = p.showing }
 
 pub returns-then-o : goal.returns-then-o
 returns-then-o c =
     λ d finds p sh.
-    let start = c in
-    let a = start.args in
+    let a = c.args in
     let j = c.judge-o in
     let told = found_runs (kit_rules a.f.panel) a.f.panel.n a.terms.now a.f.level a.f.limit a.set.now a.st a.out.now _ j.ensures (omega (arith, c.if-f-taken.false)) c.if-o.true d finds p in
     subst (Tells c.found.result c.found.new.out) (sym told) (c.found.ensures finds sh)
 
 pub returns : goal.returns
 returns c =
-    let start = c in
-    let a = start.args in
+    let a = c.args in
     let j = c.judge-o in
     lost_steps (kit_rules a.f.panel) a.f.panel.n a.terms.now a.f.level a.f.limit a.set.now a.st a.out.now _ j.ensures (omega arith) c.if-o.false _ refl refl

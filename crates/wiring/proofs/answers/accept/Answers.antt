@@ -15,67 +15,41 @@ returns-then-not-panel_right c =
 
 pub returns-then-not-length_right : goal.returns-then-not-length_right
 returns-then-not-length_right c =
-    let at_length_right = c in
-    let at_if1 = at_length_right in
-    let at_panel_right = at_if1 in
-    let a = at_panel_right.args in
-    let known = sym at_panel_right.panel_right.ensures ∙ at_if1.if-not-panel_right.false in
-    let no = said_terms_length (panel_of a.n a.marks a.degree) a.terms.now a.set.now known (sym at_length_right.length_right.ensures ∙ c.if-not-length_right.true) in
+    let a = c.args in
+    let known = sym c.panel_right.ensures ∙ c.if-not-panel_right.false in
+    let no = said_terms_length (panel_of a.n a.marks a.degree) a.terms.now a.set.now known (sym c.length_right.ensures ∙ c.if-not-length_right.true) in
     given_refused _ _ _ _ Length no (λ z. omega arith) c.refused-then-not-length_right.ensures
 
 pub returns-then-set-ne-SET_BYTES : goal.returns-then-set-ne-SET_BYTES
 returns-then-set-ne-SET_BYTES c =
-    let at_if3 = c in
-    let at_if2 = at_if3 in
-    let at_length_right = at_if2 in
-    let at_if1 = at_length_right in
-    let at_panel_right = at_if1 in
-    let a = at_panel_right.args in
-    let known = sym at_panel_right.panel_right.ensures ∙ at_if1.if-not-panel_right.false in
-    let measured = sym at_length_right.length_right.ensures ∙ at_if2.if-not-length_right.false in
-    given_refused _ _ _ _ Length (said_set_length (panel_of a.n a.marks a.degree) a.terms.now a.set.now known measured at_if3.if-set-ne-SET_BYTES.true) (λ z. omega arith) c.refused-then-set-ne-SET_BYTES.ensures
+    let a = c.args in
+    let known = sym c.panel_right.ensures ∙ c.if-not-panel_right.false in
+    let measured = sym c.length_right.ensures ∙ c.if-not-length_right.false in
+    given_refused _ _ _ _ Length (said_set_length (panel_of a.n a.marks a.degree) a.terms.now a.set.now known measured c.if-set-ne-SET_BYTES.true) (λ z. omega arith) c.refused-then-set-ne-SET_BYTES.ensures
 
 pub returns-in-Clean : goal.returns-in-Clean
 returns-in-Clean c =
-    let at_fault_of = c in
-    let at_if3 = at_fault_of in
-    let at_if2 = at_if3 in
-    let at_length_right = at_if2 in
-    let at_if1 = at_length_right in
-    let at_panel_right = at_if1 in
-    let a = at_panel_right.args in
-    let known = sym at_panel_right.panel_right.ensures ∙ at_if1.if-not-panel_right.false in
-    let measured = sym at_length_right.length_right.ensures ∙ at_if2.if-not-length_right.false in
-    let clean = sym c.in-Clean.is ∙ at_fault_of.fault_of.ensures in
-    let says = sym (said_rest (panel_of a.n a.marks a.degree) a.terms.now a.set.now known measured at_if3.if-set-ne-SET_BYTES.false Clean clean) in
-    given_read _ _ _ _ known at_if3.if-set-ne-SET_BYTES.false (sym clean) says c.read_given.ensures
+    let a = c.args in
+    let known = sym c.panel_right.ensures ∙ c.if-not-panel_right.false in
+    let measured = sym c.length_right.ensures ∙ c.if-not-length_right.false in
+    let clean = sym c.in-Clean.is ∙ c.fault_of.ensures in
+    let says = sym (said_rest (panel_of a.n a.marks a.degree) a.terms.now a.set.now known measured c.if-set-ne-SET_BYTES.false Clean clean) in
+    given_read _ _ _ _ known c.if-set-ne-SET_BYTES.false (sym clean) says c.read_given.ensures
 
 pub returns-in-Wrong : goal.returns-in-Wrong
 returns-in-Wrong c =
-    let at_fault_of = c in
-    let at_if3 = at_fault_of in
-    let at_if2 = at_if3 in
-    let at_length_right = at_if2 in
-    let at_if1 = at_length_right in
-    let at_panel_right = at_if1 in
-    let a = at_panel_right.args in
-    let known = sym at_panel_right.panel_right.ensures ∙ at_if1.if-not-panel_right.false in
-    let measured = sym at_length_right.length_right.ensures ∙ at_if2.if-not-length_right.false in
+    let a = c.args in
+    let known = sym c.panel_right.ensures ∙ c.if-not-panel_right.false in
+    let measured = sym c.length_right.ensures ∙ c.if-not-length_right.false in
     let place = c.in-Wrong in
-    let says = sym (said_rest (panel_of a.n a.marks a.degree) a.terms.now a.set.now known measured at_if3.if-set-ne-SET_BYTES.false (Wrong place.place) (sym place.is ∙ at_fault_of.fault_of.ensures)) in
+    let says = sym (said_rest (panel_of a.n a.marks a.degree) a.terms.now a.set.now known measured c.if-set-ne-SET_BYTES.false (Wrong place.place) (sym place.is ∙ c.fault_of.ensures)) in
     given_refused _ _ _ _ (Term place.place) says (λ z. omega arith) c.refused-in-Wrong.ensures
 
 pub returns-in-Repeated : goal.returns-in-Repeated
 returns-in-Repeated c =
-    let at_fault_of = c in
-    let at_if3 = at_fault_of in
-    let at_if2 = at_if3 in
-    let at_length_right = at_if2 in
-    let at_if1 = at_length_right in
-    let at_panel_right = at_if1 in
-    let a = at_panel_right.args in
-    let known = sym at_panel_right.panel_right.ensures ∙ at_if1.if-not-panel_right.false in
-    let measured = sym at_length_right.length_right.ensures ∙ at_if2.if-not-length_right.false in
+    let a = c.args in
+    let known = sym c.panel_right.ensures ∙ c.if-not-panel_right.false in
+    let measured = sym c.length_right.ensures ∙ c.if-not-length_right.false in
     let place = c.in-Repeated in
-    let says = sym (said_rest (panel_of a.n a.marks a.degree) a.terms.now a.set.now known measured at_if3.if-set-ne-SET_BYTES.false (Repeated place.place) (sym place.is ∙ at_fault_of.fault_of.ensures)) in
+    let says = sym (said_rest (panel_of a.n a.marks a.degree) a.terms.now a.set.now known measured c.if-set-ne-SET_BYTES.false (Repeated place.place) (sym place.is ∙ c.fault_of.ensures)) in
     given_refused _ _ _ _ (Twice place.place) says (λ z. omega arith) c.refused-in-Repeated.ensures

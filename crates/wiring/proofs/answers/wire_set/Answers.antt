@@ -29,22 +29,20 @@ signals_of-v-requires c = let q = c.requires.0 in (q.few, q.small)
 
 pub wire_rows-requires : goal.wire_rows-requires
 wire_rows-requires c =
-    let s = c in
-    let q = s.requires.0 in
+    let q = c.requires.0 in
     let v = c.signals_of-v.ensures in
-    let fits = signals_fitting set_exponent s.args.n (monomials_of s.args.set) (omega arith) q.fits in
-    (q.clean, (omega (arith, q.few, q.small), (subst (Fitting set_exponent) (sym v.0) fits, sheet_start s.args.out.now s.requires.1)))
+    let fits = signals_fitting set_exponent c.args.n (monomials_of c.args.set) (omega arith) q.fits in
+    (q.clean, (omega (arith, q.few, q.small), (subst (Fitting set_exponent) (sym v.0) fits, sheet_start c.args.out.now c.requires.1)))
 
 pub shape_of-out-then-w : goal.shape_of-out-then-w
 shape_of-out-then-w c = c.wire_rows.auto.out
 
 pub returns-then-w : goal.returns-then-w
 returns-then-w c =
-    let s = c in
-    let a = s.args in
+    let a = c.args in
     let room : length a.set.m ≡ cards = search (rules, array_length) in
     let m = monomials_of a.set in
-    let size : a.set.len ≡ length m = sym (front_length a.set.len a.set.m (omega (arith, s.requires.0.small))) in
+    let size : a.set.len ≡ length m = sym (front_length a.set.len a.set.m (omega (arith, c.requires.0.small))) in
     let fs = system (records a.terms.now) in
     let w = c.wire_rows in
     let out = w.new.out in
@@ -62,11 +60,10 @@ shape_of-out-else-w c = c.clear.auto.out ∙ c.wire_rows.auto.out
 
 pub returns-else-w : goal.returns-else-w
 returns-else-w c =
-    let s = c in
-    let a = s.args in
+    let a = c.args in
     let room : length a.set.m ≡ cards = search (rules, array_length) in
     let m = monomials_of a.set in
-    let size : a.set.len ≡ length m = sym (front_length a.set.len a.set.m (omega (arith, s.requires.0.small))) in
+    let size : a.set.len ≡ length m = sym (front_length a.set.len a.set.m (omega (arith, c.requires.0.small))) in
     let fs = system (records a.terms.now) in
     let w = c.wire_rows in
     let out = w.new.out in
@@ -85,11 +82,10 @@ shape_of-out-in-Unmet c = c.clear-in-Unmet.auto.out ∙ c.wire_rows.auto.out
 
 pub returns-in-Unmet : goal.returns-in-Unmet
 returns-in-Unmet c =
-    let s = c in
-    let a = s.args in
+    let a = c.args in
     let room : length a.set.m ≡ cards = search (rules, array_length) in
     let m = monomials_of a.set in
-    let size : a.set.len ≡ length m = sym (front_length a.set.len a.set.m (omega (arith, s.requires.0.small))) in
+    let size : a.set.len ≡ length m = sym (front_length a.set.len a.set.m (omega (arith, c.requires.0.small))) in
     let fs = system (records a.terms.now) in
     let w = c.wire_rows in
     let out = w.new.out in

@@ -6,14 +6,10 @@ use Rattle.wiring.proofs.coefficient.decode.Goals as goal
 
 pub returns-then-n-lt2147483648 : goal.returns-then-n-lt2147483648
 returns-then-n-lt2147483648 c =
-    let at_wide3 = c in
-    let at_wide2 = at_wide3 in
-    let at_wide = at_wide2 in
-    let start = at_wide in
-    let a = start.args in
-    let low = at_wide.wide in
-    let second = at_wide2.wide-2 in
-    let third = at_wide3.wide-3 in
+    let a = c.args in
+    let low = c.wide in
+    let second = c.wide-2 in
+    let third = c.wide-3 in
     let high = c.wide-4 in
     signed_low _ c.if-n-lt2147483648.true ∙ ap signed (word_of a.b.now a.at _ _ _ _ low.ensures.0 second.ensures.0 third.ensures.0 high.ensures.0)
 
@@ -22,13 +18,9 @@ overflow_sub-result c = complement_fits _ c.if-n-lt2147483648.false
 
 pub returns : goal.returns
 returns c =
-    let at_wide3 = c in
-    let at_wide2 = at_wide3 in
-    let at_wide = at_wide2 in
-    let start = at_wide in
-    let a = start.args in
-    let low = at_wide.wide in
-    let second = at_wide2.wide-2 in
-    let third = at_wide3.wide-3 in
+    let a = c.args in
+    let low = c.wide in
+    let second = c.wide-2 in
+    let third = c.wide-3 in
     let high = c.wide-4 in
     complement_is _ c.if-n-lt2147483648.false ∙ ap signed (word_of a.b.now a.at _ _ _ _ low.ensures.0 second.ensures.0 third.ensures.0 high.ensures.0)

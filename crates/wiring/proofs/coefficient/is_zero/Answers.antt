@@ -23,8 +23,7 @@ other_bits (negsuc k) n = refl
 
 pub returns-then-c-eq0 : goal.returns-then-c-eq0
 returns-then-c-eq0 c =
-    let s = c in
-    zero_bits s.args.c s.ranges.c c.if-c-eq0.true
+    zero_bits c.args.c c.ranges.c c.if-c-eq0.true
 
 pub returns : goal.returns
 returns c = other_bits c.args.c c.if-c-eq0.false

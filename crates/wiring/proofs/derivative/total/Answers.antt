@@ -15,35 +15,29 @@ power-k-requires c = (c.requires.0, omega arith)
 
 pub image-requires : goal.image-requires
 image-requires c =
-    let s = c in
-    (s.requires.0, (omega arith, (rw (← c.power-k.ensures) c.if-k-gt0.true, at_most_weaken s.args.z.e (omega arith) s.requires.1)))
+    (c.requires.0, (omega arith, (rw (← c.power-k.ensures) c.if-k-gt0.true, at_most_weaken c.args.z.e (omega arith) c.requires.1)))
 
 pub overflow_cast-sum : goal.overflow_cast-sum
 overflow_cast-sum c =
-    let k = c in
-    power_fits k.loop-t.invariant k.loop-t-test.true _ k.power-k.ensures
+    power_fits c.loop-t.invariant c.loop-t-test.true _ c.power-k.ensures
 
 pub overflow_mul-sum : goal.overflow_mul-sum
 overflow_mul-sum c =
-    let k = c in
-    product_fits k.loop-t.invariant k.loop-t-test.true _ _ k.power-k.ensures c.decode.ensures
+    product_fits c.loop-t.invariant c.loop-t-test.true _ _ c.power-k.ensures c.decode.ensures
 
 pub overflow_add-sum : goal.overflow_add-sum
 overflow_add-sum c =
-    let i = c in
-    let k = i in
     let hit = sym c.same.ensures ∙ c.if-same.true in
-    sum_of_fits k.loop-t.invariant k.loop-t-test.true _ _ k.power-k.ensures c.decode.ensures _ i.image.ensures hit
+    sum_of_fits c.loop-t.invariant c.loop-t-test.true _ _ c.power-k.ensures c.decode.ensures _ c.image.ensures hit
 
 pub loop-t-preserved : goal.loop-t-preserved
 loop-t-preserved c =
-    let k = c in
-    let inv = k.loop-t.invariant in
-    let more = k.loop-t-test.true in
+    let inv = c.loop-t.invariant in
+    let more = c.loop-t-test.true in
     elim c.if-k-gt0.branch [
-      | then-k-gt0+then-same w ↦ rw w.sum-is (adding_hit inv more _ _ k.power-k.ensures w.decode.ensures _ w.image.ensures (sym w.same.ensures ∙ w.if-same.true))
+      | then-k-gt0+then-same w ↦ rw w.sum-is (adding_hit inv more _ _ c.power-k.ensures w.decode.ensures _ w.image.ensures (sym w.same.ensures ∙ w.if-same.true))
       | then-k-gt0+else-same w ↦ rw w.sum-is (adding_miss inv more _ w.image.ensures (sym w.same.ensures ∙ w.if-same.false))
-      | else-k-gt0 w ↦ rw w.sum-is (adding_flat inv more (omega (arith, k.power-k.ensures, w.if-k-gt0.false)))
+      | else-k-gt0 w ↦ rw w.sum-is (adding_flat inv more (omega (arith, c.power-k.ensures, w.if-k-gt0.false)))
     ]
 
 pub returns : goal.returns

@@ -20,31 +20,24 @@ returns-then-power-lt1 c =
 
 pub image-m-requires : goal.image-m-requires
 image-m-requires c =
-    let s = c in
     let raised = c.power.ensures in
     let low = c.if-power-lt1.false in
-    (s.requires.0, (s.requires.1.0, (omega arith, at_most_weaken s.args.z.e (omega arith) s.requires.1.1)))
+    (c.requires.0, (c.requires.1.0, (omega arith, at_most_weaken c.args.z.e (omega arith) c.requires.1.1)))
 
 pub returns-then-not-is_beyond : goal.returns-then-not-is_beyond
 returns-then-not-is_beyond c =
-    let at_if1 = c in
-    let at_power = at_if1 in
-    let start = at_power in
-    let a = start.args in
+    let a = c.args in
     let l = a.terms.now in
-    let x = at_power.power in
+    let x = c.power in
     let m = c.image-m in
     given_fails (beyond a.last) a.z.e (record_at l a.t) x.result m.result.e x.ensures
-    at_if1.if-power-lt1.false m.ensures _ (sym c.is_beyond.ensures ∙ c.if-not-is_beyond.true) refl
+    c.if-power-lt1.false m.ensures _ (sym c.is_beyond.ensures ∙ c.if-not-is_beyond.true) refl
 
 pub returns : goal.returns
 returns c =
-    let at_if1 = c in
-    let at_power = at_if1 in
-    let start = at_power in
-    let a = start.args in
+    let a = c.args in
     let l = a.terms.now in
-    let x = at_power.power in
+    let x = c.power in
     let m = c.image-m in
     given_here (beyond a.last) a.z.e (record_at l a.t) x.result m.result.e x.ensures
-    at_if1.if-power-lt1.false m.ensures _ (sym c.is_beyond.ensures ∙ c.if-not-is_beyond.false) refl refl
+    c.if-power-lt1.false m.ensures _ (sym c.is_beyond.ensures ∙ c.if-not-is_beyond.false) refl refl

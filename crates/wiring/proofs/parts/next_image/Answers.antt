@@ -23,16 +23,13 @@ loop-t-init c = (refl, collecting_start _ _ _ (λ y h. Memᴰ.not-nil h))
 
 pub following-p-requires : goal.following-p-requires
 following-p-requires c =
-    let s = c in
-    (s.requires.0, (omega arith, s.requires.1))
+    (c.requires.0, (omega arith, c.requires.1))
 
 pub loop-t-preserved : goal.loop-t-preserved
 loop-t-preserved c =
-    let at_loop = c in
-    let start = at_loop in
-    let a = start.args in
+    let a = c.args in
     let l = a.terms.now in
-    let k = at_loop.loop-t in
+    let k = c.loop-t in
     let f = gives (beyond a.last) a.z.e in
     let told = at_record f l k.t (omega arith) ∙ sym c.following-p.ensures.told in
     let few : k.t < length (records l) = omega (arith, records_length l) in (

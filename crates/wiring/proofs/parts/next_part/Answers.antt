@@ -17,36 +17,32 @@ next_image-pick-requires c = c.requires
 
 pub returns-then-not-pick : goal.returns-then-not-pick
 returns-then-not-pick c =
-    let at_image = c in
     let none = not-true _ c.if-not-pick.true in
-    record { heads = parting_none _ _ _ at_image.loop-z.invariant at_image.next_image-pick.result at_image.next_image-pick.ensures none; total_value = λ e. absurd (subst T (sym e ∙ none) tt) }
+    record { heads = parting_none _ _ _ c.loop-z.invariant c.next_image-pick.result c.next_image-pick.ensures none; total_value = λ e. absurd (subst T (sym e ∙ none) tt) }
 
 pub total-total-requires : goal.total-total-requires
 total-total-requires c = c.requires
 
 pub returns-then-not-is_zero : goal.returns-then-not-is_zero
 returns-then-not-is_zero c =
-    let at_image = c in
-    let pick = at_image.next_image-pick in
+    let pick = c.next_image-pick in
     let sum = c.total-total in
     let same_sum = to_z-of_z w32 sum.result (sfits_of sum.type_inv) in
     let counts = ap is_zero (sym sum.ensures ∙ sym same_sum) ∙ sym c.is_zero.ensures ∙ c.if-not-is_zero.true in
     let here = not-false _ c.if-not-pick.false in
-    record { heads = parting_here _ _ _ at_image.loop-z.invariant pick.result pick.ensures here counts; total_value = λ e. same_sum ∙ sum.ensures }
+    record { heads = parting_here _ _ _ c.loop-z.invariant pick.result pick.ensures here counts; total_value = λ e. same_sum ∙ sum.ensures }
 
 pub loop-z-smaller : goal.loop-z-smaller
 loop-z-smaller c =
-    let at_image = c in
-    let pick = at_image.next_image-pick in
+    let pick = c.next_image-pick in
     let here = not-false _ c.if-not-pick.false in
-    parting_less _ _ _ at_image.loop-z.invariant pick.result pick.ensures here
+    parting_less _ _ _ c.loop-z.invariant pick.result pick.ensures here
 
 pub loop-z-preserved : goal.loop-z-preserved
 loop-z-preserved c =
-    let at_image = c in
-    let pick = at_image.next_image-pick in
+    let pick = c.next_image-pick in
     let sum = c.total-total in
     let same_sum = to_z-of_z w32 sum.result (sfits_of sum.type_inv) in
     let zero = ap is_zero (sym sum.ensures ∙ sym same_sum) ∙ sym c.is_zero.ensures ∙ c.if-not-is_zero.false in
     let here = not-false _ c.if-not-pick.false in
-    parting_on _ _ _ at_image.loop-z.invariant pick.result pick.ensures here zero
+    parting_on _ _ _ c.loop-z.invariant pick.result pick.ensures here zero

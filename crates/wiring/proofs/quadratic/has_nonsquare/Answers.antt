@@ -16,27 +16,22 @@ loop-t-init c =
 
 pub nonsquare_of-p-requires : goal.nonsquare_of-p-requires
 nonsquare_of-p-requires c =
-    let s = c in
-    (s.requires.0, (omega arith, s.requires.1))
+    (c.requires.0, (omega arith, c.requires.1))
 
 pub returns-then-p : goal.returns-then-p
 returns-then-p c =
-    let at_loop = c in
-    let start = at_loop in
-    let a = start.args in
+    let a = c.args in
     let l = a.terms.now in
-    let k = at_loop.loop-t in
+    let k = c.loop-t in
     let f = offers (outside (signals_at a.n a.set.now)) (system (records l)) a.z.e in
     let here = at_record f l k.t (omega arith) ∙ sym c.nonsquare_of-p.ensures.told ∙ c.if-p.true in
     seeking_found f (record_at l k.t) k.invariant.1 (omega (arith, records_length l)) here ∙ found_unmet (signals_at a.n a.set.now) (records l) a.z.e
 
 pub loop-t-preserved : goal.loop-t-preserved
 loop-t-preserved c =
-    let at_loop = c in
-    let start = at_loop in
-    let a = start.args in
+    let a = c.args in
     let l = a.terms.now in
-    let k = at_loop.loop-t in
+    let k = c.loop-t in
     let f = offers (outside (signals_at a.n a.set.now)) (system (records l)) a.z.e in
     let not_here = at_record f l k.t (omega arith) ∙ sym c.nonsquare_of-p.ensures.told ∙ c.if-p.false in
     (k.invariant.0, seeking_on f (record_at l k.t) k.invariant.1 (omega (arith, records_length l)) not_here)

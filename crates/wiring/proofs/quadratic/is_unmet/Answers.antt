@@ -22,16 +22,14 @@ loop-j-init c =
 
 pub signal-requires : goal.signal-requires
 signal-requires c =
-    let s = c in
-    (s.requires.1.0, omega (arith, c.loop-j.invariant.within, signals_at_length s.args.n s.args.set.now s.requires.1.0))
+    (c.requires.1.0, omega (arith, c.loop-j.invariant.within, signals_at_length c.args.n c.args.set.now c.requires.1.0))
 
 pub has_nonsquare-requires : goal.has_nonsquare-requires
 has_nonsquare-requires c =
-    let s = c in
-    let v = signals_at s.args.n s.args.set.now in
+    let v = signals_at c.args.n c.args.set.now in
     let j = c.loop-j.j in
-    let fits = fitting_at set_exponent v (j - 1) (one width) s.requires.1.1.0 (omega (arith, c.loop-j.invariant.within)) in
-    (s.requires.0, (rw c.signal.ensures fits, s.requires.1.1.1))
+    let fits = fitting_at set_exponent v (j - 1) (one width) c.requires.1.1.0 (omega (arith, c.loop-j.invariant.within)) in
+    (c.requires.0, (rw c.signal.ensures fits, c.requires.1.1.1))
 
 pub returns-then-has_nonsquare : goal.returns-then-has_nonsquare
 returns-then-has_nonsquare c =

@@ -30,81 +30,58 @@ returns-then-power-lt1 c =
 
 pub image-m-requires : goal.image-m-requires
 image-m-requires c =
-    let s = c in
     let raised = c.power.ensures in
     let low = c.if-power-lt1.false in
-    (s.requires.0, (s.requires.1.0, (omega arith, at_most_weaken s.args.z.e (omega arith) s.requires.1.1.0)))
+    (c.requires.0, (c.requires.1.0, (omega arith, at_most_weaken c.args.z.e (omega arith) c.requires.1.1.0)))
 
 pub returns-then-is_square : goal.returns-then-is_square
 returns-then-is_square c =
-    let at_if1 = c in
-    let at_power = at_if1 in
-    let start = at_power in
-    let a = start.args in
+    let a = c.args in
     let l = a.terms.now in
-    let x = at_power.power in
+    let x = c.power in
     let m = c.image-m in
     offered_fails (outside (signals_at a.n a.set.now)) (system (records l)) a.z.e (record_at l a.t) x.result m.result.e
-    x.ensures at_if1.if-power-lt1.false m.ensures _ (ap not (sym c.is_square.ensures ∙ c.if-is_square.true)) refl
+    x.ensures c.if-power-lt1.false m.ensures _ (ap not (sym c.is_square.ensures ∙ c.if-is_square.true)) refl
 
 pub total-requires : goal.total-requires
 total-requires c =
-    let s = c in
-    (s.requires.0, s.requires.1.1.0)
+    (c.requires.0, c.requires.1.1.0)
 
 pub returns-then-is_zero : goal.returns-then-is_zero
 returns-then-is_zero c =
-    let at_if2 = c in
-    let at_is_square = at_if2 in
-    let at_image = at_is_square in
-    let at_if1 = at_image in
-    let at_power = at_if1 in
-    let start = at_power in
-    let a = start.args in
+    let a = c.args in
     let l = a.terms.now in
-    let x = at_power.power in
-    let m = at_image.image-m in
+    let x = c.power in
+    let m = c.image-m in
     let sum = c.total in
     let same_sum = to_z-of_z w32 sum.result (sfits_of sum.type_inv) in
     let zero = ap is_zero (sym sum.ensures ∙ sym same_sum) ∙ sym c.is_zero.ensures ∙ c.if-is_zero.true in
     offered_zero (outside (signals_at a.n a.set.now)) (system (records l)) a.z.e (record_at l a.t) x.result m.result.e
-    x.ensures at_if1.if-power-lt1.false m.ensures _
-    (ap not (sym at_is_square.is_square.ensures ∙ at_if2.if-is_square.false)) zero refl
+    x.ensures c.if-power-lt1.false m.ensures _
+    (ap not (sym c.is_square.ensures ∙ c.if-is_square.false)) zero refl
 
 pub returns-else-is_zero : goal.returns-else-is_zero
 returns-else-is_zero c =
-    let at_if2 = c in
-    let at_is_square = at_if2 in
-    let at_image = at_is_square in
-    let at_if1 = at_image in
-    let at_power = at_if1 in
-    let start = at_power in
-    let a = start.args in
+    let a = c.args in
     let l = a.terms.now in
-    let x = at_power.power in
-    let m = at_image.image-m in
+    let x = c.power in
+    let m = c.image-m in
     let sum = c.total in
     let same_sum = to_z-of_z w32 sum.result (sfits_of sum.type_inv) in
     let other = ap is_zero (sym sum.ensures ∙ sym same_sum) ∙ sym c.is_zero.ensures ∙ c.if-is_zero.false in
     offered_here (outside (signals_at a.n a.set.now)) (system (records l)) a.z.e (record_at l a.t) x.result m.result.e
-    x.ensures at_if1.if-power-lt1.false m.ensures _
-    (ap not (sym at_is_square.is_square.ensures ∙ at_if2.if-is_square.false)) other refl refl
+    x.ensures c.if-power-lt1.false m.ensures _
+    (ap not (sym c.is_square.ensures ∙ c.if-is_square.false)) other refl refl
 
 -- no total is 0, so none is summed
 pub returns-else-cancels : goal.returns-else-cancels
 returns-else-cancels c =
     let long : length c.args.z.e ≡ width = search rules in
-    let at_if2 = c in
-    let at_is_square = at_if2 in
-    let at_image = at_is_square in
-    let at_if1 = at_image in
-    let at_power = at_if1 in
-    let start = at_power in
-    let a = start.args in
+    let a = c.args in
     let l = a.terms.now in
-    let x = at_power.power in
-    let m = at_image.image-m in
-    let other = start.requires.1.1.1 c.if-cancels.false a.z.e a.t long (omega (arith, start.requires.1.0)) (omega (arith, x.ensures, at_if1.if-power-lt1.false)) in
+    let x = c.power in
+    let m = c.image-m in
+    let other = c.requires.1.1.1 c.if-cancels.false a.z.e a.t long (omega (arith, c.requires.1.0)) (omega (arith, x.ensures, c.if-power-lt1.false)) in
     offered_here (outside (signals_at a.n a.set.now)) (system (records l)) a.z.e (record_at l a.t) x.result m.result.e
-    x.ensures at_if1.if-power-lt1.false m.ensures _
-    (ap not (sym at_is_square.is_square.ensures ∙ at_if2.if-is_square.false)) (ap (λ (y : Mono). is_zero (coeff plain (derivative plain (system (records l)) a.z.e) y)) m.ensures ∙ other) refl refl
+    x.ensures c.if-power-lt1.false m.ensures _
+    (ap not (sym c.is_square.ensures ∙ c.if-is_square.false)) (ap (λ (y : Mono). is_zero (coeff plain (derivative plain (system (records l)) a.z.e) y)) m.ensures ∙ other) refl refl

@@ -9,17 +9,13 @@ loop-i-init c = neighbouring_start _ _ (omega arith)
 
 pub returns-then-not-before : goal.returns-then-not-before
 returns-then-not-before c =
-    let at_read = c in
-    let at_loop = at_read in
     let test = sym c.before-in-loop-i.ensures ∙ c.if-not-before.true in
-    neighbouring_fails at_loop.loop-i.invariant (omega arith) _ _ at_read.read.ensures c.read-in-loop-i.ensures test
+    neighbouring_fails c.loop-i.invariant (omega arith) _ _ c.read.ensures c.read-in-loop-i.ensures test
 
 pub loop-i-preserved : goal.loop-i-preserved
 loop-i-preserved c =
-    let at_read = c in
-    let at_loop = at_read in
     let test = sym c.before-in-loop-i.ensures ∙ c.if-not-before.false in
-    neighbouring_on at_loop.loop-i.invariant (omega arith) _ _ at_read.read.ensures c.read-in-loop-i.ensures test
+    neighbouring_on c.loop-i.invariant (omega arith) _ _ c.read.ensures c.read-in-loop-i.ensures test
 
 pub returns : goal.returns
 returns c = neighbouring_ends c.loop-i.invariant (omega arith)

@@ -12,19 +12,15 @@ loop-i-init c = seeking_start _ _
 
 pub returns-then-same : goal.returns-then-same
 returns-then-same c =
-    let at_loop = c in
-    let start = at_loop in
-    let f = same start.args.m.e in
+    let f = same c.args.m.e in
     let test = ap f (sym c.constant.ensures) ∙ sym c.same.ensures ∙ c.if-same.true in
-    seeking_found f (one width) at_loop.loop-i.invariant (omega (arith, vars_length width)) test
+    seeking_found f (one width) c.loop-i.invariant (omega (arith, vars_length width)) test
 
 pub loop-i-preserved : goal.loop-i-preserved
 loop-i-preserved c =
-    let at_loop = c in
-    let start = at_loop in
-    let f = same start.args.m.e in
+    let f = same c.args.m.e in
     let test = ap f (sym c.constant.ensures) ∙ sym c.same.ensures ∙ c.if-same.false in
-    seeking_on f (one width) at_loop.loop-i.invariant (omega (arith, vars_length width)) test
+    seeking_on f (one width) c.loop-i.invariant (omega (arith, vars_length width)) test
 
 pub returns : goal.returns
 returns c = seeking_ends _ c.loop-i.invariant (omega (arith, vars_length width))

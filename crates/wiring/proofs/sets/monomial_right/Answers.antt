@@ -11,15 +11,12 @@ returns-then-is_constant c =
 
 pub returns-then-not-exponents_right : goal.returns-then-not-exponents_right
 returns-then-not-exponents_right c =
-    let at_is_constant = c in
-    let a = at_is_constant.args in
-    let new = sym at_is_constant.is_constant.ensures ∙ c.if-is_constant.false in
+    let a = c.args in
+    let new = sym c.is_constant.ensures ∙ c.if-is_constant.false in
     exponents_refused a.panel a.m.e new (sym c.exponents_right.ensures ∙ c.if-not-exponents_right.true)
 
 pub returns : goal.returns
 returns c =
-    let at_exponents = c in
-    let at_is_constant = at_exponents in
-    let a = at_is_constant.args in
-    let new = sym at_is_constant.is_constant.ensures ∙ at_exponents.if-is_constant.false in
-    c.can_build.ensures ∙ may_decides a.panel a.m.e new (search rules) (sym at_exponents.exponents_right.ensures ∙ c.if-not-exponents_right.false)
+    let a = c.args in
+    let new = sym c.is_constant.ensures ∙ c.if-is_constant.false in
+    c.can_build.ensures ∙ may_decides a.panel a.m.e new (search rules) (sym c.exponents_right.ensures ∙ c.if-not-exponents_right.false)

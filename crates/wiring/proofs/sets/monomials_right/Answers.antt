@@ -12,23 +12,19 @@ loop-i-init c = checking_start _ _
 
 pub returns-then-not-monomial_right : goal.returns-then-not-monomial_right
 returns-then-not-monomial_right c =
-    let at_loop = c in
-    let start = at_loop in
-    let a = start.args in
-    let i = at_loop.loop-i.i in
+    let a = c.args in
+    let i = c.loop-i.i in
     let place = used_at a.s.now a.len (omega arith) i [] (omega arith) ∙ sym c.read.ensures in
     let test = ap (monomial_right a.panel) place ∙ sym c.monomial_right.ensures in
-    checking_fails _ [] at_loop.loop-i.invariant (omega (arith, used_length a.s.now a.len (omega arith))) (test ∙ c.if-not-monomial_right.true)
+    checking_fails _ [] c.loop-i.invariant (omega (arith, used_length a.s.now a.len (omega arith))) (test ∙ c.if-not-monomial_right.true)
 
 pub loop-i-preserved : goal.loop-i-preserved
 loop-i-preserved c =
-    let at_loop = c in
-    let start = at_loop in
-    let a = start.args in
-    let i = at_loop.loop-i.i in
+    let a = c.args in
+    let i = c.loop-i.i in
     let place = used_at a.s.now a.len (omega arith) i [] (omega arith) ∙ sym c.read.ensures in
     let test = ap (monomial_right a.panel) place ∙ sym c.monomial_right.ensures in
-    checking_on _ [] at_loop.loop-i.invariant (omega (arith, used_length a.s.now a.len (omega arith))) (test ∙ c.if-not-monomial_right.false)
+    checking_on _ [] c.loop-i.invariant (omega (arith, used_length a.s.now a.len (omega arith))) (test ∙ c.if-not-monomial_right.false)
 
 pub returns : goal.returns
 returns c =

@@ -10,30 +10,20 @@ returns-then-not-zero_from c =
 
 pub returns-then-not-ascends : goal.returns-then-not-ascends
 returns-then-not-ascends c =
-    let at_size_of = c in
-    let start = at_size_of in
-    let a = start.args in
-    refused_order a.panel a.s.now _ at_size_of.size_of-len.ensures.0 _ refl refl (sym c.ascends.ensures ∙ c.if-not-ascends.true)
+    let a = c.args in
+    refused_order a.panel a.s.now _ c.size_of-len.ensures.0 _ refl refl (sym c.ascends.ensures ∙ c.if-not-ascends.true)
 
 pub returns-then-not-monomials_right : goal.returns-then-not-monomials_right
 returns-then-not-monomials_right c =
-    let at_size_of = c in
-    let start = at_size_of in
-    let a = start.args in
-    let size = at_size_of.size_of-len.ensures.0 in
+    let a = c.args in
+    let size = c.size_of-len.ensures.0 in
     refused_monomial a.panel a.s.now _ size _ refl refl (sym c.monomials_right.ensures ∙ c.if-not-monomials_right.true)
 
 pub returns : goal.returns
 returns c =
-    let at_if2 = c in
-    let at_ascends = at_if2 in
-    let at_if1 = at_ascends in
-    let at_zero_from = at_if1 in
-    let at_size_of = at_zero_from in
-    let start = at_size_of in
-    let a = start.args in
-    let size = at_size_of.size_of-len.ensures in
-    let zeros = sym at_zero_from.zero_from.ensures ∙ at_if1.if-not-zero_from.false in
-    let order = sym at_ascends.ascends.ensures ∙ at_if2.if-not-ascends.false in
+    let a = c.args in
+    let size = c.size_of-len.ensures in
+    let zeros = sym c.zero_from.ensures ∙ c.if-not-zero_from.false in
+    let order = sym c.ascends.ensures ∙ c.if-not-ascends.false in
     let each = sym c.monomials_right.ensures ∙ c.if-not-monomials_right.false in
     accepted a.panel a.s.now _ size.0 zeros order each _ refl size.1 c.set_of.ensures.0 c.set_of.ensures.1

@@ -17,23 +17,19 @@ loop-i-init c = placing_start _ _
 pub returns-then-same : goal.returns-then-same
 unfolding size_of
 returns-then-same c =
-    let at_loop = c in
-    let start = at_loop in
-    let bytes = start.args.s.now in
-    let i = at_loop.loop-i.i in
+    let bytes = c.args.s.now in
+    let i = c.loop-i.i in
     let read = c.read.ensures in
     let here = ap (same (one width)) (places_at bytes i [] (omega arith) ∙ sym read) ∙ sym c.same.ensures ∙ c.if-same.true in
-    (placing_found _ [] at_loop.loop-i.invariant (omega (arith, places_length bytes)) here, omega arith)
+    (placing_found _ [] c.loop-i.invariant (omega (arith, places_length bytes)) here, omega arith)
 
 pub loop-i-preserved : goal.loop-i-preserved
 loop-i-preserved c =
-    let at_loop = c in
-    let start = at_loop in
-    let bytes = start.args.s.now in
-    let i = at_loop.loop-i.i in
+    let bytes = c.args.s.now in
+    let i = c.loop-i.i in
     let read = c.read.ensures in
     let here = ap (same (one width)) (places_at bytes i [] (omega arith) ∙ sym read) ∙ sym c.same.ensures ∙ c.if-same.false in
-    placing_on _ [] at_loop.loop-i.invariant (omega (arith, places_length bytes)) here
+    placing_on _ [] c.loop-i.invariant (omega (arith, places_length bytes)) here
 
 pub returns : goal.returns
 unfolding size_of

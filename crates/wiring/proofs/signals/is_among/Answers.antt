@@ -11,19 +11,15 @@ loop-i-init c = (refl, seeking_start _ _)
 
 pub returns-then-same : goal.returns-then-same
 returns-then-same c =
-    let at_loop = c in
-    let start = at_loop in
-    let a = start.args in
-    let k = at_loop.loop-i in
+    let a = c.args in
+    let k = c.loop-i in
     let here = ap (same a.m.e) (sym c.read.ensures) ∙ sym c.same.ensures ∙ c.if-same.true in
     tabled_found (same a.m.e) a.list.now k.invariant.1 (omega arith) here
 
 pub loop-i-preserved : goal.loop-i-preserved
 loop-i-preserved c =
-    let at_loop = c in
-    let start = at_loop in
-    let a = start.args in
-    let k = at_loop.loop-i in
+    let a = c.args in
+    let k = c.loop-i in
     let not_here = ap (same a.m.e) (sym c.read.ensures) ∙ sym c.same.ensures ∙ c.if-same.false in
     (k.invariant.0, tabled_on (same a.m.e) a.list.now k.invariant.1 (omega arith) not_here)
 

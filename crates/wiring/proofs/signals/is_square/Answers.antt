@@ -44,35 +44,31 @@ over-requires c = is→T _ (sym c.divides.ensures ∙ c.if-divides.true)
 
 pub returns-then-is_signal : goal.returns-then-is_signal
 returns-then-is_signal c =
-    let at_read = c in
-    let k = at_read.loop-i in
-    let start = at_read in
-    let a = start.args in
+    let k = c.loop-i in
+    let a = c.args in
     let s = tabled a.set.now in
     let f = leaves a.n s a.m.e in
     let l : length a.m.e ≡ width = search rules in
-    let not_low = sym at_read.is_low.ensures ∙ at_read.if-is_low.false in
+    let not_low = sym c.is_low.ensures ∙ c.if-is_low.false in
     let divided = sym c.divides.ensures ∙ c.if-divides.true in
     let quotient = c.over.ensures in
-    let here = ap f (sym at_read.read-z.ensures) ∙ leaves_says a.n s a.m.e _ _ _ divided quotient c.is_signal.ensures ∙ c.if-is_signal.true in
+    let here = ap f (sym c.read-z.ensures) ∙ leaves_says a.n s a.m.e _ _ _ divided quotient c.is_signal.ensures ∙ c.if-is_signal.true in
     let found : true ≡ any f s = tabled_last f a.set.now k.invariant (k.i - 1) (omega arith) here in
     found ∙ square_else a.n s a.m.e (tabled_wide a.set.now) l not_low
 
 pub loop-i-preserved : goal.loop-i-preserved
 loop-i-preserved c =
-    let at_read = c in
-    let k = at_read.loop-i in
-    let start = at_read in
-    let a = start.args in
+    let k = c.loop-i in
+    let a = c.args in
     let s = tabled a.set.now in
     let f = leaves a.n s a.m.e in
     let divided = c.divides.ensures in
-    let not_here : f at_read.read-z.result.e ≡ false =
+    let not_here : f c.read-z.result.e ≡ false =
     elim c.if-divides.branch [
       | then-divides+else-is_signal w ↦ leaves_says a.n s a.m.e _ _ _ (sym divided ∙ w.if-divides.true) w.over.ensures w.is_signal.ensures ∙ w.if-is_signal.false
       | else-divides w ↦ leaves_not a.n s a.m.e _ (sym divided ∙ w.if-divides.false)
     ] in
-    tabled_down f a.set.now k.invariant (k.i - 1) (omega arith) (ap f (sym at_read.read-z.ensures) ∙ not_here)
+    tabled_down f a.set.now k.invariant (k.i - 1) (omega arith) (ap f (sym c.read-z.ensures) ∙ not_here)
 
 pub returns : goal.returns
 returns c =

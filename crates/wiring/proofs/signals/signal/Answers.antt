@@ -11,18 +11,16 @@ use Rattle.wiring.proofs.signals.signal.Goals as goal
 
 pub returns-then-j-n : goal.returns-then-j-n
 returns-then-j-n c =
-    let start = c in
-    let a = start.args in
-    c.constant.ensures ∙ sym (signals_constant a.n (tabled a.set.now) a.j (one width) start.requires.0 (omega arith))
+    let a = c.args in
+    c.constant.ensures ∙ sym (signals_constant a.n (tabled a.set.now) a.j (one width) c.requires.0 (omega arith))
 
 -- beyond the constants, signal number n + 1 + k is monomial number k
 pub returns : goal.returns
 returns c =
-    let start = c in
-    let a = start.args in
+    let a = c.args in
     let k : ℕ = a.j - a.n - 1 in
     let number : a.n + 1 + k ≡ a.j = omega arith in
     c.read.ensures
     ∙ sym (tabled_at a.set.now k (one width) (omega arith))
-    ∙ sym (signals_new a.n (tabled a.set.now) k (one width) start.requires.0)
+    ∙ sym (signals_new a.n (tabled a.set.now) k (one width) c.requires.0)
     ∙ ap (λ (i : ℕ). get_or (signals_at a.n a.set.now) i (one width)) number

@@ -12,15 +12,13 @@ returns-then-not-term_right c =
 
 pub returns-then-repeats : goal.returns-then-repeats
 returns-then-repeats c =
-    let k = c in
     let right = sym c.term_right.ensures ∙ c.if-not-term_right.false in
-    records_repeated _ k.loop-t.invariant k.loop-t-test.true right (sym c.repeats.ensures ∙ c.if-repeats.true)
+    records_repeated _ c.loop-t.invariant c.loop-t-test.true right (sym c.repeats.ensures ∙ c.if-repeats.true)
 
 pub loop-t-preserved : goal.loop-t-preserved
 loop-t-preserved c =
-    let k = c in
     let right = sym c.term_right.ensures ∙ c.if-not-term_right.false in
-    records_on _ k.loop-t.invariant k.loop-t-test.true right (sym c.repeats.ensures ∙ c.if-repeats.false)
+    records_on _ c.loop-t.invariant c.loop-t-test.true right (sym c.repeats.ensures ∙ c.if-repeats.false)
 
 pub returns : goal.returns
 returns c = judging_ends c.loop-t.invariant (rw (records_length c.args.terms.now) c.loop-t-test.false)

@@ -23,42 +23,33 @@ returns-then-equation-lt1 c =
 
 pub returns-then-n-equation : goal.returns-then-n-equation
 returns-then-n-equation c =
-    let start = c in
-    let a = start.args in
+    let a = c.args in
     right_fails a.panel (record_at a.terms.now a.t) (λ f. omega (arith, f.high, c.wide-equation.ensures.0))
 
 pub returns-then-is_marked : goal.returns-then-is_marked
 returns-then-is_marked c =
-    let at_wide = c in
-    let a = at_wide.args in
+    let a = c.args in
     let r = record_at a.terms.now a.t in
-    let fed = number a.panel.marks _ r.equation at_wide.wide-equation.ensures.0 c.is_marked.ensures ∙ c.if-is_marked.true in
+    let fed = number a.panel.marks _ r.equation c.wide-equation.ensures.0 c.is_marked.ensures ∙ c.if-is_marked.true in
     right_fails a.panel r (λ f. is→n_t (marked a.panel.marks (r.equation - 1)) f.unfed (is→T (marked a.panel.marks (r.equation - 1)) fed))
 
 pub returns-then-terms-at-ne0 : goal.returns-then-terms-at-ne0
 returns-then-terms-at-ne0 c =
-    let start = c in
-    let a = start.args in
+    let a = c.args in
     right_fails a.panel (record_at a.terms.now a.t) (λ f. c.if-terms-at-ne0.true f.blank)
 
 pub returns-then-not-exponents_right : goal.returns-then-not-exponents_right
 returns-then-not-exponents_right c =
-    let start = c in
-    let a = start.args in
+    let a = c.args in
     let m = ap (exponents_right term_exponent a.panel.n) c.read.ensures in
     let no = sym m ∙ sym c.exponents_right.ensures ∙ c.if-not-exponents_right.true in
     right_fails a.panel (record_at a.terms.now a.t) (λ f. is→n_t (exponents_right term_exponent a.panel.n (record_at a.terms.now a.t).monomial) no f.exponents)
 
 pub returns : goal.returns
 returns c =
-    let at_exponents_right = c in
-    let at_read = at_exponents_right in
-    let k = at_read in
-    let at_marked = k in
-    let w = at_marked in
-    let a = w.args in
-    let yes = sym (ap (exponents_right term_exponent a.panel.n) at_read.read.ensures) ∙ sym
-    at_exponents_right.exponents_right.ensures ∙ c.if-not-exponents_right.false in
-    let unfed = number a.panel.marks _ (record_at a.terms.now a.t).equation w.wide-equation.ensures.0 at_marked.is_marked.ensures ∙ k.if-is_marked.false in
-    let whole = right_last a.panel (record_at a.terms.now a.t) _ w.wide-equation.ensures.0 at_marked.if-equation-lt1.false at_marked.if-n-equation.false unfed k.if-terms-at-ne0.false yes in
+    let a = c.args in
+    let yes = sym (ap (exponents_right term_exponent a.panel.n) c.read.ensures) ∙ sym
+    c.exponents_right.ensures ∙ c.if-not-exponents_right.false in
+    let unfed = number a.panel.marks _ (record_at a.terms.now a.t).equation c.wide-equation.ensures.0 c.is_marked.ensures ∙ c.if-is_marked.false in
+    let whole = right_last a.panel (record_at a.terms.now a.t) _ c.wide-equation.ensures.0 c.if-equation-lt1.false c.if-n-equation.false unfed c.if-terms-at-ne0.false yes in
     c.coefficient_right.ensures ∙ ap coefficient_right (to_z-of_z w32 _ (record { sfits = c.decode.type_inv }) ∙ c.decode.ensures) ∙ whole

@@ -15,8 +15,7 @@ returns-then-out-at c =
 
 pub returns : goal.returns
 returns c =
-    let s = c in
-    let a = s.args in
+    let a = c.args in
     let room : wire_bytes * a.at + wire_bytes ≤ length a.out.now = omega arith in
-    let same = to_z-of_z w32 a.c s.ranges.c in
+    let same = to_z-of_z w32 a.c c.ranges.c in
     λ done h. rw (c.put_record.ensures, same) (sheet_more done a.at a.out.now _ h room)

@@ -24,8 +24,7 @@ returns-then-not-p c =
 
 pub pair_of-pair-requires : goal.pair_of-pair-requires
 pair_of-pair-requires c =
-    let s = c in
-    (s.requires.1.1.0, s.requires.1.1.1.0)
+    (c.requires.1.1.0, c.requires.1.1.1.0)
 
 pub returns-then-pair : goal.returns-then-pair
 returns-then-pair c =

@@ -52,65 +52,61 @@ over-rest-requires c = is→T _ (sym c.divides.ensures ∙ c.if-divides.true)
 
 pub loop-b-init : goal.loop-b-init
 loop-b-init c =
-    let s = c in
-    let v = s.args.v in
+    let v = c.args.v in
     let k = c.found in
     let room : length v.m ≡ most_signals = search (rules, array_length) in
     let ha : k.a < v.len = omega arith in
-    let here = at v room s.requires.0 s.requires.1 k.a ha in
+    let here = at v room c.requires.0 c.requires.1 k.a ha in
     let divided = is→T _ (sym c.divides.ensures ∙ c.if-divides.true) in
     record {
       empty = k.invariant.0;
       long = k.invariant.1.0;
       below = ha;
       divided = rw here divided;
-      quotient = c.over-rest.ensures ∙ ap (quo s.args.m.e) (sym here);
+      quotient = c.over-rest.ensures ∙ ap (quo c.args.m.e) (sym here);
       outer = k.invariant.1.1;
-      inner = row_start (signals_of v) s.args.m.e k.a (within v room s.requires.0 s.requires.1 k.a ha) k.invariant.1.1;
+      inner = row_start (signals_of v) c.args.m.e k.a (within v room c.requires.0 c.requires.1 k.a ha) k.invariant.1.1;
     }
 
 pub loop-b-preserved : goal.loop-b-preserved
 loop-b-preserved c =
-    let s = c in
-    let v = s.args.v in
+    let v = c.args.v in
     let o = c.found in
     let k = c.loop-b in
     let room : length v.m ≡ most_signals = search (rules, array_length) in
     let hb : k.b < v.len = omega (arith, k.invariant.long) in
-    let in_b = within v room s.requires.0 s.requires.1 k.b hb in
-    let at_b = at v room s.requires.0 s.requires.1 k.b hb in
-    let long = alike v room s.requires.0 s.requires.1 o.a k.invariant.below (get_or (signals_of v) k.b []) (at_in (signals_of v) k.b [] in_b) in
-    let quotient = sym (beside_quotient (signals_of v) s.args.m.e (get_or (signals_of v) o.a []) (get_or (signals_of v) k.b []) long k.invariant.divided) in
+    let in_b = within v room c.requires.0 c.requires.1 k.b hb in
+    let at_b = at v room c.requires.0 c.requires.1 k.b hb in
+    let long = alike v room c.requires.0 c.requires.1 o.a k.invariant.below (get_or (signals_of v) k.b []) (at_in (signals_of v) k.b [] in_b) in
+    let quotient = sym (beside_quotient (signals_of v) c.args.m.e (get_or (signals_of v) o.a []) (get_or (signals_of v) k.b []) long k.invariant.divided) in
     let told = quotient ∙ ap₂ same at_b (sym k.invariant.quotient) ∙ sym c.same.ensures in
-    let inner = placing_on (beside (signals_of v) s.args.m.e (get_or (signals_of v) o.a [])) [] k.invariant.inner in_b (told ∙ c.if-same.false) in
+    let inner = placing_on (beside (signals_of v) c.args.m.e (get_or (signals_of v) o.a [])) [] k.invariant.inner in_b (told ∙ c.if-same.false) in
     record { empty = k.invariant.empty; long = k.invariant.long; below = k.invariant.below; divided = k.invariant.divided; quotient = k.invariant.quotient; outer = k.invariant.outer; inner = inner }
 
 pub found-preserved : goal.found-preserved
 found-preserved c =
-    let s = c in
-    let v = s.args.v in
+    let v = c.args.v in
     let o = c.found in
     let room : length v.m ≡ most_signals = search (rules, array_length) in
     let ha : o.a < v.len = omega arith in
-    let in_a = within v room s.requires.0 s.requires.1 o.a ha in
+    let in_a = within v room c.requires.0 c.requires.1 o.a ha in
     elim c.if-divides.branch [
       | then-divides+else-loop-b-test w ↦
           let k = w.loop-b in
-          let all = beyond v room s.requires.0 s.requires.1 k.b (omega (arith, k.invariant.long, w.loop-b-test.false)) in
-          (w.r-is ∙ k.invariant.empty, (o.invariant.1.0, row_ends (signals_of v) s.args.m.e o.a in_a o.invariant.1.1 k.b k.invariant.inner all))
+          let all = beyond v room c.requires.0 c.requires.1 k.b (omega (arith, k.invariant.long, w.loop-b-test.false)) in
+          (w.r-is ∙ k.invariant.empty, (o.invariant.1.0, row_ends (signals_of v) c.args.m.e o.a in_a o.invariant.1.1 k.b k.invariant.inner all))
       | else-divides w ↦
-          let no = ap (λ (x : Mono). divides x s.args.m.e) (at v room s.requires.0 s.requires.1 o.a ha) ∙ sym c.divides.ensures ∙ w.if-divides.false in
-          (w.r-is ∙ o.invariant.0, (o.invariant.1.0, row_skips (signals_of v) s.args.m.e o.a in_a o.invariant.1.1 (alike v room s.requires.0 s.requires.1 o.a ha) no))
+          let no = ap (λ (x : Mono). divides x c.args.m.e) (at v room c.requires.0 c.requires.1 o.a ha) ∙ sym c.divides.ensures ∙ w.if-divides.false in
+          (w.r-is ∙ o.invariant.0, (o.invariant.1.0, row_skips (signals_of v) c.args.m.e o.a in_a o.invariant.1.1 (alike v room c.requires.0 c.requires.1 o.a ha) no))
     ]
 
 pub returns-after-found : goal.returns-after-found
 returns-after-found c =
-    let s = c in
-    let v = s.args.v in
+    let v = c.args.v in
     let k = c.found in
     let room : length v.m ≡ most_signals = search (rules, array_length) in
     let ha : v.len ≤ k.a = omega arith in
-    let no = n_t→is (in_v2 plain (signals_of v) s.args.m.e) (pair_there (signals_of v) s.args.m.e k.a k.invariant.1.1 (beyond v room s.requires.0 s.requires.1 k.a ha)) in
+    let no = n_t→is (in_v2 plain (signals_of v) c.args.m.e) (pair_there (signals_of v) c.args.m.e k.a k.invariant.1.1 (beyond v room c.requires.0 c.requires.1 k.a ha)) in
     rw k.invariant.0 (record {
       told = sym no;
       first = λ e. absurd (subst T (sym e) tt);
@@ -121,26 +117,25 @@ returns-after-found c =
 
 pub returns-then-same : goal.returns-then-same
 returns-then-same c =
-    let s = c in
-    let v = s.args.v in
+    let v = c.args.v in
     let o = c.found in
     let k = c.loop-b in
     let room : length v.m ≡ most_signals = search (rules, array_length) in
     let hb : k.b < v.len = omega (arith, k.invariant.long) in
-    let in_b = within v room s.requires.0 s.requires.1 k.b hb in
-    let at_b = at v room s.requires.0 s.requires.1 k.b hb in
-    let long = alike v room s.requires.0 s.requires.1 o.a k.invariant.below (get_or (signals_of v) k.b []) (at_in (signals_of v) k.b [] in_b) in
-    let quotient = sym (beside_quotient (signals_of v) s.args.m.e (get_or (signals_of v) o.a []) (get_or (signals_of v) k.b []) long k.invariant.divided) in
+    let in_b = within v room c.requires.0 c.requires.1 k.b hb in
+    let at_b = at v room c.requires.0 c.requires.1 k.b hb in
+    let long = alike v room c.requires.0 c.requires.1 o.a k.invariant.below (get_or (signals_of v) k.b []) (at_in (signals_of v) k.b [] in_b) in
+    let quotient = sym (beside_quotient (signals_of v) c.args.m.e (get_or (signals_of v) o.a []) (get_or (signals_of v) k.b []) long k.invariant.divided) in
     let told = quotient ∙ ap₂ same at_b (sym k.invariant.quotient) ∙ sym c.same.ensures in
     let hit = told ∙ c.if-same.true in
-    let in_a = within v room s.requires.0 s.requires.1 o.a k.invariant.below in
-    let first = pair_first (signals_of v) s.args.m.e o.a in_a k.invariant.outer k.b in_b k.invariant.inner hit in
-    let second = pair_second (signals_of v) s.args.m.e o.a in_a k.invariant.outer k.b in_b k.invariant.inner hit in
-    let met = pair_in (signals_of v) s.args.m.e o.a in_a k.invariant.outer k.b in_b k.invariant.inner hit in
+    let in_a = within v room c.requires.0 c.requires.1 o.a k.invariant.below in
+    let first = pair_first (signals_of v) c.args.m.e o.a in_a k.invariant.outer k.b in_b k.invariant.inner hit in
+    let second = pair_second (signals_of v) c.args.m.e o.a in_a k.invariant.outer k.b in_b k.invariant.inner hit in
+    let met = pair_in (signals_of v) c.args.m.e o.a in_a k.invariant.outer k.b in_b k.invariant.inner hit in
     record {
-      told = sym (T→is (in_v2 plain (signals_of v) s.args.m.e) met);
+      told = sym (T→is (in_v2 plain (signals_of v) c.args.m.e) met);
       first = λ e. first;
       second = λ e. second;
-      a_small = small v room s.requires.0 s.requires.1 o.a k.invariant.below;
-      b_small = small v room s.requires.0 s.requires.1 k.b hb;
+      a_small = small v room c.requires.0 c.requires.1 o.a k.invariant.below;
+      b_small = small v room c.requires.0 c.requires.1 k.b hb;
     }

@@ -25,6 +25,5 @@ pub returns : goal.returns
 unfolding wire_record
 returns c =
     let p = pasting_end 0 c.loop-i.invariant.1 (omega arith) in
-    let s = c in
-    let word = c.bits_of-u.ensures.0 ∙ ap unsigned (to_z-of_z w32 s.args.c s.ranges.c) in
+    let word = c.bits_of-u.ensures.0 ∙ ap unsigned (to_z-of_z w32 c.args.c c.ranges.c) in
     rw word at p

@@ -17,18 +17,16 @@ use Rattle.wiring.proofs.wires.wire_row.Goals as goal
 
 pub loop-w-init : goal.loop-w-init
 loop-w-init c =
-    let s = c in
-    let v = s.args.v in
+    let v = c.args.v in
     let room : length v.m ≡ most_signals = search (rules, array_length) in
-    (sym (front_at v.len v.m s.args.left [] (omega arith) (omega arith)), rowing_start _ _ _ _ _ _ refl)
+    (sym (front_at v.len v.m c.args.left [] (omega arith) (omega arith)), rowing_start _ _ _ _ _ _ refl)
 
 pub lacks_pair-requires : goal.lacks_pair-requires
 lacks_pair-requires c =
-    let s = c in
-    let v = s.args.v in
+    let v = c.args.v in
     let room : length v.m ≡ most_signals = search (rules, array_length) in
-    let fits = entry_fits set_exponent v.len v.m s.args.left (omega arith) (omega arith) s.requires.1.1.1 in
-    (s.requires.0, (s.requires.1.0, (s.requires.1.1.1, fits)))
+    let fits = entry_fits set_exponent v.len v.m c.args.left (omega arith) (omega arith) c.requires.1.1.1 in
+    (c.requires.0, (c.requires.1.0, (c.requires.1.1.1, fits)))
 
 pub shape_of-out-then-lacks_pair : goal.shape_of-out-then-lacks_pair
 shape_of-out-then-lacks_pair c = c.loop-w.invariant.1.long
@@ -50,11 +48,10 @@ returns-then-not-w c =
 
 pub next_part-part-requires : goal.next_part-part-requires
 next_part-part-requires c =
-    let s = c in
-    let v = s.args.v in
+    let v = c.args.v in
     let room : length v.m ≡ most_signals = search (rules, array_length) in
-    let fits = entry_fits set_exponent v.len v.m s.args.left (omega arith) (omega arith) s.requires.1.1.1 in
-    (s.requires.0, fits)
+    let fits = entry_fits set_exponent v.len v.m c.args.left (omega arith) (omega arith) c.requires.1.1.1 in
+    (c.requires.0, fits)
 
 pub shape_of-out-then-not-last : goal.shape_of-out-then-not-last
 shape_of-out-then-not-last c = c.loop-w.invariant.1.long
@@ -67,8 +64,7 @@ returns-then-not-last c =
 
 pub pair_of-p-requires : goal.pair_of-p-requires
 pair_of-p-requires c =
-    let s = c in
-    (s.requires.1.0, s.requires.1.1.1)
+    (c.requires.1.0, c.requires.1.1.1)
 
 pub shape_of-out-then-not-p : goal.shape_of-out-then-not-p
 shape_of-out-then-not-p c = c.loop-w.invariant.1.long
@@ -84,10 +80,9 @@ returns-then-not-p c =
 
 pub enter-w-requires : goal.enter-w-requires
 enter-w-requires c =
-    let s = c in
     let pair = c.pair_of-p.ensures in
-    let few = s.requires.1.0 in
-    let left = s.requires.1.1.0 in
+    let few = c.requires.1.0 in
+    let left = c.requires.1.1.0 in
     (omega arith, (omega (arith, pair.a_small), omega (arith, pair.b_small)))
 
 pub loop-w-smaller : goal.loop-w-smaller
@@ -98,17 +93,16 @@ loop-w-smaller c =
 
 pub loop-w-preserved : goal.loop-w-preserved
 loop-w-preserved c =
-    let s = c in
-    let v = s.args.v in
+    let v = c.args.v in
     let room : length v.m ≡ most_signals = search (rules, array_length) in
     let k = c.loop-w in
     let part = c.next_part-part in
     let here = not-false _ c.if-not-last.false in
     let pair = c.pair_of-p.ensures in
     let found = not-false _ c.if-not-p.false in
-    let fits = s.requires.1.1.1 _ (at_in (signals_of v) s.args.left [] (omega (arith, front_length v.len v.m (omega arith)))) in
-    let total = total_held s.args.terms.now s.requires.0 _ part.result.pick.m.e (rw k.invariant.0 fits.0) (rw k.invariant.0 fits.1) _ (part.ensures.total_value here) in
-    let wire = wire_is (signals_of v) s.args.left _ part.result.pick.m.e _ _ _ (pair.first found) (pair.second found) total in
+    let fits = c.requires.1.1.1 _ (at_in (signals_of v) c.args.left [] (omega (arith, front_length v.len v.m (omega arith)))) in
+    let total = total_held c.args.terms.now c.requires.0 _ part.result.pick.m.e (rw k.invariant.0 fits.0) (rw k.invariant.0 fits.1) _ (part.ensures.total_value here) in
+    let wire = wire_is (signals_of v) c.args.left _ part.result.pick.m.e _ _ _ (pair.first found) (pair.second found) total in
     let ok = not-false _ c.if-not-w.false in
     let entered = c.enter-w in
     let more = rowing_more _ _ _ k.invariant.1 part.result.pick part.ensures.heads here in

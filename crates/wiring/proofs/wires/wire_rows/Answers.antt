@@ -19,24 +19,21 @@ use Rattle.wiring.proofs.wires.wire_rows.Goals as goal
 
 pub loop-left-init : goal.loop-left-init
 loop-left-init c =
-    let s = c in
-    (refl, (refl, listing_start (signals_of s.args.v) _ _ s.args.out.now s.requires.1.1.1))
+    (refl, (refl, listing_start (signals_of c.args.v) _ _ c.args.out.now c.requires.1.1.1))
 
 pub wire_row-requires : goal.wire_row-requires
 wire_row-requires c =
-    let s = c in
-    (s.requires.0, (s.requires.1.0, (omega arith, s.requires.1.1.0)))
+    (c.requires.0, (c.requires.1.0, (omega arith, c.requires.1.1.0)))
 
 pub shape_of-out-in_default : goal.shape_of-out-in_default
 shape_of-out-in_default c = c.wire_row.auto.out ∙ c.loop-left.invariant.1.0
 
 pub returns-in_default : goal.returns-in_default
 returns-in_default c =
-    let s = c in
-    let v = s.args.v in
+    let v = c.args.v in
     let room : length v.m ≡ most_signals = search (rules, array_length) in
     let k = c.loop-left in
-    let d = derivative plain (system (records s.args.terms.now)) in
+    let d = derivative plain (system (records c.args.terms.now)) in
     let w = c.wire_row in
     let out = w.new.out in
     let l = k.invariant.1.1 in
@@ -46,11 +43,10 @@ returns-in_default c =
 
 pub loop-left-preserved : goal.loop-left-preserved
 loop-left-preserved c =
-    let s = c in
-    let v = s.args.v in
+    let v = c.args.v in
     let room : length v.m ≡ most_signals = search (rules, array_length) in
     let k = c.loop-left in
-    let d = derivative plain (system (records s.args.terms.now)) in
+    let d = derivative plain (system (records c.args.terms.now)) in
     let w = c.wire_row in
     let out = w.new.out in
     let l = k.invariant.1.1 in
@@ -63,8 +59,7 @@ shape_of-out c = c.loop-left.invariant.1.0
 
 pub returns : goal.returns
 returns c =
-    let s = c in
-    let v = s.args.v in
+    let v = c.args.v in
     let room : length v.m ≡ most_signals = search (rules, array_length) in
     let k = c.loop-left in
     let all : length (signals_of v) ≤ k.left = omega (arith, front_length v.len v.m (omega arith)) in
