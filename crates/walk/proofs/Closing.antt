@@ -119,7 +119,7 @@ module _ (r : Rules) (o : Orderly r) (n : ℕ) (terms : List ℕ) (clean : Clean
           let h : k < length r.start = leb-false (length r.start) k e in
           rw (level_shut r n fs k h, level_shut (unclosed r) n fs k h) no_steps
 
--- so plans end alike, in no more steps (`plan-alike`, `done-back`, `none-back`)
+-- so plans end alike, in no more steps (`plan_alike`, `done_back`, `none_back`)
 pub closing_alike : (r : Rules) → Orderly r → (n : ℕ) (terms : List ℕ) → CleanTerms terms → Sparing r n (system (records terms)) → Walked r.start
     → (cap : ℕ) → cap ≤ cards → Alike (unclosed r) r n (system (records terms)) cap
 closing_alike r o n terms clean spares w cap low =

@@ -1,7 +1,7 @@
 -- What a plan of clean records says of quadratic sets, over Definition 1 itself and by any rules: of the lists of monomials of any powers, in any
 -- order and with repeats, that hold the start and besides only what may be (`Counts`), no quadratic one has fewer members than the level reached;
--- done lists every quadratic set of that size and no other. By document 01's rules every list counts (`bare-extends`),
--- by those of a kit every one that it can build (`buildable-counts`). Assumes nothing.
+-- done lists every quadratic set of that size and no other. By document 01's rules every list counts (`bare_extends`),
+-- by those of a kit every one that it can build (`buildable_counts`). Assumes nothing.
 use mathlib.Core.Path.{◌≡◌, refl, sym, subst}
 use mathlib.Core.List.Memᴰ
 use mathlib.Core.List.{List, [], ◌∷◌}

@@ -60,7 +60,7 @@ counted r = record { may = r.may; closed = closes r.may; tries = r.tries; start 
 abbrev pub rules_of : Panel → Rules
 rules_of panel = counted (cheaply (allowing (may_be panel)))
 
--- as the code asks: by what the kit can build, of any powers with the full one. The walk is the same, step by step (`kit-level`)
+-- as the code asks: by what the kit can build, of any powers with the full one. The walk is the same, step by step (`kit_level`)
 abbrev pub kit_rules : Panel → Rules
 kit_rules panel = counted (cheaply (allowing (can_build panel)))
 

@@ -169,7 +169,7 @@ abbrev pub LeftLinked : ℕ → List (Poly Mono) → List Mono → Type 0
 LeftLinked marks fs v = (z : Mono) → z ∈ v → T (free marks z) → Linked plain v (derivative plain fs z)
 
 -- the derivative of what has one: 1, the variables that have an equation, and the monomials in these. Of what holds a signal nothing is asked, so
--- that Definition 1 by this derivation is `LeftLinked` (`over-the-left`)
+-- that Definition 1 by this derivation is `LeftLinked` (`over_the_left`)
 unfoldable pub slope : ℕ → List (Poly Mono) → Mono → Poly Mono
 slope marks fs z = cond (free marks z) (derivative plain fs z) []
 

@@ -42,6 +42,6 @@ unfoldable pub may_be : Panel → Mono → Bool
 may_be panel m = free panel.marks m && leb (degree m) panel.degree
 
 -- what the kit can build, as the code asks for it: the same, but that with the full kit the degree has no say. Of a monomial that a set record can hold
--- both say the same (`may-can`)
+-- both say the same (`may_can`)
 unfoldable pub can_build : Panel → Mono → Bool
 can_build panel m = free panel.marks m && (leb full_degree panel.degree || leb (degree m) panel.degree)

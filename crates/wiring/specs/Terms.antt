@@ -71,7 +71,7 @@ abbrev pub CleanTerms : List ℕ → Type 0
 CleanTerms = CleanFor width
 
 -- the terms of equation number i, from 0, in the records' order; an equation without records is zero. A signal has no records, and no reply
--- depends on the zero that stands for its derivative here (`slope-is`, `verdict-driven`)
+-- depends on the zero that stands for its derivative here (`slope_is`, `verdict_driven`)
 unfoldable pub equation : List Record → ℕ → Poly Mono
 equation rs i = map (λ r. (r.coefficient, r.monomial)) (keep (λ r. eqb r.equation (suc i)) rs)
 

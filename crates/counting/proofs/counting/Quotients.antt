@@ -1,4 +1,4 @@
--- The quotients that occur so often, each counted where it is first met, are all that occur so often (`news-frequent`). V has no member twice: so a
+-- The quotients that occur so often, each counted where it is first met, are all that occur so often (`news_frequent`). V has no member twice: so a
 -- monomial has no quotient twice, and a quotient occurs as often as it has multiples. Assumes nothing.
 use mathlib.Core.Path.{◌≡◌, refl, sym, ap, ap₂, ◌∙◌, subst}
 use mathlib.Core.Logic.{◌⊎◌, inl, inr, ⊎_elim}

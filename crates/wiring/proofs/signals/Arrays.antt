@@ -14,7 +14,7 @@ use Rattle.monomial.proofs.Counting.{at_in}
 use Rattle.wiring.specs.Signals.{front, Fitting}
 
 -- ---- an array and its first places
--- what owning an array of monomials tells of its length: `search (needs, array-length)`
+-- what owning an array of monomials tells of its length: `search (rules, array_length)`
 pub array_length : (l : List Monomial) (n : ℕ) → length (map (Rattle.monomial.specs.contracts.Monomial.the_field).into l) ≡ n → length l ≡ n
 array_length l n p = sym (length-map l (Rattle.monomial.specs.contracts.Monomial.the_field).into) ∙ p
 

@@ -1,4 +1,4 @@
--- `read` meets its contract: settings that are right have a room that the buffer has (`asked-roomy`). Assumes nothing.
+-- `read` meets its contract: settings that are right have a room that the buffer has (`asked_roomy`). Assumes nothing.
 use Rattle.asked.proofs.settings.Laws.{asked_roomy, thin_roomy, wire_roomy}
 use Rattle.asked.proofs.settings.read.Goals as goal
 

@@ -1,4 +1,4 @@
--- `frequent` meets its contract: one monomial of the list after the other (`Finding`), which comes to all quotients (`news-frequent`).
+-- `frequent` meets its contract: one monomial of the list after the other (`Finding`), which comes to all quotients (`news_frequent`).
 -- Assumes nothing.
 use mathlib.Core.Path.{◌≡◌}
 use Prim.Native.Nat.{◌-◌, ◌/◌}

@@ -1,4 +1,4 @@
--- `is_multiple` meets its contract: a multiple is divided by its factor (`share-quotient`). Assumes nothing.
+-- `is_multiple` meets its contract: a multiple is divided by its factor (`share_quotient`). Assumes nothing.
 use mathlib.Core.Path.{◌≡◌, sym, ap, ◌∙◌}
 use lib.ListN.{length}
 use Rattle.monomial.specs.Lists.{any}

@@ -1,4 +1,4 @@
--- `is_cheap` meets its contract: the two cases of `cheap-held`. Assumes nothing.
+-- `is_cheap` meets its contract: the two cases of `cheap_held`. Assumes nothing.
 use mathlib.Core.Path.{sym, ap, ◌∙◌}
 use mathlib.Core.Bool.{Bool, cond, not}
 use Rattle.lister.proofs.cheap.Laws.{cheap_held}

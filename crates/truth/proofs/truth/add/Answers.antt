@@ -1,4 +1,4 @@
--- `add` meets its contract: one cell changes, by the term's coefficient (`summed-next`). Assumes nothing.
+-- `add` meets its contract: one cell changes, by the term's coefficient (`summed_next`). Assumes nothing.
 use mathlib.Core.Path.{◌≡◌, ap, ◌∙◌}
 use native.Mathlib.Omega.{arith}
 use borrow.Author.Rules.{rules}

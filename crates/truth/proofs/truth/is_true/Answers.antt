@@ -1,4 +1,4 @@
--- `is_true` meets its contract: the loop tests row after row (`Rows`), and what no row has is asked last (`decided-end`). Assumes nothing.
+-- `is_true` meets its contract: the loop tests row after row (`Rows`), and what no row has is asked last (`decided_end`). Assumes nothing.
 use mathlib.Core.Path.{◌≡◌, refl}
 use Prim.Native.Nat.{◌<◌, ◌≤◌}
 use native.Mathlib.Omega.{arith}

@@ -1,4 +1,4 @@
--- `is_signal` meets its contract: a member of V is low or new (`signal-low`, `signal-else`). Assumes nothing.
+-- `is_signal` meets its contract: a member of V is low or new (`signal_low`, `signal_else`). Assumes nothing.
 use mathlib.Core.Path.{◌≡◌, sym, ◌∙◌}
 use lib.ListN.{length}
 use Rattle.monomial.specs.Monomial.{width}

@@ -1,4 +1,4 @@
--- `is_square` meets its contract: m is low, or a new factor leaves it a member of V (`square-low`, `square-else`); the loop goes through the new ones from the last
+-- `is_square` meets its contract: m is low, or a new factor leaves it a member of V (`square_low`, `square_else`); the loop goes through the new ones from the last
 -- down (`SeekingDown`). Assumes nothing.
 use Rattle.monomial.proofs.Loops.{SeekingDown}
 use Rattle.wiring.specs.Signals.{tabled}
