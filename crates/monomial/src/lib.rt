@@ -17,7 +17,7 @@ ghost use Rattle.monomial.specs.Monomial.{one, constants, width};
 
 use width::WIDTH;
 
-#[derive(Clone, Copy)]
+#[derive(Clone, Copy, PartialEq, Eq)]
 pub struct Monomial {
     pub e: [u8; WIDTH],
 }

@@ -1,42 +1,35 @@
 // Equality and the order of monomials.
 ghost use Rattle.std.specs.Prelude.{◌≡◌};
+ghost use Rattle.std.specs.Cmp.{on_po, unsigned_po};
+ghost use Rattle.std.specs.Cmp.Lexicographic.{slice_partial_cmp, lists_po};
+ghost use Rattle.std.specs.Ordering.{nat_cmp, on, as_partial_cmp};
 ghost use Rattle.monomial.specs.Order.{same, before};
 
 use super::Monomial;
-use super::width::WIDTH;
+use std::cmp::Ordering;
+
+// The order of the exponents. The derived `<` was tried: it turns over what the exponents gave once more, and takes half as long again.
+impl PartialOrd for Monomial {
+    ghost partial_cmp = { on (λ m. m.e) (slice_partial_cmp (as_partial_cmp nat_cmp)) };
+
+    ghost laws = { on_po (λ m. m.e) (lists_po unsigned_po) };
+
+    fn partial_cmp(&self, other: &Monomial) -> Option<Ordering> {
+        self.e.partial_cmp(&other.e)
+    }
+}
 
 impl Monomial {
     pub fn same(self, other: Monomial) -> bool
         ensures { result ≡ same self.e other.e }
     {
-        let a = self.e;
-        let b = other.e;
-        let mut i: usize = 0;
-        while i < WIDTH {
-            if a[i] != b[i] {
-                return false;
-            }
-            i += 1;
-        }
-        true
+        self == other
     }
 
     // Whether self stands before other: at the first exponent that differs it has the smaller one.
     pub fn before(self, other: Monomial) -> bool
         ensures { result ≡ before self.e other.e }
     {
-        let a = self.e;
-        let b = other.e;
-        let mut i: usize = 0;
-        while i < WIDTH {
-            if a[i] < b[i] {
-                return true;
-            }
-            if b[i] < a[i] {
-                return false;
-            }
-            i += 1;
-        }
-        false
+        self < other
     }
 }
