@@ -8,11 +8,5 @@ use super::panel::{FULL_DEGREE, JUNIOR_LEAST, JUNIOR_MOST};
 pub(crate) fn degree_right(d: u64) -> bool
     ensures { result ≡ degree_right d }
 {
-    if d == FULL_DEGREE {
-        return true;
-    }
-    if d < JUNIOR_LEAST {
-        return false;
-    }
-    d <= JUNIOR_MOST
+    d == FULL_DEGREE || (JUNIOR_LEAST..=JUNIOR_MOST).contains(&d)
 }
