@@ -11,6 +11,7 @@ pub fn decode(b: &[u8], at: usize) -> i32
 }
 
 // Whether a number is 0.
+#[tactic(auto, unfolding(crate::specs::Coefficient::is_zero))]
 pub(crate) fn is_zero(c: i32) -> bool
     ensures { result ≡ is_zero c }
 {

@@ -35,26 +35,21 @@ impl Set {
 fn is_constant(m: Monomial) -> bool
     ensures { result ≡ any (same m.e) (constants width) }
 {
-    let mut i: usize = 0;
-    while i < CONSTANTS {
+    for i in 0..CONSTANTS {
         if m.same(Monomial::constant(i)) {
             return true;
         }
-        i += 1;
     }
     false
 }
 
+#[tactic(auto, unfolding(crate::specs::Sets::monomial_right))]
 pub fn monomial_right(panel: Panel, m: Monomial) -> bool
     ensures { result ≡ monomial_right panel m.e }
 {
-    if is_constant(m) {
-        return false;
-    }
-    if !terms::exponents_right(SET_EXPONENT, panel.n, m) {
-        return false;
-    }
-    sockets::can_build(panel, m)
+    !is_constant(m)
+        && terms::exponents_right(SET_EXPONENT, panel.n, m)
+        && sockets::can_build(panel, m)
 }
 
 // How many places of a record are used: up to the first that is all zero.
@@ -62,14 +57,12 @@ fn size_of(s: &[u8]) -> usize
     requires { length s.now ≡ set_bytes }
     ensures { (result ≡ size_of s.now) × (result ≤ cards) }
 {
-    let mut i: usize = 0;
-    while i < CARDS {
+    for i in 0..CARDS {
         if Monomial::ONE.same(Monomial::read(s, WIDTH * i)) {
             return i;
         }
-        i += 1;
     }
-    i
+    CARDS
 }
 
 // Whether the bytes from at on are all zero.
@@ -77,14 +70,7 @@ fn zero_from(s: &[u8], at: usize) -> bool
     requires { at ≤ length s.now }
     ensures { result ≡ all (eqb 0) (drop at s.now) }
 {
-    let mut i = at;
-    while i < s.len() {
-        if s[i] != 0 {
-            return false;
-        }
-        i += 1;
-    }
-    true
+    s[at..].iter().all(|&x| x == 0)
 }
 
 // Whether the first len places ascend strictly: each stands before the next.
@@ -92,12 +78,10 @@ fn ascends(s: &[u8], len: usize) -> bool
     requires { (length s.now ≡ set_bytes) × (len ≤ cards) }
     ensures { result ≡ ascending (take len (places s.now)) }
 {
-    let mut i: usize = 1;
-    while i < len {
+    for i in 1..len {
         if !Monomial::read(s, WIDTH * i - WIDTH).before(Monomial::read(s, WIDTH * i)) {
             return false;
         }
-        i += 1;
     }
     true
 }
@@ -107,12 +91,10 @@ fn monomials_right(panel: Panel, s: &[u8], len: usize) -> bool
     requires { (length s.now ≡ set_bytes) × (len ≤ cards) }
     ensures { result ≡ all (monomial_right panel) (take len (places s.now)) }
 {
-    let mut i: usize = 0;
-    while i < len {
+    for i in 0..len {
         if !monomial_right(panel, Monomial::read(s, WIDTH * i)) {
             return false;
         }
-        i += 1;
     }
     true
 }
@@ -123,10 +105,8 @@ fn set_of(s: &[u8], len: usize) -> Set
     ensures { (monomials_of result ≡ take len (places s.now)) × (result.len ≡ len) }
 {
     let mut m = [Monomial::ONE; CARDS];
-    let mut i: usize = 0;
-    while i < len {
+    for i in 0..len {
         m[i] = Monomial::read(s, WIDTH * i);
-        i += 1;
     }
     Set { m, len }
 }

@@ -1,10 +1,9 @@
 -- `coefficient::decode` meets its contract: the four bytes as one word, and its two's complement. Assumes nothing.
-use mathlib.Core.Path.{◌≡◌, ap, ◌∙◌}
-use Prim.Native.Nat.{ℕ}
+use mathlib.Core.Path.{ap, ◌∙◌}
 use native.Mathlib.Omega.{arith}
 use mir.Syntax.{w32}
 use mir.ValLaws.{to_z-of_z}
-use Rattle.wiring.specs.Coefficient.{word, signed}
+use Rattle.wiring.specs.Coefficient.{signed}
 use Rattle.wiring.proofs.coefficient.Laws.{signed_is}
 use Rattle.wiring.proofs.coefficient.decode.Goals as goal
 

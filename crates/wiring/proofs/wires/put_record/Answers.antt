@@ -1,5 +1,5 @@
 -- `put_record` meets its contract: the eight bytes are the record's. Assumes nothing.
-use mathlib.Core.Path.{◌≡◌, ap, ◌∙◌}
+use mathlib.Core.Path.{ap, ◌∙◌}
 use mir.Syntax.{w32}
 use mir.Val.{of_z}
 use mir.ValLaws.{to_z-of_z}
