@@ -184,22 +184,13 @@ module _ {bytes : List ℕ} {len i : ℕ} (c : Neighbouring bytes len i) where
   pub neighbouring_ends : len ≤ i → true ≡ ascending (take len (places bytes))
   neighbouring_ends h = climbing_ends c.climbing (omega (arith, used_length bytes len c.few))
 
--- ---- a monomial of a record: the tests in their order
-module _ (panel : Panel) (m : Mono) where
-  pub named_refused : any (same m) (constants width) ≡ true → false ≡ monomial_right panel m
+-- ---- a monomial of a record: what passes the first two tests is judged by the third
+module _ (panel : Panel) (m : Mono) (new : any (same m) (constants width) ≡ false) where
+  pub may_decides : length m ≡ width → exponents_right set_exponent panel.n m ≡ true → can_build panel m ≡ monomial_right panel m
   unfolding monomial_right
-  named_refused e = rw e
-
-  module _ (new : any (same m) (constants width) ≡ false) where
-    pub exponents_refused : exponents_right set_exponent panel.n m ≡ false → false ≡ monomial_right panel m
-    unfolding monomial_right
-    exponents_refused e = rw (new, e)
-
-    pub may_decides : length m ≡ width → exponents_right set_exponent panel.n m ≡ true → can_build panel m ≡ monomial_right panel m
-    unfolding monomial_right
-    may_decides long e =
-        let fits = exponents_everywhere set_exponent panel.n m (is→T (exponents_right set_exponent panel.n m) e) in
-        rw (new, e) (sym (may_can panel m (omega arith) (at_most_all set_exponent m (λ i. (fits i).small))))
+  may_decides long e =
+      let fits = exponents_everywhere set_exponent panel.n m (is→T (exponents_right set_exponent panel.n m) e) in
+      rw (new, e) (sym (may_can panel m (omega arith) (at_most_all set_exponent m (λ i. (fits i).small))))
 
 -- ---- reading a record whose size is known: each test that fails refuses it, and one that passes all three holds its set
 module _ (panel : Panel) (bytes : List ℕ) (len : ℕ) (e : len ≡ size_of bytes) where
