@@ -3,10 +3,10 @@ ghost use Rattle.std.specs.Prelude.{◌≡◌, true, ◌*◌, ◌≤◌, ◌<◌
 ghost use Rattle.monomial.specs.Lists.{any, all};
 ghost use Rattle.monomial.specs.Monomial.{constants, width};
 ghost use Rattle.monomial.specs.Order.{same};
-ghost use Rattle.wiring.specs.Panel.{cards, set_bytes};
+ghost use Rattle.wiring.specs.Panel.{cards};
 ghost use Rattle.wiring.specs.Sets.{places, size_of, ascending, monomial_right, monomials_of, SetReads};
 
-use super::panel::{CARDS, Panel, SET_EXPONENT};
+use super::panel::{CARDS, Panel, SET_BYTES, SET_EXPONENT};
 use super::{sockets, terms};
 use monomial::Monomial;
 use monomial::width::{CONSTANTS, WIDTH};
@@ -53,8 +53,7 @@ pub fn monomial_right(panel: Panel, m: Monomial) -> bool
 }
 
 // How many places of a record are used: up to the first that is all zero.
-fn size_of(s: &[u8]) -> usize
-    requires { length s.now ≡ set_bytes }
+fn size_of(s: &[u8; SET_BYTES]) -> usize
     ensures { (result ≡ size_of s.now) × (result ≤ cards) }
 {
     for i in 0..CARDS {
@@ -74,8 +73,8 @@ fn zero_from(s: &[u8], at: usize) -> bool
 }
 
 // Whether the first len places ascend strictly: each stands before the next.
-fn ascends(s: &[u8], len: usize) -> bool
-    requires { (length s.now ≡ set_bytes) × (len ≤ cards) }
+fn ascends(s: &[u8; SET_BYTES], len: usize) -> bool
+    requires { len ≤ cards }
     ensures { result ≡ ascending (take len (places s.now)) }
 {
     for i in 1..len {
@@ -87,8 +86,8 @@ fn ascends(s: &[u8], len: usize) -> bool
 }
 
 // Whether the first len places hold monomials that a set may have.
-fn monomials_right(panel: Panel, s: &[u8], len: usize) -> bool
-    requires { (length s.now ≡ set_bytes) × (len ≤ cards) }
+fn monomials_right(panel: Panel, s: &[u8; SET_BYTES], len: usize) -> bool
+    requires { len ≤ cards }
     ensures { result ≡ all (monomial_right panel) (take len (places s.now)) }
 {
     for i in 0..len {
@@ -100,8 +99,8 @@ fn monomials_right(panel: Panel, s: &[u8], len: usize) -> bool
 }
 
 // The first len places as a set.
-fn set_of(s: &[u8], len: usize) -> Set
-    requires { (length s.now ≡ set_bytes) × (len ≤ cards) }
+fn set_of(s: &[u8; SET_BYTES], len: usize) -> Set
+    requires { len ≤ cards }
     ensures { (monomials_of result ≡ take len (places s.now)) × (result.len ≡ len) }
 {
     let mut m = [Monomial::ONE; CARDS];
@@ -112,8 +111,7 @@ fn set_of(s: &[u8], len: usize) -> Set
 }
 
 // Reads a set record.
-pub(crate) fn read_set(panel: Panel, s: &[u8]) -> SetRead
-    requires { length s.now ≡ set_bytes }
+pub(crate) fn read_set(panel: Panel, s: &[u8; SET_BYTES]) -> SetRead
     ensures { SetReads panel s.now result }
 {
     let len = size_of(s);
