@@ -33,8 +33,7 @@ fn refused(said: Reply) -> Given
 }
 
 // Once the rest is in order, the record decides.
-fn read_given(panel: Panel, set: &[u8]) -> Given
-    requires { length set.now ≡ set_bytes }
+fn read_given(panel: Panel, set: &[u8; SET_BYTES]) -> Given
     ensures { Reads panel set.now result }
 {
     let read = sets::read_set(panel, set);
@@ -56,16 +55,16 @@ pub fn accept(n: u64, marks: u64, degree: u64, terms: &[u8], set: &[u8]) -> Give
     if !terms::length_right(terms) {
         return refused(Reply::Length);
     }
-    if set.len() != SET_BYTES {
+    let Some(record) = set.as_array() else {
         return refused(Reply::Length);
-    }
+    };
     let panel = Panel {
         n: n as usize,
         marks,
         degree,
     };
     match terms::fault_of(panel, terms) {
-        Fault::Clean => read_given(panel, set),
+        Fault::Clean => read_given(panel, record),
         Fault::Wrong(place) => refused(Reply::Term { place }),
         Fault::Repeated(place) => refused(Reply::Twice { place }),
     }

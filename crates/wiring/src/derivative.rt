@@ -15,7 +15,7 @@ pub(crate) fn power(terms: &[u8], t: usize, z: Monomial) -> u8
     requires { CleanTerms terms.now × (term_bytes * t + term_bytes ≤ length terms.now) }
     ensures { result ≡ power (record_at terms.now t) z.e }
 {
-    let i = terms::wide(terms[TERM_BYTES * t]) - 1;
+    let i = usize::from(terms[TERM_BYTES * t]) - 1;
     let e = z.e;
     e[i]
 }
@@ -25,7 +25,7 @@ pub(crate) fn image(terms: &[u8], t: usize, z: Monomial) -> Monomial
     requires { CleanTerms terms.now × ((term_bytes * t + term_bytes ≤ length terms.now) × ((0 < power (record_at terms.now t) z.e) × AtMost 200 z.e)) }
     ensures { result.e ≡ image (record_at terms.now t) z.e }
 {
-    let i = terms::wide(terms[TERM_BYTES * t]) - 1;
+    let i = usize::from(terms[TERM_BYTES * t]) - 1;
     let mut e = z.e;
     e[i] = e[i] - 1;
     Monomial::of(e).times(Monomial::read(terms, TERM_BYTES * t + MONOMIAL_AT))
@@ -56,8 +56,8 @@ fn crosses(terms: &[u8], t: usize, u: usize) -> bool
     requires { CleanTerms terms.now × ((term_bytes * t + term_bytes ≤ length terms.now) × (term_bytes * u + term_bytes ≤ length terms.now)) }
     ensures { result ≡ crosses (record_at terms.now t) (record_at terms.now u) }
 {
-    let a = terms::wide(terms[TERM_BYTES * t]);
-    let b = terms::wide(terms[TERM_BYTES * u]);
+    let a = usize::from(terms[TERM_BYTES * t]);
+    let b = usize::from(terms[TERM_BYTES * u]);
     if a == b {
         return false;
     }

@@ -5,14 +5,9 @@ ghost use Rattle.wiring.specs.Kit.{degree_right};
 use super::panel::{FULL_DEGREE, JUNIOR_LEAST, JUNIOR_MOST};
 
 // Whether the limit is the full kit's, or one that a junior kit is printed with.
+#[tactic(auto, unfolding(crate::specs::Kit::degree_right))]
 pub(crate) fn degree_right(d: u64) -> bool
     ensures { result ≡ degree_right d }
 {
-    if d == FULL_DEGREE {
-        return true;
-    }
-    if d < JUNIOR_LEAST {
-        return false;
-    }
-    d <= JUNIOR_MOST
+    d == FULL_DEGREE || (JUNIOR_LEAST..=JUNIOR_MOST).contains(&d)
 }

@@ -3,10 +3,10 @@ ghost use Rattle.std.specs.Prelude.{◌≡◌, true, ◌*◌, ◌≤◌, ◌<◌
 ghost use Rattle.monomial.specs.Lists.{any, all};
 ghost use Rattle.monomial.specs.Monomial.{constants, width};
 ghost use Rattle.monomial.specs.Order.{same};
-ghost use Rattle.wiring.specs.Panel.{cards, set_bytes};
+ghost use Rattle.wiring.specs.Panel.{cards};
 ghost use Rattle.wiring.specs.Sets.{places, size_of, ascending, monomial_right, monomials_of, SetReads};
 
-use super::panel::{CARDS, Panel, SET_EXPONENT};
+use super::panel::{CARDS, Panel, SET_BYTES, SET_EXPONENT};
 use super::{sockets, terms};
 use monomial::Monomial;
 use monomial::width::{CONSTANTS, WIDTH};
@@ -35,41 +35,33 @@ impl Set {
 fn is_constant(m: Monomial) -> bool
     ensures { result ≡ any (same m.e) (constants width) }
 {
-    let mut i: usize = 0;
-    while i < CONSTANTS {
+    for i in 0..CONSTANTS {
         if m.same(Monomial::constant(i)) {
             return true;
         }
-        i += 1;
     }
     false
 }
 
+#[tactic(auto, unfolding(crate::specs::Sets::monomial_right))]
 pub fn monomial_right(panel: Panel, m: Monomial) -> bool
     ensures { result ≡ monomial_right panel m.e }
 {
-    if is_constant(m) {
-        return false;
-    }
-    if !terms::exponents_right(SET_EXPONENT, panel.n, m) {
-        return false;
-    }
-    sockets::can_build(panel, m)
+    !is_constant(m)
+        && terms::exponents_right(SET_EXPONENT, panel.n, m)
+        && sockets::can_build(panel, m)
 }
 
 // How many places of a record are used: up to the first that is all zero.
-fn size_of(s: &[u8]) -> usize
-    requires { length s.now ≡ set_bytes }
+fn size_of(s: &[u8; SET_BYTES]) -> usize
     ensures { (result ≡ size_of s.now) × (result ≤ cards) }
 {
-    let mut i: usize = 0;
-    while i < CARDS {
+    for i in 0..CARDS {
         if Monomial::ONE.same(Monomial::read(s, WIDTH * i)) {
             return i;
         }
-        i += 1;
     }
-    i
+    CARDS
 }
 
 // Whether the bytes from at on are all zero.
@@ -77,63 +69,49 @@ fn zero_from(s: &[u8], at: usize) -> bool
     requires { at ≤ length s.now }
     ensures { result ≡ all (eqb 0) (drop at s.now) }
 {
-    let mut i = at;
-    while i < s.len() {
-        if s[i] != 0 {
-            return false;
-        }
-        i += 1;
-    }
-    true
+    s[at..].iter().all(|&x| x == 0)
 }
 
 // Whether the first len places ascend strictly: each stands before the next.
-fn ascends(s: &[u8], len: usize) -> bool
-    requires { (length s.now ≡ set_bytes) × (len ≤ cards) }
+fn ascends(s: &[u8; SET_BYTES], len: usize) -> bool
+    requires { len ≤ cards }
     ensures { result ≡ ascending (take len (places s.now)) }
 {
-    let mut i: usize = 1;
-    while i < len {
+    for i in 1..len {
         if !Monomial::read(s, WIDTH * i - WIDTH).before(Monomial::read(s, WIDTH * i)) {
             return false;
         }
-        i += 1;
     }
     true
 }
 
 // Whether the first len places hold monomials that a set may have.
-fn monomials_right(panel: Panel, s: &[u8], len: usize) -> bool
-    requires { (length s.now ≡ set_bytes) × (len ≤ cards) }
+fn monomials_right(panel: Panel, s: &[u8; SET_BYTES], len: usize) -> bool
+    requires { len ≤ cards }
     ensures { result ≡ all (monomial_right panel) (take len (places s.now)) }
 {
-    let mut i: usize = 0;
-    while i < len {
+    for i in 0..len {
         if !monomial_right(panel, Monomial::read(s, WIDTH * i)) {
             return false;
         }
-        i += 1;
     }
     true
 }
 
 // The first len places as a set.
-fn set_of(s: &[u8], len: usize) -> Set
-    requires { (length s.now ≡ set_bytes) × (len ≤ cards) }
+fn set_of(s: &[u8; SET_BYTES], len: usize) -> Set
+    requires { len ≤ cards }
     ensures { (monomials_of result ≡ take len (places s.now)) × (result.len ≡ len) }
 {
     let mut m = [Monomial::ONE; CARDS];
-    let mut i: usize = 0;
-    while i < len {
+    for i in 0..len {
         m[i] = Monomial::read(s, WIDTH * i);
-        i += 1;
     }
     Set { m, len }
 }
 
 // Reads a set record.
-pub(crate) fn read_set(panel: Panel, s: &[u8]) -> SetRead
-    requires { length s.now ≡ set_bytes }
+pub(crate) fn read_set(panel: Panel, s: &[u8; SET_BYTES]) -> SetRead
     ensures { SetReads panel s.now result }
 {
     let len = size_of(s);

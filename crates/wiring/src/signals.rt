@@ -27,20 +27,15 @@ pub fn signals_of(n: usize, set: Set) -> Signals
     ensures { (signals_of result ≡ signals width n (monomials_of set)) × (result.len ≡ n + 1 + set.len) }
 {
     let mut m = [Monomial::ONE; MOST_SIGNALS];
-    let mut i: usize = 0;
-    while i < n {
+    for i in 0..n {
         m[i + 1] = Monomial::constant(i + 1);
-        i += 1;
     }
-    let len = set.len;
-    let mut j: usize = 0;
-    while j < len {
+    for j in 0..set.len {
         m[n + 1 + j] = set.m[j];
-        j += 1;
     }
     Signals {
         m,
-        len: n + 1 + len,
+        len: n + 1 + set.len,
     }
 }
 
@@ -59,13 +54,10 @@ pub fn signal(n: usize, set: &[u8], j: usize) -> Monomial
 pub fn is_among(list: &[u8], m: Monomial) -> bool
     ensures { result ≡ any (same m.e) (tabled list.now) }
 {
-    let count = list.len() / WIDTH;
-    let mut i: usize = 0;
-    while i < count {
+    for i in 0..list.len() / WIDTH {
         if m.same(Monomial::read(list, WIDTH * i)) {
             return true;
         }
-        i += 1;
     }
     false
 }
@@ -74,10 +66,7 @@ pub fn is_among(list: &[u8], m: Monomial) -> bool
 pub fn is_signal(n: usize, set: &[u8], m: Monomial) -> bool
     ensures { result ≡ any (same m.e) (signals_at n set.now) }
 {
-    if m.is_low(n, 2) {
-        return true;
-    }
-    is_among(set, m)
+    m.is_low(n, 2) || is_among(set, m)
 }
 
 // Whether m is in V2 of a set. No product is made: m is divided, and the quotient looked for. What 1 and the variables multiply to by twos is of
@@ -88,15 +77,11 @@ pub fn is_square(n: usize, set: &[u8], m: Monomial) -> bool
     if m.is_low(n, 3) {
         return true;
     }
-    let mut i = set.len() / WIDTH;
-    while 0 < i {
-        let z = Monomial::read(set, WIDTH * (i - 1));
-        if z.divides(m) {
-            if is_signal(n, set, m.over(z)) {
-                return true;
-            }
+    for i in (0..set.len() / WIDTH).rev() {
+        let z = Monomial::read(set, WIDTH * i);
+        if z.divides(m) && is_signal(n, set, m.over(z)) {
+            return true;
         }
-        i -= 1;
     }
     false
 }

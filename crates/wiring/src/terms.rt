@@ -21,81 +21,50 @@ pub enum Fault {
 }
 
 // Whether term records have a length that records can have.
+#[tactic(auto, unfolding(crate::specs::Terms::length_right))]
 pub fn length_right(terms: &[u8]) -> bool
     ensures { result ≡ length_right terms.now }
 {
-    if terms.len() % TERM_BYTES != 0 {
-        return false;
-    }
-    terms.len() <= TERMS_BYTES
+    terms.len() % TERM_BYTES == 0 && terms.len() <= TERMS_BYTES
 }
 
 // The exponents are at most most, and zero beyond xn.
 pub(crate) fn exponents_right(most: u8, n: usize, m: Monomial) -> bool
     ensures { result ≡ exponents_right most n m.e }
 {
-    let e = m.e;
-    let mut i: usize = 0;
-    while i < WIDTH {
-        if most < e[i] {
+    for i in 0..WIDTH {
+        if most < m.e[i] || n <= i && m.e[i] != 0 {
             return false;
         }
-        if n <= i {
-            if e[i] != 0 {
-                return false;
-            }
-        }
-        i += 1;
     }
     true
 }
 
 // A coefficient is nonzero, from -1,000,000 to 1,000,000.
+#[tactic(auto, unfolding(crate::specs::Terms::coefficient_right, crate::specs::Coefficient::is_zero))]
 fn coefficient_right(c: i32) -> bool
     ensures { result ≡ coefficient_right c }
 {
-    if c == 0 {
-        return false;
-    }
-    if c < LEAST_COEFFICIENT {
-        return false;
-    }
-    if MOST_COEFFICIENT < c {
-        return false;
-    }
-    true
+    c != 0 && (LEAST_COEFFICIENT..=MOST_COEFFICIENT).contains(&c)
 }
 
 // Every field of record number t keeps its rule.
+#[tactic(auto, unfolding(crate::specs::Terms::term_right))]
 fn term_right(panel: Panel, terms: &[u8], t: usize) -> bool
     requires { term_bytes * t + term_bytes ≤ length terms.now }
     ensures { result ≡ term_right panel (record_at terms.now t) }
 {
     let at = TERM_BYTES * t;
-    let equation = wide(terms[at]);
-    if equation < 1 {
-        return false;
-    }
-    let n = panel.n;
-    if n < equation {
-        return false;
-    }
-    if sockets::is_marked(panel.marks, equation - 1) {
-        return false;
-    }
-    if terms[at + 1] != 0 {
-        return false;
-    }
-    if !exponents_right(TERM_EXPONENT, n, Monomial::read(terms, at + MONOMIAL_AT)) {
-        return false;
-    }
-    coefficient_right(coefficient::decode(terms, at + COEFFICIENT_AT))
-}
-
-pub(crate) fn wide(x: u8) -> usize
-    ensures { (result ≡ x) × (result < 256) }
-{
-    x as usize
+    let equation = usize::from(terms[at]);
+    (1..=panel.n).contains(&equation)
+        && !sockets::is_marked(panel.marks, equation - 1)
+        && terms[at + 1] == 0
+        && exponents_right(
+            TERM_EXPONENT,
+            panel.n,
+            Monomial::read(terms, at + MONOMIAL_AT),
+        )
+        && coefficient_right(coefficient::decode(terms, at + COEFFICIENT_AT))
 }
 
 // Records t and u have the same equation and exponents.
@@ -103,13 +72,9 @@ fn records_alike(terms: &[u8], t: usize, u: usize) -> bool
     requires { (term_bytes * t + term_bytes ≤ length terms.now) × (term_bytes * u + term_bytes ≤ length terms.now) }
     ensures { result ≡ alike (record_at terms.now t) (record_at terms.now u) }
 {
-    if terms[TERM_BYTES * t] != terms[TERM_BYTES * u] {
-        return false;
-    }
-    Monomial::read(terms, TERM_BYTES * t + MONOMIAL_AT).same(Monomial::read(
-        terms,
-        TERM_BYTES * u + MONOMIAL_AT,
-    ))
+    let m = Monomial::read(terms, TERM_BYTES * t + MONOMIAL_AT);
+    terms[TERM_BYTES * t] == terms[TERM_BYTES * u]
+        && m.same(Monomial::read(terms, TERM_BYTES * u + MONOMIAL_AT))
 }
 
 // An earlier record has the equation and exponents of record t.
@@ -117,12 +82,10 @@ fn repeats(terms: &[u8], t: usize) -> bool
     requires { term_bytes * t + term_bytes ≤ length terms.now }
     ensures { result ≡ any (alike (record_at terms.now t)) (take t (records terms.now)) }
 {
-    let mut u: usize = 0;
-    while u < t {
+    for u in 0..t {
         if records_alike(terms, t, u) {
             return true;
         }
-        u += 1;
     }
     false
 }
@@ -130,16 +93,13 @@ fn repeats(terms: &[u8], t: usize) -> bool
 pub fn fault_of(panel: Panel, terms: &[u8]) -> Fault
     ensures { result ≡ fault panel (records terms.now) }
 {
-    let count = terms.len() / TERM_BYTES;
-    let mut t: usize = 0;
-    while t < count {
+    for t in 0..terms.len() / TERM_BYTES {
         if !term_right(panel, terms, t) {
             return Fault::Wrong(t as u64 + 1);
         }
         if repeats(terms, t) {
             return Fault::Repeated(t as u64 + 1);
         }
-        t += 1;
     }
     Fault::Clean
 }

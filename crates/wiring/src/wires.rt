@@ -13,7 +13,7 @@ ghost use Rattle.wiring.specs.Wires.{Wire, wire_record, Sheet, Wrote, FirstPair,
 use super::choice::Pick;
 use super::panel::{TERM_BYTES, WIRE_BYTES};
 use super::signals::Signals;
-use super::{coefficient, derivative, parts};
+use super::{buffer, coefficient, derivative, parts};
 use monomial::Monomial;
 
 // The numbers of two signals, where some is true.
@@ -74,25 +74,9 @@ fn put_record(out: &mut [u8], at: usize, left: usize, p: Pair, c: i32)
     requires { (wire_bytes * at + wire_bytes ≤ length out.old) × ((left < 256) × ((p.a < 256) × (p.b < 256))) }
     ensures { out.new ≡ paste out.old (wire_bytes * at) (wire_record (record { left = left; a = p.a; b = p.b; coefficient = c })) wire_bytes }
 {
-    let u = coefficient::bits_of(c);
-    let a = p.a;
-    let b = p.b;
-    let bytes = [
-        left as u8,
-        a as u8,
-        b as u8,
-        0,
-        (u % 256) as u8,
-        (u / 256 % 256) as u8,
-        (u / 65536 % 256) as u8,
-        (u / 16777216 % 256) as u8,
-    ];
-    let from = WIRE_BYTES * at;
-    let mut i: usize = 0;
-    while i < WIRE_BYTES {
-        out[from + i] = bytes[i];
-        i += 1;
-    }
+    let [c0, c1, c2, c3] = c.to_le_bytes();
+    let bytes = [left as u8, p.a as u8, p.b as u8, 0, c0, c1, c2, c3];
+    buffer::put(out, WIRE_BYTES * at, &bytes);
 }
 
 // One record more behind the at records of the list: it is written where there is room.

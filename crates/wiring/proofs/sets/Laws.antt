@@ -1,14 +1,16 @@
 -- Set records: their places, the loops that judge and read them, and what a right record holds. Assumes nothing.
 use mathlib.Core.Path.{◌≡◌, refl, sym, ap, ap₂, subst, ◌∙◌}
 use mathlib.Core.Logic.{⊎_elim}
-use mathlib.Core.Bool.{Bool, true, false, ◌&&◌}
+use mathlib.Core.Bool.{Bool, true, false, ◌&&◌, and-false}
 use mathlib.Core.List.Memᴰ
 use mathlib.Core.List.{List, [], ◌∷◌}
-use Prim.Native.Nat.{ℕ, suc, ◌+◌, ◌*◌, ◌-◌, ◌<◌, ◌≤◌, min}
+use Prim.Native.Nat.{ℕ, zero, suc, ◌+◌, ◌*◌, ◌-◌, ◌<◌, ◌≤◌, min}
 use native.Mathlib.Omega.{arith}
 use lib.Dec.{T, eqb}
 use lib.ListN.{length, get_or, take, drop, length-take, length-drop}
 use lib.Seq.{length-take-le, get_or-take, drop-cons}
+use Rattle.std.specs.Bool.{MatchBool}
+use Rattle.std.specs.List.{AllWithin, HoldsAt}
 use Rattle.monomial.specs.Lists.{any, all, below}
 use Rattle.monomial.specs.Monomial.{Mono, constants, width}
 use Rattle.monomial.specs.Order.{same, before}
@@ -29,6 +31,23 @@ use Rattle.wiring.proofs.kit.Laws.{may_can}
 use Rattle.wiring.specs.Sets.{places, size_of, set_of, ascending, monomial_right, set_right, monomials_of, SetReads}
 use Rattle.wiring.specs.declared.sets.SetRead.{SetRead}
 use Rattle.wiring.proofs.terms.Laws.{all_small}
+
+-- ---- a chain that tests every entry says what the test of all says
+all_passes : {A : Type 0} (f : A → Bool) (l : List A) → ((k : ℕ) (d : A) → k < length l → f (get_or l k d) ≡ true) → true ≡ all f l
+unfolding all
+all_passes f [] h = refl
+all_passes f (x ∷ l) h = rw (h 0 x (omega arith)) (all_passes f l (λ k d i. h (suc k) d (omega arith)))
+
+all_meets : {A : Type 0} (f : A → Bool) (l : List A) (k : ℕ) → k < length l → ((d : A) → f (get_or l k d) ≡ false) → false ≡ all f l
+unfolding all
+all_meets f [] k i h = absurd (omega arith)
+all_meets f (x ∷ l) zero i h = rw (h x) refl
+all_meets f (x ∷ l) (suc k) i h = rw (sym (all_meets f l k (omega arith) h)) (sym (and-false (f x)))
+
+pub all_says : {A : Type 0} (f : A → Bool) (l : List A) (r : Bool)
+    → MatchBool r (AllWithin (λ x. f x ≡ true) l 0 (length l)) ((k : ℕ) × (k < length l) × HoldsAt (λ x. f x ≡ false) l k) → r ≡ all f l
+all_says f l true h = all_passes f l (λ k d i. h k d (omega arith) i)
+all_says f l false h = all_meets f l h.0 h.1 h.2
 
 -- ---- the places of a record
 -- the six bytes from place i on
@@ -165,22 +184,13 @@ module _ {bytes : List ℕ} {len i : ℕ} (c : Neighbouring bytes len i) where
   pub neighbouring_ends : len ≤ i → true ≡ ascending (take len (places bytes))
   neighbouring_ends h = climbing_ends c.climbing (omega (arith, used_length bytes len c.few))
 
--- ---- a monomial of a record: the tests in their order
-module _ (panel : Panel) (m : Mono) where
-  pub named_refused : any (same m) (constants width) ≡ true → false ≡ monomial_right panel m
+-- ---- a monomial of a record: what passes the first two tests is judged by the third
+module _ (panel : Panel) (m : Mono) (new : any (same m) (constants width) ≡ false) where
+  pub may_decides : length m ≡ width → exponents_right set_exponent panel.n m ≡ true → can_build panel m ≡ monomial_right panel m
   unfolding monomial_right
-  named_refused e = rw e
-
-  module _ (new : any (same m) (constants width) ≡ false) where
-    pub exponents_refused : exponents_right set_exponent panel.n m ≡ false → false ≡ monomial_right panel m
-    unfolding monomial_right
-    exponents_refused e = rw (new, e)
-
-    pub may_decides : length m ≡ width → exponents_right set_exponent panel.n m ≡ true → can_build panel m ≡ monomial_right panel m
-    unfolding monomial_right
-    may_decides long e =
-        let fits = exponents_everywhere set_exponent panel.n m (is→T (exponents_right set_exponent panel.n m) e) in
-        rw (new, e) (sym (may_can panel m (omega arith) (at_most_all set_exponent m (λ i. (fits i).small))))
+  may_decides long e =
+      let fits = exponents_everywhere set_exponent panel.n m (is→T (exponents_right set_exponent panel.n m) e) in
+      rw (new, e) (sym (may_can panel m (omega arith) (at_most_all set_exponent m (λ i. (fits i).small))))
 
 -- ---- reading a record whose size is known: each test that fails refuses it, and one that passes all three holds its set
 module _ (panel : Panel) (bytes : List ℕ) (len : ℕ) (e : len ≡ size_of bytes) where

@@ -7,10 +7,9 @@ use mathlib.Core.List.{List, [], ◌∷◌, ◌++◌}
 use Prim.Native.Nat.{ℕ, zero, suc, ◌+◌, ◌*◌, ◌-◌, ◌/◌, ◌<◌, ◌≤◌}
 use native.Mathlib.Omega.{arith}
 use native.Mathlib.Numerals.{add-one}
-use borrow.Author.Tests.{lt-leb, le-leb, eq-eqb, eqb-true, eqb-false, ltb-true, ltb-false}
+use borrow.Author.Tests.{le-leb, eq-eqb, eqb-true, eqb-false, ltb-true, ltb-false}
 use lib.Dec.{T, leb, eqb, ltb, leb→le, le→leb, eqb→eq, T_not}
-use lib.IntN.{ℤ, pos, negsuc, nat_abs}
-use lib.Signed.{lt_z}
+use lib.IntN.{nat_abs}
 use lib.ListN.{length, get_or, take, drop, length-map, length-take, length-drop, drop_of_length-le, get_or-eq_default}
 use lib.Seq.{length-take-le, take-suc, drop-cons, drop-drop, get_or-drop, get_or-take}
 use Rattle.monomial.specs.Lists.{any, all, below}
@@ -26,9 +25,6 @@ use Rattle.monomial.proofs.Counting.{below_in, below_out, below_length, below_at
 use Rattle.wiring.specs.Panel.{term_bytes, most_coefficient, term_exponent}
 use Rattle.wiring.specs.Sockets.{full_panel, marked}
 use Rattle.wiring.specs.declared.panel.Panel.{Panel}
-use mir.Syntax.{w32}
-use mir.Val.{SFits, to_z, of_z}
-use mir.ValLaws.{to_z-of_z}
 use Rattle.wiring.specs.Coefficient.{is_zero}
 use Rattle.wiring.specs.Terms.{Record, record_at, records, exponents_right, coefficient_right, term_right, alike, fault_from, fault, CleanFor, CleanTerms}
 use Rattle.wiring.specs.declared.terms.Fault.TheVariants.{Clean, Wrong, Repeated}
@@ -198,46 +194,6 @@ module _ {w most n i : ℕ} {m : Mono} (f : FittingSoFar w most n m i) where
   pub fitting_ends : w ≤ i → true ≡ exponents_right most n m
   fitting_ends h = sym (T→is (exponents_right most n m) (exponents_in most n m (λ k l. let long : length m ≡ w = f.long in f.fits k (omega arith))))
 
--- ---- a coefficient's range, by the machine's tests: `==` tests the bits, `<` the number
-never : {C : Type 0} → false ≡ true → C
-never e = absurd (is→n_t true (sym e) tt)
-
-pub range_zero : (z : ℤ) → SFits w32 z → of_z w32 z ≡ 0 → false ≡ coefficient_right z
-unfolding coefficient_right is_zero
-range_zero (pos zero) f e = refl
-range_zero (pos (suc n)) f e = absurd (omega arith)
-range_zero (negsuc n) f e = absurd (omega arith)
-
-low : (z : ℤ) → lt_z z (negsuc 999999) ≡ true → false ≡ coefficient_right z
-unfolding coefficient_right is_zero
-low (pos n) e = never e
-low (negsuc n) e = let h : 999999 < n = ltb-true 999999 n e in sym (lt-leb (suc n) most_coefficient (omega arith))
-
-high : (z : ℤ) → lt_z (pos most_coefficient) z ≡ true → false ≡ coefficient_right z
-unfolding coefficient_right is_zero
-high (pos zero) e = never e
-high (pos (suc n)) e = let h : most_coefficient < suc n = ltb-true most_coefficient (suc n) e in sym (lt-leb (suc n) most_coefficient h)
-high (negsuc n) e = never e
-
-within : (z : ℤ) → (of_z w32 z ≡ 0 → ⊥) → lt_z z (negsuc 999999) ≡ false → lt_z (pos most_coefficient) z ≡ false → true ≡ coefficient_right z
-unfolding coefficient_right is_zero
-within (pos zero) n e f = absurd (n refl)
-within (pos (suc n)) z e f = sym (le-leb (suc n) most_coefficient (ltb-false most_coefficient (suc n) f))
-within (negsuc n) z e f = let h : n ≤ 999999 = ltb-false 999999 n e in sym (le-leb (suc n) most_coefficient (omega arith))
-
-module _ (z : ℤ) (f : SFits w32 z) where
-  own : to_z w32 (of_z w32 z) ≡ z
-  own = to_z-of_z w32 z f
-
-  pub range_low : lt_z (to_z w32 (of_z w32 z)) (negsuc 999999) ≡ true → false ≡ coefficient_right z
-  range_low e = low z (rw own at e)
-
-  pub range_high : lt_z (pos most_coefficient) (to_z w32 (of_z w32 z)) ≡ true → false ≡ coefficient_right z
-  range_high e = high z (rw own at e)
-
-  pub range_holds : (of_z w32 z ≡ 0 → ⊥) → lt_z (to_z w32 (of_z w32 z)) (negsuc 999999) ≡ false → lt_z (pos most_coefficient) (to_z w32 (of_z w32 z)) ≡ false → true ≡ coefficient_right z
-  range_holds n e g = within z n (rw own at e) (rw own at g)
-
 -- ---- the rule of a record, field by field
 pub record Fields (panel : Panel) (r : Record) : Type 0 where
   pub low : 1 ≤ r.equation
@@ -268,16 +224,6 @@ fields_in panel r f =
       eq-eqb r.blank 0 f.blank,
       T→is (exponents_right term_exponent panel.n r.monomial) f.exponents,
     ) f.coefficient
-
--- a field that breaks its rule decides; where the others keep theirs, the coefficient does
-pub right_fails : (panel : Panel) (r : Record) → (Fields panel r → ⊥) → false ≡ term_right panel r
-right_fails panel r x = sym (n_t→is (term_right panel r) (λ t. x (fields_out panel r t)))
-
-pub right_last : (panel : Panel) (r : Record) (e : ℕ) → e ≡ r.equation → 1 ≤ e → e ≤ panel.n → marked panel.marks (r.equation - 1) ≡ false → r.blank ≡ 0
-    → exponents_right term_exponent panel.n r.monomial ≡ true → coefficient_right r.coefficient ≡ term_right panel r
-unfolding term_right
-right_last panel r e is low high unfed blank exponents =
-    rw (le-leb 1 r.equation (omega arith), le-leb r.equation panel.n (omega arith), unfed, eq-eqb r.blank 0 blank, exponents)
 
 -- what a record that keeps it holds
 pub record Rightful (r : Record) : Type 0 where

@@ -20,12 +20,13 @@ returns-then-not-length_right c =
     let no = said_terms_length (panel_of a.n a.marks a.degree) a.terms.now a.set.now known (sym c.length_right.ensures ∙ c.if-not-length_right.true) in
     given_refused _ _ _ _ Length no (λ z. omega arith) c.refused-then-not-length_right.ensures
 
-pub returns-then-set-ne-SET_BYTES : goal.returns-then-set-ne-SET_BYTES
-returns-then-set-ne-SET_BYTES c =
+pub returns-in_default : goal.returns-in_default
+returns-in_default c =
     let a = c.args in
     let known = sym c.panel_right.ensures ∙ c.if-not-panel_right.false in
     let measured = sym c.length_right.ensures ∙ c.if-not-length_right.false in
-    given_refused _ _ _ _ Length (said_set_length (panel_of a.n a.marks a.degree) a.terms.now a.set.now known measured c.if-set-ne-SET_BYTES.true) (λ z. omega arith) c.refused-then-set-ne-SET_BYTES.ensures
+    let cut = rw c.in_default.is at c.as_array.ensures.cases in
+    given_refused _ _ _ _ Length (said_set_length (panel_of a.n a.marks a.degree) a.terms.now a.set.now known measured cut) (λ z. omega arith) c.refused-in_default.ensures
 
 pub returns-in-Clean : goal.returns-in-Clean
 returns-in-Clean c =
@@ -33,8 +34,8 @@ returns-in-Clean c =
     let known = sym c.panel_right.ensures ∙ c.if-not-panel_right.false in
     let measured = sym c.length_right.ensures ∙ c.if-not-length_right.false in
     let clean = sym c.in-Clean.is ∙ c.fault_of.ensures in
-    let says = sym (said_rest (panel_of a.n a.marks a.degree) a.terms.now a.set.now known measured c.if-set-ne-SET_BYTES.false Clean clean) in
-    given_read _ _ _ _ known c.if-set-ne-SET_BYTES.false (sym clean) says c.read_given.ensures
+    let says = sym (said_rest (panel_of a.n a.marks a.degree) a.terms.now a.set.now known measured c.in-Some.ensures.cases.long Clean clean) in
+    given_read _ _ _ _ known c.in-Some.ensures.cases.long (sym clean) says (rw c.in-Some.ensures.cases.same at c.read_given.ensures)
 
 pub returns-in-Wrong : goal.returns-in-Wrong
 returns-in-Wrong c =
@@ -42,7 +43,7 @@ returns-in-Wrong c =
     let known = sym c.panel_right.ensures ∙ c.if-not-panel_right.false in
     let measured = sym c.length_right.ensures ∙ c.if-not-length_right.false in
     let place = c.in-Wrong in
-    let says = sym (said_rest (panel_of a.n a.marks a.degree) a.terms.now a.set.now known measured c.if-set-ne-SET_BYTES.false (Wrong place.place) (sym place.is ∙ c.fault_of.ensures)) in
+    let says = sym (said_rest (panel_of a.n a.marks a.degree) a.terms.now a.set.now known measured c.in-Some.ensures.cases.long (Wrong place.place) (sym place.is ∙ c.fault_of.ensures)) in
     given_refused _ _ _ _ (Term place.place) says (λ z. omega arith) c.refused-in-Wrong.ensures
 
 pub returns-in-Repeated : goal.returns-in-Repeated
@@ -51,5 +52,5 @@ returns-in-Repeated c =
     let known = sym c.panel_right.ensures ∙ c.if-not-panel_right.false in
     let measured = sym c.length_right.ensures ∙ c.if-not-length_right.false in
     let place = c.in-Repeated in
-    let says = sym (said_rest (panel_of a.n a.marks a.degree) a.terms.now a.set.now known measured c.if-set-ne-SET_BYTES.false (Repeated place.place) (sym place.is ∙ c.fault_of.ensures)) in
+    let says = sym (said_rest (panel_of a.n a.marks a.degree) a.terms.now a.set.now known measured c.in-Some.ensures.cases.long (Repeated place.place) (sym place.is ∙ c.fault_of.ensures)) in
     given_refused _ _ _ _ (Twice place.place) says (λ z. omega arith) c.refused-in-Repeated.ensures

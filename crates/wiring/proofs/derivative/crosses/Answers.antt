@@ -11,14 +11,14 @@ use Rattle.wiring.proofs.derivative.crosses.Goals as goal
 pub returns-then-a-b : goal.returns-then-a-b
 returns-then-a-b c =
     let l = c.args.terms.now in
-    sym (crosses_alone (record_at l c.args.t) (record_at l c.args.u) (sym c.wide-a.ensures.0 ∙ c.if-a-b.true ∙ c.wide-b.ensures.0))
+    sym (crosses_alone (record_at l c.args.t) (record_at l c.args.u) (sym c.from-a.ensures ∙ c.if-a-b.true ∙ c.from-b.ensures))
 
 pub times-x-requires : goal.times-x-requires
 times-x-requires c =
     let l = c.args.terms.now in
     let r = record_at l c.args.t in
     let q = record_at l c.args.u in
-    let made = crossing_made r _ _ _ q.equation c.read.ensures c.constant.ensures c.wide-b.ensures.0 in
+    let made = crossing_made r _ _ _ q.equation c.read.ensures c.constant.ensures c.from-b.ensures in
     let fits = crossing_fits r q.equation (clean_at l c.requires.0 c.args.t (omega arith)) (clean_at l c.requires.0 c.args.u (omega arith)).high in
     subst FitsBytes (sym made) fits
 
@@ -27,7 +27,7 @@ times-y-requires c =
     let l = c.args.terms.now in
     let r = record_at l c.args.t in
     let q = record_at l c.args.u in
-    let made = crossing_made q _ _ _ r.equation c.read-2.ensures c.constant-2.ensures c.wide-a.ensures.0 in
+    let made = crossing_made q _ _ _ r.equation c.read-2.ensures c.constant-2.ensures c.from-a.ensures in
     let fits = crossing_fits q r.equation (clean_at l c.requires.0 c.args.u (omega arith)) (clean_at l c.requires.0 c.args.t (omega arith)).high in
     subst FitsBytes (sym made) fits
 
@@ -36,6 +36,6 @@ returns c =
     let l = c.args.terms.now in
     let r = record_at l c.args.t in
     let q = record_at l c.args.u in
-    let first = c.times-x.ensures ∙ crossing_made r _ _ _ q.equation c.read.ensures c.constant.ensures c.wide-b.ensures.0 in
-    let second = c.times-y.ensures ∙ crossing_made q _ _ _ r.equation c.read-2.ensures c.constant-2.ensures c.wide-a.ensures.0 in
-    c.same.ensures ∙ ap₂ same first second ∙ sym (crosses_says r q (λ e. c.if-a-b.false (c.wide-a.ensures.0 ∙ e ∙ sym c.wide-b.ensures.0)))
+    let first = c.times-x.ensures ∙ crossing_made r _ _ _ q.equation c.read.ensures c.constant.ensures c.from-b.ensures in
+    let second = c.times-y.ensures ∙ crossing_made q _ _ _ r.equation c.read-2.ensures c.constant-2.ensures c.from-a.ensures in
+    c.same.ensures ∙ ap₂ same first second ∙ sym (crosses_says r q (λ e. c.if-a-b.false (c.from-a.ensures ∙ e ∙ sym c.from-b.ensures)))

@@ -16,26 +16,26 @@ use Rattle.wiring.proofs.derivative.image.Goals as goal
 
 pub overflow_sub-i : goal.overflow_sub-i
 overflow_sub-i c =
-    omega (arith, c.wide-i.ensures.0, (clean_at c.args.terms.now c.requires.0 c.args.t (omega arith)).low)
+    omega (arith, c.from-i.ensures, (clean_at c.args.terms.now c.requires.0 c.args.t (omega arith)).low)
 
 pub bounds-e-i : goal.bounds-e-i
 bounds-e-i c =
-    omega (arith, c.wide-i.ensures.0, (clean_at c.args.terms.now c.requires.0 c.args.t (omega arith)).high)
+    omega (arith, c.from-i.ensures, (clean_at c.args.terms.now c.requires.0 c.args.t (omega arith)).high)
 
 pub overflow_sub-e : goal.overflow_sub-e
 overflow_sub-e c =
-    rw c.wide-i.ensures.0 c.requires.1.1.0
+    rw c.from-i.ensures c.requires.1.1.0
 
 pub bounds-e-i-2 : goal.bounds-e-i-2
 bounds-e-i-2 c =
-    omega (arith, c.wide-i.ensures.0, (clean_at c.args.terms.now c.requires.0 c.args.t (omega arith)).high)
+    omega (arith, c.from-i.ensures, (clean_at c.args.terms.now c.requires.0 c.args.t (omega arith)).high)
 
 pub times-requires : goal.times-requires
 times-requires c =
     let r = record_at c.args.terms.now c.args.t in
     let z = c.args.z.e in
     let h = clean_at c.args.terms.now c.requires.0 c.args.t (omega arith) in
-    let made = image_made r z _ _ _ c.wide-i.ensures.0 c.of.ensures c.read.ensures in
+    let made = image_made r z _ _ _ c.from-i.ensures c.of.ensures c.read.ensures in
     let six : length z ≡ width = search rules in
     let fits = (image_fits r term_exponent 200 z h.long h.small six c.requires.1.1.1).1 in
     subst FitsBytes (sym made) (at_most_weaken (image r z) (omega arith) fits)
@@ -43,5 +43,5 @@ times-requires c =
 pub returns : goal.returns
 returns c =
     let r = record_at c.args.terms.now c.args.t in
-    let made = image_made r c.args.z.e _ _ _ c.wide-i.ensures.0 c.of.ensures c.read.ensures in
+    let made = image_made r c.args.z.e _ _ _ c.from-i.ensures c.of.ensures c.read.ensures in
     c.times.ensures ∙ made

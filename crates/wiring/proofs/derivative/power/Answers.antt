@@ -8,12 +8,12 @@ use Rattle.wiring.proofs.derivative.power.Goals as goal
 
 pub overflow_sub-i : goal.overflow_sub-i
 overflow_sub-i c =
-    omega (arith, c.wide-i.ensures.0, (clean_at c.args.terms.now c.requires.0 c.args.t (omega arith)).low)
+    omega (arith, c.from-i.ensures, (clean_at c.args.terms.now c.requires.0 c.args.t (omega arith)).low)
 
 pub bounds-e-i : goal.bounds-e-i
 bounds-e-i c =
-    omega (arith, c.wide-i.ensures.0, (clean_at c.args.terms.now c.requires.0 c.args.t (omega arith)).high)
+    omega (arith, c.from-i.ensures, (clean_at c.args.terms.now c.requires.0 c.args.t (omega arith)).high)
 
 pub returns : goal.returns
 returns c =
-    ap (λ (i : ℕ). get_or c.args.z.e (i - 1) 0) c.wide-i.ensures.0
+    ap (λ (i : ℕ). get_or c.args.z.e (i - 1) 0) c.from-i.ensures

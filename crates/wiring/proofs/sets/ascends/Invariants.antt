@@ -1,10 +1,6 @@
 -- `ascends` meets its contract: the loop compares neighbours (`Neighbouring`). Assumes nothing.
-use Prim.Native.Nat.{◌-◌}
 use Rattle.wiring.proofs.sets.Laws.{Neighbouring}
 use Rattle.wiring.proofs.sets.ascends.Given as goal
 
 abbrev pub invariant-loop-i : goal.invariant-loop-i
 invariant-loop-i l = Neighbouring l.s l.len l.i
-
-abbrev pub decreases-loop-i : goal.decreases-loop-i
-decreases-loop-i l = l.len - l.i

@@ -1,5 +1,4 @@
 -- `is_constant` meets its contract: the loop looks through the constants (`Seeking`). Assumes nothing.
-use Prim.Native.Nat.{suc, ◌-◌}
 use Rattle.monomial.specs.Monomial.{constants, width}
 use Rattle.monomial.specs.Order.{same}
 use Rattle.monomial.proofs.Loops.{Seeking}
@@ -7,6 +6,3 @@ use Rattle.wiring.proofs.sets.is_constant.Given as goal
 
 abbrev pub invariant-loop-i : goal.invariant-loop-i
 invariant-loop-i l = Seeking (same l.m.e) (constants width) l.i
-
-abbrev pub decreases-loop-i : goal.decreases-loop-i
-decreases-loop-i l = suc width - l.i

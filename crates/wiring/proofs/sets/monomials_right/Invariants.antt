@@ -1,5 +1,4 @@
 -- `monomials_right` meets its contract: the loop tests the used places (`Checking`). Assumes nothing.
-use Prim.Native.Nat.{◌-◌}
 use lib.ListN.{take}
 use Rattle.monomial.proofs.Loops.{Checking}
 use Rattle.wiring.specs.Sets.{places, monomial_right}
@@ -7,6 +6,3 @@ use Rattle.wiring.proofs.sets.monomials_right.Given as goal
 
 abbrev pub invariant-loop-i : goal.invariant-loop-i
 invariant-loop-i l = Checking (monomial_right l.panel) (take l.len (places l.s)) l.i
-
-abbrev pub decreases-loop-i : goal.decreases-loop-i
-decreases-loop-i l = l.len - l.i

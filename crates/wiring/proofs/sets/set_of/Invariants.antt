@@ -1,5 +1,5 @@
 -- `set_of` meets its contract: the loop copies the used places (`Copying`). Assumes nothing.
-use Prim.Native.Nat.{◌-◌, ◌≤◌}
+use Prim.Native.Nat.{◌≤◌}
 use lib.ListN.{take}
 use Rattle.wiring.specs.Sets.{places}
 use Rattle.wiring.proofs.signals.Arrays.{Copying}
@@ -8,6 +8,3 @@ use Rattle.wiring.proofs.sets.set_of.Given as goal
 
 abbrev pub invariant-loop-i : goal.invariant-loop-i
 invariant-loop-i l = (l.i ≤ l.len) × Copying cards (take l.len (places l.s)) l.m l.i
-
-abbrev pub decreases-loop-i : goal.decreases-loop-i
-decreases-loop-i l = l.len - l.i

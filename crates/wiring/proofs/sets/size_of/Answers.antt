@@ -1,14 +1,12 @@
 -- `size_of` meets its contract: the loop looks for the first place that is all zero (`Placing`). Assumes nothing.
 use mathlib.Core.Path.{sym, ap, ◌∙◌}
 use mathlib.Core.List.{[]}
-use Prim.Native.Nat.{◌≤◌}
 use native.Mathlib.Omega.{arith}
 use Rattle.monomial.specs.Monomial.{one, width}
 use Rattle.monomial.specs.Order.{same}
 use Rattle.monomial.proofs.Loops.{placing_start, placing_found, placing_on, placing_ends}
 use Rattle.wiring.specs.Sets.{size_of}
 use Rattle.wiring.proofs.sets.Laws.{places_length, places_at}
-use Rattle.wiring.specs.Panel.{cards}
 use Rattle.wiring.proofs.sets.size_of.Goals as goal
 
 pub loop-i-init : goal.loop-i-init
@@ -36,6 +34,5 @@ unfolding size_of
 returns c =
     let bytes = c.args.s.now in
     let long = places_length bytes in
-    let h : c.loop-i.i ≤ cards = omega (arith, c.loop-i.invariant.within) in
     let all = placing_ends _ c.loop-i.invariant (omega arith) in
-    (omega arith, h)
+    (omega arith, omega arith)

@@ -1,18 +1,18 @@
--- `zero_from` meets its contract: the loop tests the bytes from at on (`CheckingFrom`). Assumes nothing.
-use mathlib.Core.Path.{refl, sym}
-use native.Mathlib.Omega.{arith}
-use borrow.Author.Tests.{eq-eqb, ne_eqb}
-use Rattle.monomial.proofs.Loops.{from_fails, from_on, from_ends}
+-- `zero_from` meets its contract: the chain tests the bytes from at on. Assumes nothing.
+use mathlib.Core.Path.{◌≡◌, ◌∙◌}
+use mathlib.Core.Bool.{true, false}
+use borrow.Author.Rules.{rules}
+use borrow.Author.Tests.{tests}
+use lib.Dec.{eqb}
+use lib.ListN.{drop}
+use Rattle.std.proofs.lemmas.Iterator.{YieldsList-from_slice, cases_from_all}
+use Rattle.std.proofs.lemmas.List.{take_rest}
+use Rattle.wiring.proofs.sets.Laws.{all_says}
 use Rattle.wiring.proofs.sets.zero_from.Goals as goal
 
-pub loop-i-init : goal.loop-i-init
-loop-i-init c = record { rest = refl }
-
-pub returns-then-s-i-ne0 : goal.returns-then-s-i-ne0
-returns-then-s-i-ne0 c = from_fails 0 c.loop-i.invariant (omega arith) (ne_eqb 0 _ (λ e. c.if-s-i-ne0.true (sym e)))
-
-pub loop-i-preserved : goal.loop-i-preserved
-loop-i-preserved c = from_on 0 c.loop-i.invariant (omega arith) (eq-eqb 0 _ (sym c.if-s-i-ne0.false))
-
 pub returns : goal.returns
-returns c = from_ends 0 c.loop-i.invariant (omega arith)
+returns c =
+    let rest = drop c.args.at c.args.s.now in
+    let bytes = YieldsList-from_slice rest (c.iter.ensures.rest ∙ take_rest c.args.s.now c.args.at) in
+    let cases = cases_from_all _ _ _ (λ x. eqb 0 x ≡ true) (λ x. eqb 0 x ≡ false) c.all.ensures.ran bytes (λ x q k. search (rules, tests)) (λ x q k. search (rules, tests)) in
+    all_says (eqb 0) rest c.all.result cases

@@ -4,43 +4,23 @@ use mathlib.Core.Path.{◌≡◌, sym, ap, subst, ◌∙◌}
 use mathlib.Core.Bool.{true, false}
 use Prim.Native.Nat.{ℕ, ◌-◌}
 use native.Mathlib.Omega.{arith}
-use lib.ListN.{length}
 use Rattle.monomial.specs.Lists.{any}
-use Rattle.monomial.specs.Monomial.{width}
-use Rattle.monomial.proofs.Tests.{is→T}
 use Rattle.monomial.proofs.Loops.{SeekingDown, down_start, down_ends}
 use Rattle.wiring.specs.Signals.{tabled}
 use Rattle.wiring.proofs.signals.Tables.{tabled_length, tabled_wide, tabled_last, tabled_down}
 use Rattle.wiring.proofs.signals.Division.{leaves, leaves_says, leaves_not, square_low, square_else}
 use borrow.Author.Rules.{rules}
 use Rattle.wiring.proofs.signals.is_square.Goals as goal
-use Rattle.wiring.proofs.signals.is_square.Goals.{then-divides+else-is_signal, else-divides}
+use Rattle.wiring.proofs.signals.is_square.Goals.{else-divides-via-then-divides+else-is_signal, else-divides-via-else-divides}
 
 pub returns-then-is_low : goal.returns-then-is_low
 returns-then-is_low c =
     let a = c.args in
-    let s = tabled a.set.now in
-    let l : length a.m.e ≡ width = search rules in
     let is_low = sym c.is_low.ensures ∙ c.if-is_low.true in
-    square_low a.n s a.m.e (tabled_wide a.set.now) l is_low
+    square_low a.n (tabled a.set.now) a.m.e (tabled_wide a.set.now) (search rules) is_low
 
 pub loop-i-init : goal.loop-i-init
-loop-i-init c = let a = c.args in down_start _ _ _ (sym (tabled_length a.set.now))
-
-pub overflow_mul-i : goal.overflow_mul-i
-overflow_mul-i c =
-    let a = c.args in
-    let few = c.loop-i.invariant.within in
-    search (rules, few, tabled_length a.set.now)
-
-pub read-z-requires : goal.read-z-requires
-read-z-requires c =
-    let a = c.args in
-    let few = c.loop-i.invariant.within in
-    omega (arith, few, tabled_length a.set.now)
-
-pub over-requires : goal.over-requires
-over-requires c = is→T _ (sym c.divides.ensures ∙ c.if-divides.true)
+loop-i-init c = down_start _ _ _ (sym (tabled_length c.args.set.now))
 
 pub returns-then-is_signal : goal.returns-then-is_signal
 returns-then-is_signal c =
@@ -48,13 +28,11 @@ returns-then-is_signal c =
     let a = c.args in
     let s = tabled a.set.now in
     let f = leaves a.n s a.m.e in
-    let l : length a.m.e ≡ width = search rules in
     let not_low = sym c.is_low.ensures ∙ c.if-is_low.false in
     let divided = sym c.divides.ensures ∙ c.if-divides.true in
-    let quotient = c.over.ensures in
-    let here = ap f (sym c.read-z.ensures) ∙ leaves_says a.n s a.m.e _ _ _ divided quotient c.is_signal.ensures ∙ c.if-is_signal.true in
+    let here = ap f (sym c.read-z.ensures) ∙ leaves_says a.n s a.m.e _ _ _ divided c.over.ensures c.is_signal.ensures ∙ c.if-is_signal.true in
     let found : true ≡ any f s = tabled_last f a.set.now k.invariant (k.i - 1) (omega arith) here in
-    found ∙ square_else a.n s a.m.e (tabled_wide a.set.now) l not_low
+    found ∙ square_else a.n s a.m.e (tabled_wide a.set.now) (search rules) not_low
 
 pub loop-i-preserved : goal.loop-i-preserved
 loop-i-preserved c =
@@ -64,20 +42,18 @@ loop-i-preserved c =
     let f = leaves a.n s a.m.e in
     let divided = c.divides.ensures in
     let not_here : f c.read-z.result.e ≡ false =
-    elim c.if-divides.branch [
-      | then-divides+else-is_signal w ↦ leaves_says a.n s a.m.e _ _ _ (sym divided ∙ w.if-divides.true) w.over.ensures w.is_signal.ensures ∙ w.if-is_signal.false
-      | else-divides w ↦ leaves_not a.n s a.m.e _ (sym divided ∙ w.if-divides.false)
+    elim c.else-divides.branch [
+      | else-divides-via-then-divides+else-is_signal w ↦ leaves_says a.n s a.m.e _ _ _ (sym divided ∙ w.if-divides.true) w.over.ensures w.is_signal.ensures ∙ w.if-is_signal.false
+      | else-divides-via-else-divides w ↦ leaves_not a.n s a.m.e _ (sym divided ∙ w.if-divides.false)
     ] in
     tabled_down f a.set.now k.invariant (k.i - 1) (omega arith) (ap f (sym c.read-z.ensures) ∙ not_here)
 
 pub returns : goal.returns
 returns c =
-    let k = c.loop-i in
     let a = c.args in
     let s = tabled a.set.now in
     let f = leaves a.n s a.m.e in
-    let l : length a.m.e ≡ width = search rules in
     let not_low = sym c.is_low.ensures ∙ c.if-is_low.false in
-    let none : k.i ≡ 0 = omega arith in
-    let all_fail : false ≡ any f s = down_ends f (subst (λ (i : ℕ). SeekingDown f s i) none k.invariant) in
-    all_fail ∙ square_else a.n s a.m.e (tabled_wide a.set.now) l not_low
+    let none : c.loop-i.i ≡ 0 = omega arith in
+    let all_fail : false ≡ any f s = down_ends f (subst (λ (i : ℕ). SeekingDown f s i) none c.loop-i.invariant) in
+    all_fail ∙ square_else a.n s a.m.e (tabled_wide a.set.now) (search rules) not_low

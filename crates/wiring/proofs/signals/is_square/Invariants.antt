@@ -7,6 +7,3 @@ use Rattle.wiring.proofs.signals.is_square.Given as goal
 
 abbrev pub invariant-loop-i : goal.invariant-loop-i
 invariant-loop-i l = SeekingDown (leaves l.n (tabled l.set) l.m.e) (tabled l.set) l.i
-
-abbrev pub decreases-loop-i : goal.decreases-loop-i
-decreases-loop-i l = l.i

@@ -1,11 +1,7 @@
 -- `terms::exponents_right` meets its contract: the loop checks the exponents one by one (`FittingSoFar`). Assumes nothing.
-use Prim.Native.Nat.{◌-◌}
 use Rattle.wiring.proofs.terms.Laws.{FittingSoFar}
 use Rattle.monomial.specs.Monomial.{width}
 use Rattle.wiring.proofs.terms.exponents_right.Given as goal
 
 abbrev pub invariant-loop-i : goal.invariant-loop-i
-invariant-loop-i l = FittingSoFar width l.most l.n l.e l.i
-
-abbrev pub decreases-loop-i : goal.decreases-loop-i
-decreases-loop-i l = width - l.i
+invariant-loop-i l = FittingSoFar width l.most l.n l.m.e l.i
