@@ -1,6 +1,6 @@
 -- Wiring, for all inputs: the verdict and the list in one reply, and every byte of the buffer. Checks run 1, 2, then record by record, 8, 9, 6.
 -- Assumes nothing.
-use Rattle.std.specs.Prelude.{◌≡◌, Bool, true, false, not, cond, ◌&&◌, List, ◌++◌, ℕ, ◌*◌, ◌-◌, ◌≤◌, eqb, leb, length, replicate}
+use Rattle.std.specs.Prelude.{◌≡◌, Bool, not, cond, ◌&&◌, List, ◌++◌, ℕ, ◌*◌, ◌-◌, ◌≤◌, eqb, leb, length, replicate, ⊤, Result, Ok, Err, MatchResult}
 use Rattle.monomial.specs.Lists.{some, gather, place}
 use Rattle.monomial.specs.Monomial.{Mono, width}
 use Rattle.wiring.specs.Panel.{cards, set_bytes, set_exponent, wire_bytes}
@@ -13,23 +13,26 @@ use Rattle.wiring.specs.Signals.{signals, Fitting}
 use Rattle.wiring.specs.Terms.{records, length_right, fault, system, CleanTerms}
 use Rattle.wiring.specs.Sets.{set_of, set_right, monomials_of}
 use Rattle.wiring.specs.Wires.{Wire, wiring, wire_record}
-use Rattle.wiring.specs.declared.answers.Given.{Given}
 use Rattle.wiring.specs.declared.panel.Panel.{Panel}
 use Rattle.wiring.specs.declared.reply.Reply.{Reply}
 use Rattle.wiring.specs.declared.reply.Reply.TheVariants.{Done, Setting, Length, Term, Twice, Full, BadSet, NotQuadratic}
 use Rattle.wiring.specs.declared.sets.Set.{Set}
 use Rattle.wiring.specs.declared.terms.Fault.{Fault}
-use Rattle.wiring.specs.declared.terms.Fault.TheVariants.{Clean, Wrong, Repeated}
+use Rattle.wiring.specs.declared.terms.Fault.TheVariants.{Wrong, Repeated}
 
 -- a test that holds lets the checks go on; else this is said
 abbrev pub unless : Bool → Reply → Reply → Reply
 unless test answer rest = cond test rest answer
 
--- a refusal of the records, as it is answered; clean records let the checks go on
-abbrev pub unless_fault : {A : Type 0} → (Reply → A) → Fault → A → A
-unless_fault answer Clean rest = rest
-unless_fault answer (Wrong place) rest = answer (Term place)
-unless_fault answer (Repeated place) rest = answer (Twice place)
+-- a refusal of the records, as it is answered
+abbrev pub reply_of : Fault → Reply
+reply_of (Wrong place) = Term place
+reply_of (Repeated place) = Twice place
+
+-- clean records let the checks go on
+abbrev pub unless_fault : {A : Type 0} → (Reply → A) → Result ⊤ Fault → A → A
+unless_fault answer (Ok _) rest = rest
+unless_fault answer (Err f) rest = answer (reply_of f)
 
 module _ (n : ℕ) (fs : List (Poly Mono)) (s : List Mono) where
   abbrev pub missing : List Mono
@@ -78,13 +81,6 @@ pub record Judgeable (n : ℕ) (terms : List ℕ) (set : Set) : Type 0 where
   pub small : set.len ≤ cards
   pub fits : Fitting set_exponent (monomials_of set)
 
--- the set of a record is read; whether the record keeps its rule decides
-pub record Reads (panel : Panel) (bytes : List ℕ) (g : Given) : Type 0 where
-  pub right : g.good ≡ set_right panel bytes
-  pub said : g.said ≡ BadSet
-  pub holds : g.good ≡ true → monomials_of g.set ≡ set_of bytes
-  pub small : g.set.len ≤ cards
-
 -- the set is taken, so that the verdict is about it; or what was given is refused
 pub record Takes (panel : Panel) (terms bytes : List ℕ) (set : Set) : Type 0 where
   pub says : verdict panel terms bytes ≡ judged panel.n (system (records terms)) (set_of bytes)
@@ -95,6 +91,5 @@ pub record Refuses (panel : Panel) (terms bytes : List ℕ) (r : Reply) : Type 0
   pub says : verdict panel terms bytes ≡ r
   pub code : (numbers r).code ≡ 0 → ⊥
 
-pub record Gives (panel : Panel) (terms bytes : List ℕ) (g : Given) : Type 0 where
-  pub taken : g.good ≡ true → Takes panel terms bytes g.set
-  pub refused : g.good ≡ false → Refuses panel terms bytes g.said
+abbrev pub Gives : Panel → List ℕ → List ℕ → Result Set Reply → Type 0
+Gives panel terms bytes g = MatchResult g (Takes panel terms bytes) (Refuses panel terms bytes)

@@ -1,5 +1,5 @@
 -- Term records: what stands in the bytes, the rule of each field, and the system that they hold. Assumes nothing.
-use Rattle.std.specs.Prelude.{◌≡◌, Bool, not, cond, ◌&&◌, List, [], ◌∷◌, ◌++◌, map, ℕ, suc, ◌+◌, ◌*◌, ◌-◌, ◌/◌, ◌%◌, eqb, leb, ℤ, nat_abs, length, get_or, take, drop}
+use Rattle.std.specs.Prelude.{◌≡◌, Bool, not, cond, ◌&&◌, List, [], ◌∷◌, ◌++◌, map, ℕ, suc, ◌+◌, ◌*◌, ◌-◌, ◌/◌, ◌%◌, eqb, leb, ℤ, nat_abs, length, get_or, take, drop, ⊤, Result, Ok, Err}
 use Rattle.monomial.specs.Lists.{any, all, keep, below}
 use Rattle.monomial.specs.Monomial.{Mono, width}
 use Rattle.monomial.specs.Order.{same}
@@ -10,7 +10,7 @@ use Rattle.wiring.specs.Coefficient.{word, signed, is_zero}
 use Rattle.wiring.specs.Poly.{Poly}
 use Rattle.wiring.specs.declared.panel.Panel.{Panel}
 use Rattle.wiring.specs.declared.terms.Fault.{Fault}
-use Rattle.wiring.specs.declared.terms.Fault.TheVariants.{Clean, Wrong, Repeated}
+use Rattle.wiring.specs.declared.terms.Fault.TheVariants.{Wrong, Repeated}
 
 pub record Record : Type 0 where
   pub equation : ℕ
@@ -53,18 +53,18 @@ abbrev pub alike : Record → Record → Bool
 alike r q = eqb r.equation q.equation && same r.monomial q.monomial
 
 -- the first record that is wrong, or repeats an earlier one, decides: 3 before 4 within a record. Places count from 1
-unfoldable pub fault_from : Panel → List Record → List Record → Fault
-fault_from panel seen [] = Clean
+unfoldable pub fault_from : Panel → List Record → List Record → Result ⊤ Fault
+fault_from panel seen [] = Ok tt
 fault_from panel seen (r ∷ rs) =
     let rest = fault_from panel (seen ++ (r ∷ [])) rs in
-    cond (term_right panel r) (cond (any (alike r) seen) (Repeated (suc (length seen))) rest) (Wrong (suc (length seen)))
+    cond (term_right panel r) (cond (any (alike r) seen) (Err (Repeated (suc (length seen)))) rest) (Err (Wrong (suc (length seen))))
 
-abbrev pub fault : Panel → List Record → Fault
+abbrev pub fault : Panel → List Record → Result ⊤ Fault
 fault panel rs = fault_from panel [] rs
 
 -- records that some panel of n variables takes: what is clean for any of them is clean for one without marks
 abbrev pub CleanFor : ℕ → List ℕ → Type 0
-CleanFor n bytes = fault (full_panel n) (records bytes) ≡ Clean
+CleanFor n bytes = fault (full_panel n) (records bytes) ≡ Ok tt
 
 -- records that some panel takes
 abbrev pub CleanTerms : List ℕ → Type 0

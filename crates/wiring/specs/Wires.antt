@@ -1,6 +1,6 @@
 -- The wiring list: for each left variable ascending, each monomial of its derivative ascending, with the total coefficient and the pair
 -- (a, b) of smallest a, then smallest b, whose product it is, for any kind of monomials. Signals go by their numbers. Assumes nothing.
-use Rattle.std.specs.Prelude.{◌≡◌, Bool, true, false, not, ◌&&◌, List, [], ◌∷◌, ◌++◌, map, ℕ, suc, ◌*◌, ◌-◌, ◌≤◌, ◌<◌, T, ℤ, length, get_or, replicate}
+use Rattle.std.specs.Prelude.{◌≡◌, Bool, true, false, not, ◌&&◌, List, [], ◌∷◌, ◌++◌, map, ℕ, suc, ◌*◌, ◌-◌, ◌≤◌, ◌<◌, T, ℤ, length, get_or, replicate, Option, is_some, IfSome, MatchOption, Result, Ok, Err}
 use Rattle.monomial.specs.Lists.{place, gather}
 use Rattle.monomial.specs.Monomial.{Mono}
 use Rattle.monomial.specs.Claims.{◌∈◌}
@@ -9,11 +9,9 @@ use Rattle.wiring.specs.Poly.{Kind, Poly, plain, coeff, support}
 use Rattle.wiring.specs.Quadratic.{factor, in_v2, lacking}
 use Rattle.wiring.specs.Choice.{beyond}
 use Rattle.wiring.specs.Panel.{wire_bytes, most_signals}
-use Rattle.wiring.specs.declared.choice.Pick.{Pick}
 use Rattle.wiring.specs.declared.wires.Pair.{Pair}
-use Rattle.wiring.specs.declared.wires.Pass.{Pass}
-use Rattle.wiring.specs.declared.wires.Pass.TheVariants.{Through, Unmet}
-use Rattle.wiring.specs.declared.wires.Written.{Written}
+use Rattle.wiring.specs.declared.wires.Unmet.{Unmet}
+use Rattle.monomial.specs.declared.Monomial.{Monomial}
 
 pub record Wire : Type 0 where
   pub left : ℕ
@@ -63,34 +61,33 @@ pub record Sheet (list : List Wire) (at : ℕ) (out : List ℕ) : Type 0 where
   pub room : wire_bytes * at ≤ length out
   pub bytes : out ≡ wire_list list ++ replicate (length out - wire_bytes * at) 0
 
--- a list that was to be written: it stands there, or it is longer than the buffer holds
-abbrev pub Standing : Bool → List Wire → ℕ → List ℕ → Type 0
-Standing true list at out = Sheet list at out
-Standing false list at out = length out < wire_bytes * length list
-
-abbrev pub Wrote : List Wire → Written → List ℕ → Type 0
-Wrote list w out = Standing w.ok list w.at out
+-- a list that was to be written: so many records stand there, or it is longer than the buffer holds
+abbrev pub Wrote : List Wire → Option ℕ → List ℕ → Type 0
+Wrote list w out = MatchOption w (length out < wire_bytes * length list) (λ at. Sheet list at out)
 
 -- ---- as the code passes over the left variables
 -- the pair that it finds for m, where there is one
-pub record FirstPair (v : List Mono) (m : Mono) (p : Pair) : Type 0 where
-  pub told : p.some ≡ in_v2 plain v m
-  pub first : p.some ≡ true → p.a ≡ first_of plain v m
-  pub second : p.some ≡ true → p.b ≡ second_of plain v m
+pub record IsFirstPair (v : List Mono) (m : Mono) (p : Pair) : Type 0 where
+  pub first : p.a ≡ first_of plain v m
+  pub second : p.b ≡ second_of plain v m
   pub a_small : p.a < most_signals
   pub b_small : p.b < most_signals
 
+pub record FirstPair (v : List Mono) (m : Mono) (p : Option Pair) : Type 0 where
+  pub told : is_some p ≡ in_v2 plain v m
+  pub pair : IfSome p (IsFirstPair v m)
+
 -- what stands behind the pick and has no pair
-abbrev pub unmet_beyond : List Mono → Pick → Mono → Bool
+abbrev pub unmet_beyond : List Mono → Option Monomial → Mono → Bool
 unmet_beyond v last m = beyond last m && not (in_v2 plain v m)
 
 module _ {M : Type 0} (k : Kind M) (v : List M) where
   -- past left variable number `left`, whose derivative is p: the list goes on with its row, or p is not met
-  abbrev pub RowPassed : ℕ → Poly M → List Wire → Pass → List ℕ → Type 0
-  RowPassed left p done (Through w) out = (lacking k v p ≡ false) × Wrote (done ++ row k v left p) w out
-  RowPassed left p done (Unmet at) out = (lacking k v p ≡ true) × (at ≡ left)
+  abbrev pub RowPassed : ℕ → Poly M → List Wire → Result (Option ℕ) Unmet → List ℕ → Type 0
+  RowPassed left p done (Ok w) out = (lacking k v p ≡ false) × Wrote (done ++ row k v left p) w out
+  RowPassed left p done (Err u) out = (lacking k v p ≡ true) × (u.left ≡ left)
 
   -- past all of them: the whole list, or the first whose derivative is not met
-  abbrev pub Passed : (M → Poly M) → Pass → List ℕ → Type 0
-  Passed d (Through w) out = (place (λ z. lacking k v (d z)) v ≡ length v) × Wrote (wiring k v d) w out
-  Passed d (Unmet at) out = (at ≡ place (λ z. lacking k v (d z)) v) × (at < length v)
+  abbrev pub Passed : (M → Poly M) → Result (Option ℕ) Unmet → List ℕ → Type 0
+  Passed d (Ok w) out = (place (λ z. lacking k v (d z)) v ≡ length v) × Wrote (wiring k v d) w out
+  Passed d (Err u) out = (u.left ≡ place (λ z. lacking k v (d z)) v) × (u.left < length v)

@@ -1,24 +1,10 @@
 // One monomial of many: the best so far by an order.
-ghost use Rattle.std.specs.Prelude.{◌≡◌, List, ◌∷◌};
+ghost use Rattle.std.specs.Prelude.{◌≡◌, Bool, List, ◌∷◌, cond, MatchOption, Option, Some, None};
 ghost use Rattle.monomial.specs.Monomial.{Mono};
 ghost use Rattle.monomial.specs.Order.{before};
 ghost use Rattle.wiring.specs.Choice.{cheaper, Best};
 
 use monomial::Monomial;
-
-// A monomial, where some is true.
-#[derive(Clone, Copy)]
-pub struct Pick {
-    pub some: bool,
-    pub m: Monomial,
-}
-
-impl Pick {
-    pub const NONE: Pick = Pick {
-        some: false,
-        m: Monomial::ONE,
-    };
-}
 
 // Whether a is split rather than b.
 fn is_cheaper(a: Monomial, b: Monomial) -> bool
@@ -35,30 +21,31 @@ fn is_cheaper(a: Monomial, b: Monomial) -> bool
     a.before(b)
 }
 
-// The cheapest, once m is met too.
-pub fn cheapest(p: Pick, m: Monomial) -> Pick
-    ensures { (l : List Mono) → Best cheaper l p → Best cheaper (m.e ∷ l) result }
+// The best so far, once m is met too: m takes its place where it comes earlier.
+fn better<F: Fn(Monomial, Monomial) -> bool>(
+    best: Option<Monomial>,
+    m: Monomial,
+    earlier: F,
+) -> Option<Monomial>
+    requires { F.IsAlwaysCallable earlier }
+    ensures { MatchOption best (result ≡ Some m) (λ old. (said : Bool) × F.post earlier m old said × (result ≡ Some (cond said m old))) }
 {
-    let old = p.m;
-    if p.some {
-        if is_cheaper(m, old) {
-            return Pick { some: true, m };
-        }
-        return p;
+    match best {
+        Some(old) if !earlier(m, old) => best,
+        _ => Some(m),
     }
-    Pick { some: true, m }
+}
+
+// The cheapest, once m is met too.
+pub fn cheapest(best: Option<Monomial>, m: Monomial) -> Option<Monomial>
+    ensures { (l : List Mono) → Best cheaper l best → Best cheaper (m.e ∷ l) result }
+{
+    better(best, m, is_cheaper)
 }
 
 // The least, once m is met too.
-pub(crate) fn least(p: Pick, m: Monomial) -> Pick
-    ensures { (l : List Mono) → Best before l p → Best before (m.e ∷ l) result }
+pub(crate) fn least(best: Option<Monomial>, m: Monomial) -> Option<Monomial>
+    ensures { (l : List Mono) → Best before l best → Best before (m.e ∷ l) result }
 {
-    let old = p.m;
-    if p.some {
-        if m.before(old) {
-            return Pick { some: true, m };
-        }
-        return p;
-    }
-    Pick { some: true, m }
+    better(best, m, Monomial::before)
 }

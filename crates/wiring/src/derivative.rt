@@ -36,17 +36,12 @@ pub fn total(terms: &[u8], z: Monomial, m: Monomial) -> i32
     requires { CleanTerms terms.now × AtMost set_exponent z.e }
     ensures { result ≡ coeff plain (derivative plain (system (records terms.now)) z.e) m.e }
 {
-    let count = terms.len() / TERM_BYTES;
     let mut sum: i32 = 0;
-    let mut t: usize = 0;
-    while t < count {
+    for t in 0..terms.len() / TERM_BYTES {
         let k = power(terms, t, z);
-        if 0 < k {
-            if image(terms, t, z).same(m) {
-                sum = sum + k as i32 * coefficient::decode(terms, TERM_BYTES * t + COEFFICIENT_AT);
-            }
+        if 0 < k && image(terms, t, z).same(m) {
+            sum += i32::from(k) * coefficient::decode(terms, TERM_BYTES * t + COEFFICIENT_AT);
         }
-        t += 1;
     }
     sum
 }
@@ -72,17 +67,12 @@ pub fn may_cancel(terms: &[u8]) -> bool
     requires { CleanTerms terms.now }
     ensures { result ≡ false → Uncancelled terms.now }
 {
-    let count = terms.len() / TERM_BYTES;
-    let mut t: usize = 0;
-    while t < count {
-        let mut u: usize = 0;
-        while u < t {
+    for t in 0..terms.len() / TERM_BYTES {
+        for u in 0..t {
             if crosses(terms, t, u) {
                 return true;
             }
-            u += 1;
         }
-        t += 1;
     }
     false
 }

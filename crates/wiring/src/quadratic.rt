@@ -11,7 +11,6 @@ ghost use Rattle.wiring.specs.Signals.{Fitting, signals_at};
 ghost use Rattle.wiring.specs.Terms.{record_at, records, system, CleanTerms};
 ghost use Rattle.wiring.specs.Choice.{Offered};
 
-use super::choice::Pick;
 use super::panel::TERM_BYTES;
 use super::{coefficient, derivative, signals};
 use monomial::Monomial;
@@ -26,23 +25,23 @@ pub fn nonsquare_of(
     n: usize,
     set: &[u8],
     cancels: bool,
-) -> Pick
+) -> Option<Monomial>
     requires { CleanTerms terms.now × ((term_bytes * t + term_bytes ≤ length terms.now) × (AtMost set_exponent z.e × (cancels ≡ false → Uncancelled terms.now))) }
     ensures { Offered (offers (λ m. not (in_v2 plain (signals_at n set.now) m)) (system (records terms.now)) z.e (record_at terms.now t)) (image (record_at terms.now t) z.e) result }
 {
     if derivative::power(terms, t, z) < 1 {
-        return Pick::NONE;
+        return None;
     }
     let m = derivative::image(terms, t, z);
     if signals::is_square(n, set, m) {
-        return Pick::NONE;
+        return None;
     }
     if cancels {
         if coefficient::is_zero(derivative::total(terms, z, m)) {
-            return Pick::NONE;
+            return None;
         }
     }
-    Pick { some: true, m }
+    Some(m)
 }
 
 // Whether the derivative of z has a monomial that is not in V2 of the set.
@@ -50,14 +49,10 @@ fn has_nonsquare(terms: &[u8], z: Monomial, n: usize, set: &[u8], cancels: bool)
     requires { CleanTerms terms.now × (AtMost set_exponent z.e × (cancels ≡ false → Uncancelled terms.now)) }
     ensures { result ≡ lacking plain (signals_at n set.now) (derivative plain (system (records terms.now)) z.e) }
 {
-    let count = terms.len() / TERM_BYTES;
-    let mut t: usize = 0;
-    while t < count {
-        let p = nonsquare_of(terms, t, z, n, set, cancels);
-        if p.some {
+    for t in 0..terms.len() / TERM_BYTES {
+        if nonsquare_of(terms, t, z, n, set, cancels).is_some() {
             return true;
         }
-        t += 1;
     }
     false
 }
@@ -67,9 +62,7 @@ pub fn is_unmet(terms: &[u8], n: usize, set: &[u8], cancels: bool) -> bool
     requires { CleanTerms terms.now × ((n ≤ width) × (Fitting set_exponent (signals_at n set.now) × (cancels ≡ false → Uncancelled terms.now))) }
     ensures { result ≡ some (nonsquares plain (signals_at n set.now) (derivative plain (system (records terms.now)))) }
 {
-    let mut j = n + 1 + set.len() / WIDTH;
-    while 0 < j {
-        j -= 1;
+    for j in (0..n + 1 + set.len() / WIDTH).rev() {
         if has_nonsquare(terms, signals::signal(n, set, j), n, set, cancels) {
             return true;
         }

@@ -17,13 +17,6 @@ pub struct Set {
     pub len: usize,
 }
 
-// The set in a record, where good is true.
-#[derive(Clone, Copy)]
-pub struct SetRead {
-    pub good: bool,
-    pub set: Set,
-}
-
 impl Set {
     pub const EMPTY: Set = Set {
         m: [Monomial::ONE; CARDS],
@@ -110,31 +103,19 @@ fn set_of(s: &[u8; SET_BYTES], len: usize) -> Set
     Set { m, len }
 }
 
-// Reads a set record.
-pub(crate) fn read_set(panel: Panel, s: &[u8; SET_BYTES]) -> SetRead
+// Reads a set record: none where it breaks its rule.
+pub(crate) fn read_set(panel: Panel, s: &[u8; SET_BYTES]) -> Option<Set>
     ensures { SetReads panel s.now result }
 {
     let len = size_of(s);
     if !zero_from(s, WIDTH * len) {
-        return SetRead {
-            good: false,
-            set: Set::EMPTY,
-        };
+        return None;
     }
     if !ascends(s, len) {
-        return SetRead {
-            good: false,
-            set: Set::EMPTY,
-        };
+        return None;
     }
     if !monomials_right(panel, s, len) {
-        return SetRead {
-            good: false,
-            set: Set::EMPTY,
-        };
+        return None;
     }
-    SetRead {
-        good: true,
-        set: set_of(s, len),
-    }
+    Some(set_of(s, len))
 }

@@ -8,16 +8,30 @@ use super::panel::{
     COEFFICIENT_AT, LEAST_COEFFICIENT, MONOMIAL_AT, MOST_COEFFICIENT, Panel, TERM_BYTES,
     TERM_EXPONENT, TERMS_BYTES,
 };
+use super::reply::Reply;
 use super::{coefficient, sockets};
 use monomial::Monomial;
 use monomial::width::WIDTH;
 
-// The first record with a fault decides; places count from 1.
-#[derive(Clone, Copy)]
+// What is wrong with a record; places count from 1.
+#[derive(Clone, Copy, Debug, PartialEq, Eq)]
 pub enum Fault {
-    Clean,
     Wrong(u64),
     Repeated(u64),
+}
+
+// A refusal of the records, as it is answered.
+impl From<Fault> for Reply {
+    ghost use Rattle.wiring.specs.Answers.{reply_of};
+
+    ghost from_gives = { λ f r. r ≡ reply_of f };
+
+    fn from(f: Fault) -> Reply {
+        match f {
+            Fault::Wrong(place) => Reply::Term { place },
+            Fault::Repeated(place) => Reply::Twice { place },
+        }
+    }
 }
 
 // Whether term records have a length that records can have.
@@ -90,16 +104,17 @@ fn repeats(terms: &[u8], t: usize) -> bool
     false
 }
 
-pub fn fault_of(panel: Panel, terms: &[u8]) -> Fault
+// The first record with a fault decides.
+pub fn fault_of(panel: Panel, terms: &[u8]) -> Result<(), Fault>
     ensures { result ≡ fault panel (records terms.now) }
 {
     for t in 0..terms.len() / TERM_BYTES {
         if !term_right(panel, terms, t) {
-            return Fault::Wrong(t as u64 + 1);
+            return Err(Fault::Wrong(t as u64 + 1));
         }
         if repeats(terms, t) {
-            return Fault::Repeated(t as u64 + 1);
+            return Err(Fault::Repeated(t as u64 + 1));
         }
     }
-    Fault::Clean
+    Ok(())
 }

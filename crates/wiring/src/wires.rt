@@ -10,63 +10,43 @@ ghost use Rattle.wiring.specs.Signals.{Fitting, signals_of};
 ghost use Rattle.wiring.specs.Terms.{record_at, records, system, CleanTerms};
 ghost use Rattle.wiring.specs.Wires.{Wire, wire_record, Sheet, Wrote, FirstPair, unmet_beyond, RowPassed, Passed};
 
-use super::choice::Pick;
 use super::panel::{TERM_BYTES, WIRE_BYTES};
 use super::signals::Signals;
 use super::{buffer, coefficient, derivative, parts};
 use monomial::Monomial;
 
-// The numbers of two signals, where some is true.
+// The numbers of two signals.
 #[derive(Clone, Copy)]
 pub struct Pair {
-    pub some: bool,
     pub a: usize,
     pub b: usize,
 }
 
-impl Pair {
-    pub const NONE: Pair = Pair {
-        some: false,
-        a: 0,
-        b: 0,
-    };
-}
-
-// How far the list has come. It is longer than the buffer holds where ok is false, and then at counts no further.
-#[derive(Clone, Copy)]
-pub struct Written {
-    pub ok: bool,
-    pub at: usize,
-}
-
-// What a pass comes to: every derivative is met and the list has come so far, or that of this left variable is not.
-#[derive(Clone, Copy)]
-pub enum Pass {
-    Through(Written),
-    Unmet(usize),
+// The number of a left variable whose derivative is not met.
+#[derive(Clone, Copy, Debug, PartialEq, Eq)]
+pub struct Unmet {
+    pub left: usize,
 }
 
 // The pair of smallest a, then smallest b, whose product is m, where there is one. Most signals do not divide m.
-pub fn pair_of(v: Signals, m: Monomial) -> Pair
+pub fn pair_of(v: Signals, m: Monomial) -> Option<Pair>
     requires { (v.len ≤ most_signals) × Fitting set_exponent (signals_of v) }
     ensures { FirstPair (signals_of v) m.e result }
 {
     let len = v.len;
-    let mut r = Pair::NONE;
-    'found: for a in 0..len {
+    for a in 0..len {
         let x = v.m[a];
         if x.divides(m) {
             let rest = m.over(x);
             for b in a..len {
                 let y = v.m[b];
                 if y.same(rest) {
-                    r = Pair { some: true, a, b };
-                    break 'found;
+                    return Some(Pair { a, b });
                 }
             }
         }
     }
-    r
+    None
 }
 
 // Writes record number at.
@@ -79,35 +59,30 @@ fn put_record(out: &mut [u8], at: usize, left: usize, p: Pair, c: i32)
     buffer::put(out, WIRE_BYTES * at, &bytes);
 }
 
-// One record more behind the at records of the list: it is written where there is room.
-fn enter(out: &mut [u8], at: usize, left: usize, p: Pair, c: i32) -> Written
+// One record more behind the at records of the list: it is written where there is room. Given back is how far the list has come, and none where it is
+// longer than the buffer holds.
+fn enter(out: &mut [u8], at: usize, left: usize, p: Pair, c: i32) -> Option<usize>
     requires { (left < 256) × ((p.a < 256) × (p.b < 256)) }
     ensures { (done : List Wire) → Sheet done at out.old →
         Wrote (done ++ ((record { left = left; a = p.a; b = p.b; coefficient = c }) ∷ [])) result out.new }
 {
     if out.len() / WIRE_BYTES <= at {
-        return Written { ok: false, at };
+        return None;
     }
     put_record(out, at, left, p, c);
-    Written {
-        ok: true,
-        at: at + 1,
-    }
+    Some(at + 1)
 }
 
 // Whether record t gives the derivative of z a monomial behind the last one that has a coefficient and no pair. The total, which is dear, is asked
 // last.
-fn lacks_pair_at(terms: &[u8], t: usize, v: Signals, z: Monomial, last: Pick) -> bool
+fn lacks_pair_at(terms: &[u8], t: usize, v: Signals, z: Monomial, last: Option<Monomial>) -> bool
     requires { CleanTerms terms.now × ((term_bytes * t + term_bytes ≤ length terms.now) × ((v.len ≤ most_signals) × (Fitting set_exponent (signals_of v) × AtMost set_exponent z.e))) }
     ensures { result ≡ offers (unmet_beyond (signals_of v) last) (system (records terms.now)) z.e (record_at terms.now t) }
 {
-    let p = parts::following(terms, t, z, last);
-    if !p.some {
+    let Some(m) = parts::following(terms, t, z, last) else {
         return false;
-    }
-    let m = p.m;
-    let pair = pair_of(v, m);
-    if pair.some {
+    };
+    if pair_of(v, m).is_some() {
         return false;
     }
     !coefficient::is_zero(derivative::total(terms, z, m))
@@ -115,64 +90,58 @@ fn lacks_pair_at(terms: &[u8], t: usize, v: Signals, z: Monomial, last: Pick) ->
 
 // Whether the derivative of z has a monomial behind the last one that no two signals multiply to. Where nothing is written any more, their order
 // does not matter.
-pub fn lacks_pair(terms: &[u8], v: Signals, z: Monomial, last: Pick) -> bool
+pub fn lacks_pair(terms: &[u8], v: Signals, z: Monomial, last: Option<Monomial>) -> bool
     requires { CleanTerms terms.now × ((v.len ≤ most_signals) × (Fitting set_exponent (signals_of v) × AtMost set_exponent z.e)) }
     ensures { result ≡ some (keep (unmet_beyond (signals_of v) last) (support plain (derivative plain (system (records terms.now)) z.e))) }
 {
-    let count = terms.len() / TERM_BYTES;
-    let mut t: usize = 0;
-    while t < count {
+    for t in 0..terms.len() / TERM_BYTES {
         if lacks_pair_at(terms, t, v, z, last) {
             return true;
         }
-        t += 1;
     }
     false
 }
 
 // Passes over the derivative of one left variable: its records go behind those of the list so far. Without room the rest of it is only judged.
-fn wire_row(terms: &[u8], v: Signals, left: usize, out: &mut [u8], from: Written) -> Pass
+fn wire_row(
+    terms: &[u8],
+    v: Signals,
+    left: usize,
+    out: &mut [u8],
+    from: Option<usize>,
+) -> Result<Option<usize>, Unmet>
     requires { CleanTerms terms.now × ((v.len ≤ most_signals) × ((left < v.len) × Fitting set_exponent (signals_of v))) }
     ensures { (done : List Wire) → Wrote done from out.old →
         RowPassed plain (signals_of v) left (derivative plain (system (records terms.now)) (get_or (signals_of v) left [])) done result out.new }
 {
     let z = v.m[left];
     let mut w = from;
-    let mut last = Pick::NONE;
-    loop {
-        if !w.ok {
-            if lacks_pair(terms, v, z, last) {
-                return Pass::Unmet(left);
-            }
-            return Pass::Through(w);
-        }
-        let part = parts::next_part(terms, z, last);
-        last = part.pick;
-        if !last.some {
-            return Pass::Through(w);
-        }
-        let p = pair_of(v, last.m);
-        if !p.some {
-            return Pass::Unmet(left);
-        }
-        w = enter(out, w.at, left, p, part.total);
+    let mut last = None;
+    while let Some(at) = w {
+        let Some(part) = parts::next_part(terms, z, last) else {
+            return Ok(w);
+        };
+        let Some(pair) = pair_of(v, part.m) else {
+            return Err(Unmet { left });
+        };
+        w = enter(out, at, left, pair, part.total);
+        last = Some(part.m);
     }
+    if lacks_pair(terms, v, z, last) {
+        return Err(Unmet { left });
+    }
+    Ok(None)
 }
 
-// Passes over the left variables, ascending. Without room it goes on judging: that a set is not quadratic comes before that its list is too long.
-pub(crate) fn wire_rows(terms: &[u8], v: Signals, out: &mut [u8]) -> Pass
+// Passes over the left variables, ascending: how far the list has come, and none where it is longer than the buffer holds; or the first left variable
+// whose derivative is not met. Without room it goes on judging: that a set is not quadratic comes before that its list is too long.
+pub(crate) fn wire_rows(terms: &[u8], v: Signals, out: &mut [u8]) -> Result<Option<usize>, Unmet>
     requires { CleanTerms terms.now × ((v.len ≤ most_signals) × (Fitting set_exponent (signals_of v) × Sheet [] 0 out.old)) }
     ensures { Passed plain (signals_of v) (derivative plain (system (records terms.now))) result out.new }
 {
-    let len = v.len;
-    let mut w = Written { ok: true, at: 0 };
-    let mut left: usize = 0;
-    while left < len {
-        let Pass::Through(next) = wire_row(terms, v, left, out, w) else {
-            return Pass::Unmet(left);
-        };
-        w = next;
-        left += 1;
+    let mut w = Some(0);
+    for left in 0..v.len {
+        w = wire_row(terms, v, left, out, w)?;
     }
-    Pass::Through(w)
+    Ok(w)
 }

@@ -1,5 +1,6 @@
 -- Exactly when each verdict is given, for all numbers n and all lists of bytes: every refusal in plain equations and inequalities, in
 -- the order of document 01, and done where Definition 1 holds. The cases are all, and no two replies meet the promise. Assumes nothing.
+use Rattle.std.specs.Prelude.{Result, Ok, Err, ⊤}
 use mathlib.Core.Path.{◌≡◌, refl, sym, ap, ap₂, ◌∙◌, subst}
 use mathlib.Core.Logic.{◌⊎◌, inl, inr, ⊎_elim, ◌↔◌}
 use mathlib.Core.Bool.{true}
@@ -22,7 +23,7 @@ use Rattle.wiring.specs.declared.panel.Panel.{Panel}
 use Rattle.wiring.specs.declared.reply.Reply.{Reply}
 use Rattle.wiring.specs.declared.reply.Reply.TheVariants.{Done, Setting, Length, Term, Twice, Nothing, Full, Spent, BadSet, NotQuadratic, Unreadable, FalseLine}
 use Rattle.wiring.specs.declared.terms.Fault.{Fault}
-use Rattle.wiring.specs.declared.terms.Fault.TheVariants.{Clean, Wrong, Repeated}
+use Rattle.wiring.specs.declared.terms.Fault.TheVariants.{Wrong, Repeated}
 use Rattle.wiring.specs.Poly.{Poly, plain}
 use Rattle.wiring.specs.Derivative.{derivative}
 use Rattle.wiring.specs.Quadratic.{Quadratic}
@@ -70,11 +71,11 @@ module _ (panel : Panel) (terms set : List ℕ) where
 
   -- where n, the lengths and the records are in order, the set record decides
   module _ (r : Ranged panel) (l : Lengths terms set) where
-    said_fault : (f : Fault) → fault panel (records terms) ≡ f → verdict panel terms set ≡ unless_fault (λ x. x) f (record_judged panel fs set)
+    said_fault : (f : Result ⊤ Fault) → fault panel (records terms) ≡ f → verdict panel terms set ≡ unless_fault (λ x. x) f (record_judged panel fs set)
     said_fault f e = sym (said_rest panel terms set (panel-in panel r) (measured_in l) l.long f (sym e))
 
     said_record : Flawless panel (records terms) beyond → verdict panel terms set ≡ record_judged panel fs set
-    said_record f = said_fault Clean ((clean_exact panel (records terms) beyond).1 f)
+    said_record f = said_fault (Ok tt) ((clean_exact panel (records terms) beyond).1 f)
 
   said_judged : WellFormed panel terms set → verdict panel terms set ≡ judged panel.n fs s
   said_judged w = said_record w.ranged w.lengths w.flawless ∙ record_right panel terms set (T→is (set_right panel set) ((right_iff panel set).1 w.right))
@@ -145,8 +146,8 @@ module _ (panel : Panel) (terms set : List ℕ) where
   said : (r : Reply) → VerdictSays panel terms set r → verdict panel terms set ≡ r
   said Setting h = said_setting panel terms set (n_t→is (panel_right panel) (λ t. h (panel_out panel t)))
   said Length h = ⊎_elim (unmeasured h.0) (misfit h.0) h.1
-  said (Term p) h = said_fault h.0 h.1 (Wrong p) ((wrong_exact panel (records terms) beyond p).1 h.2)
-  said (Twice p) h = said_fault h.0 h.1 (Repeated p) ((repeated_exact panel (records terms) beyond p).1 h.2)
+  said (Term p) h = said_fault h.0 h.1 (Err (Wrong p)) ((wrong_exact panel (records terms) beyond p).1 h.2)
+  said (Twice p) h = said_fault h.0 h.1 (Err (Repeated p)) ((repeated_exact panel (records terms) beyond p).1 h.2)
   said BadSet h = said_record h.0 h.1 h.2 ∙ record_bad panel terms set (n_t→is (set_right panel set) (λ t. h.3 ((right_iff panel set).0 t)))
   said (NotQuadratic o p) h = said_judged h.0 ∙ unlinked_not h.0 p h.2 ∙ ap (λ (i : ℕ). NotQuadratic i p) (sym h.1)
   said (Done o c k) h =
@@ -167,10 +168,10 @@ module _ (panel : Panel) (terms set : List ℕ) where
       ⊎_elim (λ q. record { reply = Done (length s) 0 0; holds = (w, refl, refl, refl, q) }) (λ f. record { reply = NotQuadratic (length s) f.0; holds = (w, refl, f.1) })
       (met_or_not w)
 
-  told_fault : Ranged panel → Lengths terms set → (f : Fault) → fault panel (records terms) ≡ f → Told
-  told_fault r l (Wrong p) e = record { reply = Term p; holds = (r, l, (wrong_exact panel (records terms) beyond p).0 e) }
-  told_fault r l (Repeated p) e = record { reply = Twice p; holds = (r, l, (repeated_exact panel (records terms) beyond p).0 e) }
-  told_fault r l Clean e = go (test (set_right panel set))
+  told_fault : Ranged panel → Lengths terms set → (f : Result ⊤ Fault) → fault panel (records terms) ≡ f → Told
+  told_fault r l (Err (Wrong p)) e = record { reply = Term p; holds = (r, l, (wrong_exact panel (records terms) beyond p).0 e) }
+  told_fault r l (Err (Repeated p)) e = record { reply = Twice p; holds = (r, l, (repeated_exact panel (records terms) beyond p).0 e) }
+  told_fault r l (Ok _) e = go (test (set_right panel set))
     where
       clean : Flawless panel (records terms) beyond
       clean = (clean_exact panel (records terms) beyond).0 e

@@ -1,4 +1,6 @@
 -- Wiring, step by step: what each test of the code says of the reply. Assumes nothing.
+use Rattle.std.specs.Prelude.{Option, Some, None, Result, Ok, ⊤}
+use Rattle.std.specs.Option.{ok_or}
 use mathlib.Core.Path.{◌≡◌, refl, sym, ap, ap₂, ◌∙◌, subst}
 use mathlib.Core.Logic.{◌⊎◌, inl, inr, ⊎_elim}
 use mathlib.Core.Bool.{Bool, true, false}
@@ -17,12 +19,11 @@ use Rattle.monomial.proofs.Counting.{place_lt, place_any}
 use Rattle.monomial.proofs.order.Laws.{mono_order}
 use Rattle.wiring.specs.Panel.{set_bytes, set_exponent, wire_bytes}
 use Rattle.wiring.specs.Sockets.{count_right, panel_right}
-use Rattle.wiring.specs.declared.answers.Given.{Given}
 use Rattle.wiring.specs.declared.panel.Panel.{Panel}
 use Rattle.wiring.specs.declared.reply.Reply.{Reply}
 use Rattle.wiring.specs.declared.reply.Reply.TheVariants.{Done, Setting, Length, Full, BadSet, NotQuadratic}
 use Rattle.wiring.specs.declared.terms.Fault.{Fault}
-use Rattle.wiring.specs.declared.terms.Fault.TheVariants.{Clean}
+use Rattle.wiring.specs.declared.terms.Fault.TheVariants.{Wrong, Repeated}
 use Rattle.wiring.specs.Reply.{Numbers, numbers, Outcome, outcome, refused}
 use Rattle.wiring.specs.Poly.{Poly, plain}
 use Rattle.wiring.specs.Derivative.{derivative}
@@ -30,9 +31,9 @@ use Rattle.wiring.specs.Quadratic.{in_v2, lacking}
 use Rattle.wiring.specs.declared.sets.Set.{Set}
 use Rattle.wiring.specs.Signals.{signals, Fitting}
 use Rattle.wiring.specs.Terms.{records, length_right, fault, system}
-use Rattle.wiring.specs.Sets.{set_of, set_right, monomials_of}
+use Rattle.wiring.specs.Sets.{SetReads, set_of, set_right, monomials_of}
 use Rattle.wiring.specs.Wires.{Wire, wire_record, Sheet, Met}
-use Rattle.wiring.specs.Answers.{unless_fault, missing, first_unmet, judged, record_judged, verdict, listed, told, wires, wired, Reads, Takes, Gives}
+use Rattle.wiring.specs.Answers.{reply_of, unless_fault, missing, first_unmet, judged, record_judged, verdict, listed, told, wires, wired, Takes, Gives}
 use Rattle.wiring.proofs.quadratic.Laws.{some_nonsquares, unmet_in, nonsquares_in}
 use Rattle.wiring.proofs.reply.Laws.{same_reply}
 use Rattle.wiring.proofs.sets.Laws.{right_fits}
@@ -101,7 +102,7 @@ module _ (panel : Panel) (terms set : List ℕ) where
     unfolding verdict
     said_set_length h k = rw (e, h, ne_eqb (length set) set_bytes k)
 
-    pub said_rest : length_right terms ≡ true → length set ≡ set_bytes → (f : Fault) → f ≡ fault panel (records terms) → unless_fault (λ x. x) f (record_judged panel fs set) ≡ verdict panel terms set
+    pub said_rest : length_right terms ≡ true → length set ≡ set_bytes → (f : Result ⊤ Fault) → f ≡ fault panel (records terms) → unless_fault (λ x. x) f (record_judged panel fs set) ≡ verdict panel terms set
     unfolding verdict
     said_rest h k f q = rw (e, h, eq-eqb (length set) set_bytes k, q)
 
@@ -207,35 +208,28 @@ module _ (panel : Panel) (terms set : List ℕ) (size : ℕ) where
   wired_listed o c k e = rw e (told_listed o c k (wires panel.n (system (records terms)) (set_of set)) size)
 
 -- ---- what was given, as the code reads it
-module _ (panel : Panel) (terms bytes : List ℕ) (g : Given) where
-  -- a refusal
-  pub given_refused : (r : Reply) → verdict panel terms bytes ≡ r → ((numbers r).code ≡ 0 → ⊥) → (g.good ≡ false) × (g.said ≡ r) → Gives panel terms bytes g
-  given_refused r e k h = record {
-    taken = λ t. absurd (is→n_t g.good h.0 (is→T g.good t));
-    refused = λ t. record { says = e ∙ sym h.1; code = λ z. k (ap (λ (q : Reply). (numbers q).code) (sym h.1) ∙ z) };
-  }
+pub fault_code : (f : Fault) → (numbers (reply_of f)).code ≡ 0 → ⊥
+fault_code (Wrong p) e = omega arith
+fault_code (Repeated p) e = omega arith
 
-  -- the record, once the rest is in order
-  pub given_read : panel_right panel ≡ true → length bytes ≡ set_bytes → fault panel (records terms) ≡ Clean → verdict panel terms bytes ≡ record_judged panel (system (records terms)) bytes
-      → Reads panel bytes g → Gives panel terms bytes g
-  given_read count long clean e r = record {
-    taken = λ t.
-        let right : set_right panel bytes ≡ true = sym r.right ∙ t in
-        record {
-          says = e ∙ record_right panel terms bytes right;
-          holds = r.holds t;
-          judgeable = record {
-            few = panel_few panel count;
-            clean = clean_for panel width terms (panel_few panel count) clean;
-            small = r.small;
-            fits = subst (Fitting set_exponent) (sym (r.holds t)) (right_fits panel bytes long (is→T (set_right panel bytes) right));
-          };
-        };
-    refused = λ t. record {
-      says = e ∙ record_bad panel terms bytes (sym r.right ∙ t) ∙ sym r.said;
-      code = λ z. let q : ◌≡◌ {A = ℕ} 8 0 = ap (λ (w : Reply). (numbers w).code) (sym r.said) ∙ z in omega arith;
-    };
-  }
+-- once the rest is in order, the record decides
+pub given_read : (panel : Panel) (terms bytes : List ℕ) → panel_right panel ≡ true → length bytes ≡ set_bytes → fault panel (records terms) ≡ Ok tt
+    → verdict panel terms bytes ≡ record_judged panel (system (records terms)) bytes
+    → (read : Option Set) → SetReads panel bytes read → Gives panel terms bytes (ok_or read BadSet)
+given_read panel terms bytes count long clean e None r =
+    record { says = e ∙ record_bad panel terms bytes (sym r.right); code = λ z. omega arith }
+given_read panel terms bytes count long clean e (Some set) r =
+    let right : set_right panel bytes ≡ true = sym r.right in
+    record {
+      says = e ∙ record_right panel terms bytes right;
+      holds = r.set.holds;
+      judgeable = record {
+        few = panel_few panel count;
+        clean = clean_for panel width terms (panel_few panel count) clean;
+        small = r.set.fits;
+        fits = subst (Fitting set_exponent) (sym r.set.holds) (right_fits panel bytes long (is→T (set_right panel bytes) right));
+      };
+    }
 
 -- the set that was read is the set that was given, and the verdict is about it
 pub wired_given : (panel : Panel) (terms bytes : List ℕ) (size size' : ℕ) (set : Set) → Takes panel terms bytes set → size' ≡ size

@@ -12,13 +12,14 @@ use lib.Dec.{T, eqb, ltb, eqb→eq, eqb_refl, ltb→lt, lt→ltb}
 use Rattle.monomial.specs.Monomial.{Mono}
 use Rattle.monomial.specs.Order.{same, before}
 use Rattle.monomial.specs.Divisors.{score}
-use Rattle.monomial.specs.Claims.{◌⊆◌, Ascending, Order, Compared, less, equal, more}
+use Rattle.monomial.specs.Claims.{◌∈◌, ◌⊆◌, Ascending, Order, Compared, less, equal, more}
 use Rattle.monomial.proofs.Tests.{or_l, or_r, or_e, and_l, and_r, and_i, cond_cases, is→T, is→n_t}
 use Rattle.monomial.proofs.Members.{here, there}
 use Rattle.monomial.proofs.Loops.{OfMembers}
 use Rattle.monomial.proofs.order.Laws.{ℕ-order, mono_order}
 use Rattle.monomial.proofs.order.Ascending.{head_first}
-use Rattle.wiring.specs.declared.choice.Pick.{Pick}
+use Rattle.std.specs.Prelude.{Option, Some, None, MatchOption}
+use Rattle.monomial.specs.declared.Monomial.{Monomial}
 use Rattle.wiring.specs.Choice.{cheaper, chosen, Picked, Heads, BestOf, Best}
 
 -- ---- the best so far, by any order
@@ -27,28 +28,28 @@ module _ {earlier : Mono → Mono → Bool} (o : Order same earlier) where
   self_not m y e t = o.irrefl m (subst (λ (z : Mono). T (earlier z m)) e t)
 
   -- the first candidate
-  pub best_first : (l : List Mono) (x m : Mono) → BestOf earlier false l x → BestOf earlier true (m ∷ l) m
-  best_first l x m n = (here, λ y h t. ⊎_elim (λ e. self_not m y e t) (λ k. n y k) (Memᴰ.cases_cons h))
+  pub best_first : (l : List Mono) (m : Mono) → ((y : Mono) → y ∈ l → ⊥) → BestOf earlier (m ∷ l) m
+  best_first l m n = (here, λ y h t. ⊎_elim (λ e. self_not m y e t) (λ k. n y k) (Memᴰ.cases_cons h))
 
   -- an earlier one takes its place
-  pub best_take : (l : List Mono) (x m : Mono) → BestOf earlier true l x → T (earlier m x) → BestOf earlier true (m ∷ l) m
+  pub best_take : (l : List Mono) (x m : Mono) → BestOf earlier l x → T (earlier m x) → BestOf earlier (m ∷ l) m
   best_take l x m b s = (here, λ y h t. ⊎_elim (λ e. self_not m y e t) (λ k. b.1 y k (o.trans y m x t s)) (Memᴰ.cases_cons h))
 
   -- any other leaves it
-  pub best_keep : (l : List Mono) (x m : Mono) → BestOf earlier true l x → (T (earlier m x) → ⊥) → BestOf earlier true (m ∷ l) x
+  pub best_keep : (l : List Mono) (x m : Mono) → BestOf earlier l x → (T (earlier m x) → ⊥) → BestOf earlier (m ∷ l) x
   best_keep l x m b n =
       (there b.0, λ y h t. ⊎_elim (λ e. n (subst (λ (z : Mono). T (earlier z x)) e t)) (λ k. b.1 y k t) (Memᴰ.cases_cons h))
 
   -- only the members matter
-  pub best_members : (b : Bool) (l r : List Mono) (m : Mono) → l ⊆ r → r ⊆ l → BestOf earlier b l m → BestOf earlier b r m
-  best_members false l r m lr rl n = λ y h. n y (rl y h)
-  best_members true l r m lr rl b = (lr m b.0, λ y h. b.1 y (rl y h))
+  pub best_members : (l r : List Mono) (m : Mono) → l ⊆ r → r ⊆ l → BestOf earlier l m → BestOf earlier r m
+  best_members l r m lr rl b = (lr m b.0, λ y h. b.1 y (rl y h))
 
-  pub best_collects : (p : Pick) → OfMembers (λ l. Best earlier l p)
-  best_collects p l r lr rl b = best_members p.some l r p.m.e lr rl b
+  pub best_collects : (p : Option Monomial) → OfMembers (λ l. Best earlier l p)
+  best_collects None l r lr rl n = λ y h. n y (rl y h)
+  best_collects (Some x) l r lr rl b = best_members l r x.e lr rl b
 
   -- two that are the best of the same members are equal
-  pub best_one : (l r : List Mono) (a b : Mono) → l ⊆ r → r ⊆ l → BestOf earlier true l a → BestOf earlier true r b → a ≡ b
+  pub best_one : (l r : List Mono) (a b : Mono) → l ⊆ r → r ⊆ l → BestOf earlier l a → BestOf earlier r b → a ≡ b
   best_one l r a b lr rl p q = go (o.total a b)
     where
       go : Compared same earlier a b → a ≡ b
@@ -116,18 +117,18 @@ module _ (a b : Mono) (s t : ℕ) (ea : s ≡ score a) (eb : t ≡ score b) wher
   cheaper_tie h k x e = rw (← ea, ← eb, le-ltb s t k, eq-eqb s t (omega arith)) e
 
 -- ---- the chosen one is the cheapest
-pub chosen_best : (m : Mono) (l : List Mono) → BestOf cheaper true (m ∷ l) (chosen m l)
+pub chosen_best : (m : Mono) (l : List Mono) → BestOf cheaper (m ∷ l) (chosen m l)
 unfolding chosen
-chosen_best m [] = best_first cheap_order [] m m (λ y h. Memᴰ.not-nil h)
+chosen_best m [] = best_first cheap_order [] m (λ y h. Memᴰ.not-nil h)
 chosen_best m (x ∷ l) = step (chosen_best (cond (cheaper x m) x m) l)
   where
     -- the dearer of the two heads may be left out
-    drop_m : T (cheaper x m) → BestOf cheaper true (x ∷ l) (chosen x l) → BestOf cheaper true (m ∷ x ∷ l) (chosen x l)
+    drop_m : T (cheaper x m) → BestOf cheaper (x ∷ l) (chosen x l) → BestOf cheaper (m ∷ x ∷ l) (chosen x l)
     drop_m s b = best_keep cheap_order (x ∷ l) (chosen x l) m b (λ t. b.1 x here (cheap_order.trans x m (chosen x l) s t))
 
-    drop_x : (T (cheaper x m) → ⊥) → BestOf cheaper true (m ∷ l) (chosen m l) → BestOf cheaper true (m ∷ x ∷ l) (chosen m l)
+    drop_x : (T (cheaper x m) → ⊥) → BestOf cheaper (m ∷ l) (chosen m l) → BestOf cheaper (m ∷ x ∷ l) (chosen m l)
     drop_x n b =
-        best_members cheap_order true (x ∷ m ∷ l) (m ∷ x ∷ l) (chosen m l) swap swap
+        best_members cheap_order (x ∷ m ∷ l) (m ∷ x ∷ l) (chosen m l) swap swap
         (best_keep cheap_order (m ∷ l) (chosen m l) x b (λ t. not_x t (cheap_order.total m x)))
       where
         not_x : T (cheaper x (chosen m l)) → Compared same cheaper m x → ⊥
@@ -138,43 +139,39 @@ chosen_best m (x ∷ l) = step (chosen_best (cond (cheaper x m) x m) l)
         swap : {u w : Mono} → (u ∷ w ∷ l) ⊆ (w ∷ u ∷ l)
         swap y h = ⊎_elim (λ e. there (Memᴰ.head e)) (λ k. ⊎_elim (λ e. Memᴰ.head e) (λ j. there (there j)) (Memᴰ.cases_cons k)) (Memᴰ.cases_cons h)
 
-    step : BestOf cheaper true (cond (cheaper x m) x m ∷ l) (chosen (cond (cheaper x m) x m) l)
-        → BestOf cheaper true (m ∷ x ∷ l) (chosen (cond (cheaper x m) x m) l)
+    step : BestOf cheaper (cond (cheaper x m) x m ∷ l) (chosen (cond (cheaper x m) x m) l)
+        → BestOf cheaper (m ∷ x ∷ l) (chosen (cond (cheaper x m) x m) l)
     step =
-        cond_cases (λ (c : Mono). BestOf cheaper true (c ∷ l) (chosen c l) → BestOf cheaper true (m ∷ x ∷ l) (chosen c l)) (cheaper x m) x m drop_m drop_x
+        cond_cases (λ (c : Mono). BestOf cheaper (c ∷ l) (chosen c l) → BestOf cheaper (m ∷ x ∷ l) (chosen c l)) (cheaper x m) x m drop_m drop_x
 
 -- ---- what the loop's last pick is
-picked_by : (b : Bool) (ns r : List Mono) (p : Pick) → p.some ≡ b → r ⊆ ns → ns ⊆ r → BestOf cheaper b r p.m.e → Picked ns p
-picked_by false [] r p s rn nr n = s
-picked_by false (m ∷ l) r p s rn nr n = absurd (n m (nr m here))
-picked_by true [] r p s rn nr e = absurd (Memᴰ.not-nil (rn p.m.e e.0))
-picked_by true (m ∷ l) r p s rn nr e = (s, best_one cheap_order r (m ∷ l) p.m.e (chosen m l) rn nr e (chosen_best m l))
+pub picked : (ns r : List Mono) (p : Option Monomial) → r ⊆ ns → ns ⊆ r → Best cheaper r p → Picked ns p
+picked [] r None rn nr n = refl
+picked (m ∷ l) r None rn nr n = absurd (n m (nr m here))
+picked [] r (Some x) rn nr e = absurd (Memᴰ.not-nil (rn x.e e.0))
+picked (m ∷ l) r (Some x) rn nr e = best_one cheap_order r (m ∷ l) x.e (chosen m l) rn nr e (chosen_best m l)
 
-pub picked : (ns r : List Mono) (p : Pick) → r ⊆ ns → ns ⊆ r → Best cheaper r p → Picked ns p
-picked ns r p rn nr b = picked_by p.some ns r p refl rn nr b
-
-heads_by : (b : Bool) (l r : List Mono) (p : Pick) → Ascending before l → p.some ≡ b → r ⊆ l → l ⊆ r → BestOf before b r p.m.e → Heads l p
-heads_by false [] r p a s rl lr n = s
-heads_by false (m ∷ l) r p a s rl lr n = absurd (n m (lr m here))
-heads_by true [] r p a s rl lr e = absurd (Memᴰ.not-nil (rl p.m.e e.0))
-heads_by true (m ∷ l) r p a s rl lr e = (s, best_one mono_order r (m ∷ l) p.m.e m rl lr e least)
+pub heads : (l r : List Mono) (p : Option Monomial) → Ascending before l → r ⊆ l → l ⊆ r → Best before r p → Heads l p
+heads [] r None a rl lr n = refl
+heads (m ∷ l) r None a rl lr n = absurd (n m (lr m here))
+heads [] r (Some x) a rl lr e = absurd (Memᴰ.not-nil (rl x.e e.0))
+heads (m ∷ l) r (Some x) a rl lr e = best_one mono_order r (m ∷ l) x.e m rl lr e least
   where
-    least : BestOf before true (m ∷ l) m
+    least : BestOf before (m ∷ l) m
     least =
         (here, λ y h t. ⊎_elim (λ q. mono_order.irrefl m (subst (λ (z : Mono). T (before z m)) q t)) (λ k. mono_order.irrefl m (mono_order.trans m y m (head_first a y k) t)) (Memᴰ.cases_cons h))
 
-pub heads : (l r : List Mono) (p : Pick) → Ascending before l → r ⊆ l → l ⊆ r → Best before r p → Heads l p
-heads l r p a rl lr b = heads_by p.some l r p a refl rl lr b
+-- ---- one more candidate, told by the code's test
+-- m takes the place of the best so far where the code says so
+abbrev pub Better : (Monomial → Bool → Type 0) → Option Monomial → Monomial → Option Monomial → Type 0
+Better says best m r = MatchOption best (r ≡ Some m) (λ old. (said : Bool) × says old said × (r ≡ Some (cond said m old)))
 
--- ---- one more candidate, told by the code's tests
-module _ {earlier : Mono → Mono → Bool} (o : Order same earlier) (l : List Mono) (p : Pick) (m : Mono) (b : Best earlier l p) where
-  pub met_first : p.some ≡ false → BestOf earlier true (m ∷ l) m
-  met_first e = best_first o l p.m.e m (subst (λ (s : Bool). BestOf earlier s l p.m.e) e b)
+module _ {earlier : Mono → Mono → Bool} (o : Order same earlier) (l : List Mono) (m : Monomial) where
+  better_by : (old : Monomial) (said : Bool) → said ≡ earlier m.e old.e → BestOf earlier l old.e → BestOf earlier (m.e ∷ l) (cond said m old).e
+  better_by old true e b = best_take o l old.e m.e b (is→T (earlier m.e old.e) (sym e))
+  better_by old false e b = best_keep o l old.e m.e b (is→n_t (earlier m.e old.e) (sym e))
 
-  pub met_take : p.some ≡ true → earlier m p.m.e ≡ true → BestOf earlier true (m ∷ l) m
-  met_take e t = best_take o l p.m.e m (subst (λ (s : Bool). BestOf earlier s l p.m.e) e b) (is→T (earlier m p.m.e) t)
-
-  pub met_keep : p.some ≡ true → earlier m p.m.e ≡ false → Best earlier (m ∷ l) p
-  met_keep e t =
-      subst (λ (s : Bool). BestOf earlier s (m ∷ l) p.m.e) (sym e)
-      (best_keep o l p.m.e m (subst (λ (s : Bool). BestOf earlier s l p.m.e) e b) (is→n_t (earlier m p.m.e) t))
+  pub better_best : {says : Monomial → Bool → Type 0} → ((old : Monomial) (said : Bool) → says old said → said ≡ earlier m.e old.e)
+      → (best r : Option Monomial) → Better says best m r → Best earlier l best → Best earlier (m.e ∷ l) r
+  better_best true_said None r e b = rw e (best_first o l m.e b)
+  better_best true_said (Some old) r h b = rw h.2 (better_by old h.0 (true_said old h.0 h.1) b)

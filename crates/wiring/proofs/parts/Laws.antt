@@ -1,7 +1,6 @@
 -- The monomials of a derivative, one after the other: those that the records give, and of these the ones with a coefficient. Assumes nothing.
 use mathlib.Core.Path.{◌≡◌, refl, sym, ap, ap₂, ◌∙◌, subst}
-use mathlib.Core.Logic.{⊎_elim}
-use mathlib.Core.Bool.{Bool, true, false, not, ◌||◌}
+use mathlib.Core.Bool.{Bool, true, false, not}
 use mathlib.Core.List.Memᴰ
 use mathlib.Core.List.{List, [], ◌∷◌, map}
 use Prim.Native.Nat.{◌<◌}
@@ -12,7 +11,7 @@ use Rattle.monomial.specs.Lists.{keep}
 use Rattle.monomial.specs.Monomial.{Mono}
 use Rattle.monomial.specs.Order.{before}
 use Rattle.monomial.specs.Claims.{◌∈◌, ◌⊆◌, Ascending}
-use Rattle.monomial.proofs.Tests.{and_l, and_r, and_i, or_e, or_l, or_r, is→T, is→n_t, Tested, passed, failed, test}
+use Rattle.monomial.proofs.Tests.{and_l, and_r, and_i, is→T, is→n_t, Tested, passed, failed, test}
 use Rattle.monomial.proofs.Members.{here, keep_in, keep_out, keep_yes, keep_no, keep_all, keep_swap}
 use Rattle.monomial.proofs.order.Laws.{mono_order, not_both}
 use Rattle.monomial.proofs.order.Ascending.{head_first, tail_asc, keep_asc, arrange_asc, arrange_in, arrange_out, sub_length, sub_equal}
@@ -21,7 +20,8 @@ use Rattle.wiring.specs.Poly.{Poly, plain, coeff, support}
 use Rattle.wiring.specs.Derivative.{derivative, power, image, gives, images}
 use Rattle.wiring.specs.Terms.{Record, system}
 use Rattle.wiring.specs.Choice.{Heads, beyond}
-use Rattle.wiring.specs.declared.choice.Pick.{Pick}
+use Rattle.std.specs.Prelude.{Option, Some, None}
+use Rattle.monomial.specs.declared.Monomial.{Monomial}
 use Rattle.wiring.proofs.Poly.{support_asc, support_in, support_out, is-zero, zero_is}
 use Rattle.wiring.proofs.derivative.Records.{Derived, derived}
 use Rattle.wiring.proofs.quadratic.Records.{imaged}
@@ -93,74 +93,72 @@ module _ (rs : List Record) (z : Mono) where
           (not_T (is_zero (coeff plain p m)) (λ t. s.1 (zero_is (coeff plain p m) t)))
 
 -- ---- the entries of an ascending list behind a pick: the first of them, and then those behind it
-pub beyond_some : (q : Pick) (l : List Mono) → q.some ≡ true → keep (beyond q) l ≡ keep (before q.m.e) l
-beyond_some q l e = ap (λ (b : Bool). keep (λ (m : Mono). not b || before q.m.e m) l) e
+pub beyond_none : (l : List Mono) → keep (beyond None) l ≡ l
+beyond_none l = keep_all (beyond None) l (λ x m. tt)
 
-pub beyond_none : (q : Pick) (l : List Mono) → q.some ≡ false → keep (beyond q) l ≡ l
-beyond_none q l e = keep_all (beyond q) l (λ x m. subst (λ (b : Bool). T (not b || before q.m.e x)) (sym e) tt)
-
-pub heads_none : (l : List Mono) (q : Pick) → q.some ≡ false → Heads l q → l ≡ []
-heads_none [] q e h = refl
-heads_none (m ∷ l) q e h = absurd (is→n_t q.some e (is→T q.some h.0))
+pub heads_none : (l : List Mono) → Heads l None → l ≡ []
+heads_none [] h = refl
+heads_none (m ∷ l) h = absurd h
 
 -- what stands behind an entry that is behind p is behind p
-beyond_trans : (p : Pick) (x y : Mono) → T (beyond p x) → T (before x y) → T (beyond p y)
-beyond_trans p x y t s =
-    ⊎_elim (λ n. or_l (not p.some) (before p.m.e y) n) (λ b. or_r (not p.some) (before p.m.e y) (mono_order.trans p.m.e x y b s))
-    (or_e (not p.some) (before p.m.e x) t)
+beyond_trans : (p : Option Monomial) (x y : Mono) → T (beyond p x) → T (before x y) → T (beyond p y)
+beyond_trans None x y t s = tt
+beyond_trans (Some p) x y t s = mono_order.trans p.e x y t s
 
-pub behind_next : (p q : Pick) (l : List Mono) → Ascending before l → q.some ≡ true → Heads (keep (beyond p) l) q → keep (beyond p) l ≡ q.m.e ∷ keep (beyond q) l
+pub behind_next : (p : Option Monomial) (q : Monomial) (l : List Mono) → Ascending before l → Heads (keep (beyond p) l) (Some q)
+    → keep (beyond p) l ≡ q.e ∷ keep (beyond (Some q)) l
 unfolding keep
-behind_next p q [] a e h = absurd (is→n_t q.some h (is→T q.some e))
-behind_next p q (x ∷ l) a e h = go (test (beyond p x)) (behind_next p q l (tail_asc a) e)
+behind_next p q [] a h = let z : ◌≡◌ {A = Bool} true false = h in cc
+behind_next p q (x ∷ l) a h = go (test (beyond p x)) (behind_next p q l (tail_asc a))
   where
-    go : Tested (beyond p x) → (Heads (keep (beyond p) l) q → keep (beyond p) l ≡ q.m.e ∷ keep (beyond q) l) → keep (beyond p) (x ∷ l) ≡ q.m.e ∷ keep (beyond q) (x ∷ l)
+    go : Tested (beyond p x) → (Heads (keep (beyond p) l) (Some q) → keep (beyond p) l ≡ q.e ∷ keep (beyond (Some q)) l)
+        → keep (beyond p) (x ∷ l) ≡ q.e ∷ keep (beyond (Some q)) (x ∷ l)
     go (passed t) ih =
-        let here_x : q.m.e ≡ x = (rw t at h).1 in
+        let here_x : q.e ≡ x = rw t at h in
         let rest_p : keep (beyond p) l ≡ l = keep_all (beyond p) l (λ y m. beyond_trans p x y (is→T (beyond p x) t) (head_first a y m)) in
-        let rest_q : keep (beyond q) (x ∷ l) ≡ l =
-        beyond_some q (x ∷ l) e ∙ ap (λ (y : Mono). keep (before y) (x ∷ l)) here_x ∙ keep_no (before x) x l (mono_order.irrefl x) ∙ keep_all (before x) l (head_first a) in
+        let rest_q : keep (before q.e) (x ∷ l) ≡ l =
+        ap (λ (y : Mono). keep (before y) (x ∷ l)) here_x ∙ keep_no (before x) x l (mono_order.irrefl x) ∙ keep_all (before x) l (head_first a) in
         rw t (ap₂ ◌∷◌ (sym here_x) (rest_p ∙ sym rest_q))
     go (failed t) ih =
-        let k : keep (beyond p) l ≡ q.m.e ∷ keep (beyond q) l = ih (rw t at h) in
-        let member : q.m.e ∈ l = (keep_out (beyond p) l (subst (λ (r : List Mono). q.m.e ∈ r) (sym k) here)).0 in
-        let low : T (before x q.m.e) = head_first a q.m.e member in
-        let out : keep (beyond q) (x ∷ l) ≡ keep (beyond q) l = beyond_some q (x ∷ l) e ∙ keep_no (before q.m.e) x l (not_both mono_order x q.m.e low) ∙ sym (beyond_some q l e) in
-        rw t (k ∙ ap (◌∷◌ q.m.e) (sym out))
+        let k : keep (beyond p) l ≡ q.e ∷ keep (before q.e) l = ih (rw t at h) in
+        let member : q.e ∈ l = (keep_out (beyond p) l (subst (λ (r : List Mono). q.e ∈ r) (sym k) here)).0 in
+        let low : T (before x q.e) = head_first a q.e member in
+        let out : keep (before q.e) (x ∷ l) ≡ keep (before q.e) l = keep_no (before q.e) x l (not_both mono_order x q.e low) in
+        rw t (k ∙ ap (◌∷◌ q.e) (sym out))
 
 -- ---- passing over those whose total is 0
-module _ (rs : List Record) (z : Mono) (last : Pick) where
+module _ (rs : List Record) (z : Mono) (last : Option Monomial) where
   abbrev parts : List Mono
   parts = support plain (derivative plain (system rs) z)
 
   -- what is behind the pick and has a coefficient is all that is behind the last
-  pub record Parting (behind : Pick) : Type 0 where
+  pub record Parting (behind : Option Monomial) : Type 0 where
     pub rest : keep (counts rs z) (keep (beyond behind) (images rs z)) ≡ keep (beyond last) parts
 
   pub parting_start : Parting last
   parting_start = record { rest = keep_swap (counts rs z) (beyond last) (images rs z) ∙ ap (keep (beyond last)) (images_support rs z) }
 
-  module _ {behind : Pick} (w : Parting behind) (pick : Pick) (h : Heads (keep (beyond behind) (images rs z)) pick) where
-    pub parting_none : pick.some ≡ false → Heads (keep (beyond last) parts) pick
+  module _ {behind : Option Monomial} (w : Parting behind) where
+    pub parting_none : Heads (keep (beyond behind) (images rs z)) None → Heads (keep (beyond last) parts) None
     unfolding keep
-    parting_none e =
-        let none = heads_none (keep (beyond behind) (images rs z)) pick e h in
-        subst (λ (l : List Mono). Heads l pick) (ap (keep (counts rs z)) (sym none) ∙ w.rest) e
+    parting_none h =
+        let none = heads_none (keep (beyond behind) (images rs z)) h in
+        subst (λ (l : List Mono). Heads l None) (ap (keep (counts rs z)) (sym none) ∙ w.rest) refl
 
-    module _ (e : pick.some ≡ true) where
-      next : keep (beyond behind) (images rs z) ≡ pick.m.e ∷ keep (beyond pick) (images rs z)
-      next = behind_next behind pick (images rs z) (images_asc rs z) e h
+    module _ (m : Monomial) (h : Heads (keep (beyond behind) (images rs z)) (Some m)) where
+      next : keep (beyond behind) (images rs z) ≡ m.e ∷ keep (beyond (Some m)) (images rs z)
+      next = behind_next behind m (images rs z) (images_asc rs z) h
 
-      pub parting_here : is_zero (coeff plain (derivative plain (system rs) z) pick.m.e) ≡ false → Heads (keep (beyond last) parts) pick
+      pub parting_here : is_zero (coeff plain (derivative plain (system rs) z) m.e) ≡ false → Heads (keep (beyond last) parts) (Some m)
       parting_here n =
-          let own : T (counts rs z pick.m.e) = not_T (is_zero (coeff plain (derivative plain (system rs) z) pick.m.e)) (is→n_t _ n) in
+          let own : T (counts rs z m.e) = not_T (is_zero (coeff plain (derivative plain (system rs) z) m.e)) (is→n_t _ n) in
           let list = ap (keep (counts rs z)) (sym next) ∙ w.rest in
-          subst (λ (l : List Mono). Heads l pick) (sym (keep_yes (counts rs z) pick.m.e (keep (beyond pick) (images rs z)) own) ∙ list) (e, refl)
+          subst (λ (l : List Mono). Heads l (Some m)) (sym (keep_yes (counts rs z) m.e (keep (beyond (Some m)) (images rs z)) own) ∙ list) refl
 
-      pub parting_on : is_zero (coeff plain (derivative plain (system rs) z) pick.m.e) ≡ true → Parting pick
+      pub parting_on : is_zero (coeff plain (derivative plain (system rs) z) m.e) ≡ true → Parting (Some m)
       parting_on n =
-          let out : T (counts rs z pick.m.e) → ⊥ = λ t. T_not (is_zero (coeff plain (derivative plain (system rs) z) pick.m.e)) t (is→T _ n) in
-          record { rest = sym (keep_no (counts rs z) pick.m.e (keep (beyond pick) (images rs z)) out) ∙ ap (keep (counts rs z)) (sym next) ∙ w.rest }
+          let out : T (counts rs z m.e) → ⊥ = λ t. T_not (is_zero (coeff plain (derivative plain (system rs) z) m.e)) t (is→T _ n) in
+          record { rest = sym (keep_no (counts rs z) m.e (keep (beyond (Some m)) (images rs z)) out) ∙ ap (keep (counts rs z)) (sym next) ∙ w.rest }
 
-      pub parting_less : length (keep (beyond pick) (images rs z)) < length (keep (beyond behind) (images rs z))
+      pub parting_less : length (keep (beyond (Some m)) (images rs z)) < length (keep (beyond behind) (images rs z))
       parting_less = let k = ap length next in omega arith

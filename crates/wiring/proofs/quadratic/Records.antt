@@ -23,7 +23,8 @@ use Rattle.wiring.specs.Coefficient.{is_zero}
 use Rattle.wiring.specs.Poly.{Poly, plain, coeff, support}
 use Rattle.wiring.specs.Derivative.{derivative, power, image, gives, offers}
 use Rattle.wiring.specs.Terms.{Record, record_at, records, system}
-use Rattle.wiring.specs.declared.choice.Pick.{Pick}
+use Rattle.std.specs.Prelude.{Option, Some, None}
+use Rattle.monomial.specs.declared.Monomial.{Monomial}
 use Rattle.wiring.specs.Choice.{beyond, Heads, Best, Offered}
 use Rattle.wiring.specs.Wires.{unmet_beyond}
 use Rattle.wiring.proofs.Poly.{support_in, support_out, zero_is}
@@ -33,47 +34,43 @@ use Rattle.wiring.specs.Quadratic.{in_v2, unmet}
 use Rattle.wiring.proofs.terms.Laws.{records_at}
 
 -- ---- a record's turn, by the tests of the code: the power x, the monomial m, the test's word, whether the total is zero
--- nothing is offered
-none_offered : {b : Bool} (m : Mono) (q : Pick) → q.some ≡ false → b ≡ false → Offered b m q
-none_offered m q e o = record { told = e ∙ sym o; is = λ t. absurd (is→n_t q.some e (is→T q.some t)) }
-
 module _ (f : Mono → Bool) (z : Mono) (r : Record) where
-  pub given_low : (x : ℕ) (q : Pick) → x ≡ power r z → x < 1 → q.some ≡ false → Offered (gives f z r) (image r z) q
+  pub given_low : (x : ℕ) → x ≡ power r z → x < 1 → Offered (gives f z r) (image r z) None
   unfolding gives
-  given_low x q ex h e = none_offered (image r z) q e (rw (lt-leb 1 (power r z) (omega arith)))
+  given_low x ex h = record { told = sym (rw (lt-leb 1 (power r z) (omega arith))); is = tt }
 
-  module _ (x : ℕ) (m : Mono) (ex : x ≡ power r z) (h : 1 ≤ x) (em : m ≡ image r z) where
-    gives_as : (b : Bool) → f m ≡ b → gives f z r ≡ b
+  module _ (x : ℕ) (m : Monomial) (ex : x ≡ power r z) (h : 1 ≤ x) (em : m.e ≡ image r z) where
+    gives_as : (b : Bool) → f m.e ≡ b → gives f z r ≡ b
     unfolding gives
     gives_as b p = rw (le-leb 1 (power r z) (omega arith), ← em, p)
 
-    pub given_fails : (q : Pick) → f m ≡ false → q.some ≡ false → Offered (gives f z r) (image r z) q
-    given_fails q p e = none_offered (image r z) q e (gives_as false p)
+    pub given_fails : f m.e ≡ false → Offered (gives f z r) (image r z) None
+    given_fails p = record { told = sym (gives_as false p); is = tt }
 
-    pub given_here : (q : Pick) → f m ≡ true → q.some ≡ true → q.m.e ≡ m → Offered (gives f z r) (image r z) q
-    given_here q p e qm = record { told = e ∙ sym (gives_as true p); is = λ s. qm ∙ em }
+    pub given_here : f m.e ≡ true → Offered (gives f z r) (image r z) (Some m)
+    given_here p = record { told = sym (gives_as true p); is = em }
 
 -- and with a coefficient
 module _ (f : Mono → Bool) (fs : List (Poly Mono)) (z : Mono) (r : Record) where
-  pub offered_low : (x : ℕ) (q : Pick) → x ≡ power r z → x < 1 → q.some ≡ false → Offered (offers f fs z r) (image r z) q
+  pub offered_low : (x : ℕ) → x ≡ power r z → x < 1 → Offered (offers f fs z r) (image r z) None
   unfolding offers gives
-  offered_low x q ex h e = none_offered (image r z) q e (rw (lt-leb 1 (power r z) (omega arith)))
+  offered_low x ex h = record { told = sym (rw (lt-leb 1 (power r z) (omega arith))); is = tt }
 
-  module _ (x : ℕ) (m : Mono) (ex : x ≡ power r z) (h : 1 ≤ x) (em : m ≡ image r z) where
-    pub offered_fails : (q : Pick) → f m ≡ false → q.some ≡ false → Offered (offers f fs z r) (image r z) q
+  module _ (x : ℕ) (m : Monomial) (ex : x ≡ power r z) (h : 1 ≤ x) (em : m.e ≡ image r z) where
+    pub offered_fails : f m.e ≡ false → Offered (offers f fs z r) (image r z) None
     unfolding offers
-    offered_fails q p e = none_offered (image r z) q e (rw (gives_as f z r x m ex h em false p))
+    offered_fails p = record { told = sym (rw (gives_as f z r x m ex h em false p)); is = tt }
 
-    pub offered_zero : (q : Pick) → f m ≡ true → is_zero (coeff plain (derivative plain fs z) m) ≡ true → q.some ≡ false → Offered (offers f fs z r) (image r z) q
+    pub offered_zero : f m.e ≡ true → is_zero (coeff plain (derivative plain fs z) m.e) ≡ true → Offered (offers f fs z r) (image r z) None
     unfolding offers
-    offered_zero q p t e = none_offered (image r z) q e (rw (gives_as f z r x m ex h em true p, ← em, t))
+    offered_zero p t = record { told = sym (rw (gives_as f z r x m ex h em true p, ← em, t)); is = tt }
 
-    pub offered_here : (q : Pick) → f m ≡ true → is_zero (coeff plain (derivative plain fs z) m) ≡ false → q.some ≡ true → q.m.e ≡ m → Offered (offers f fs z r) (image r z) q
+    pub offered_here : f m.e ≡ true → is_zero (coeff plain (derivative plain fs z) m.e) ≡ false → Offered (offers f fs z r) (image r z) (Some m)
     unfolding offers
-    offered_here q p t e qm = record { told = e ∙ sym (rw (gives_as f z r x m ex h em true p, ← em, t)); is = λ s. qm ∙ em }
+    offered_here p t = record { told = sym (rw (gives_as f z r x m ex h em true p, ← em, t)); is = em }
 
 -- a record that gives a monomial behind the last one: it offers exactly where that has a coefficient and no pair
-module _ (v : List Mono) (last : Pick) (fs : List (Poly Mono)) (z : Mono) (r : Record) where
+module _ (v : List Mono) (last : Option Monomial) (fs : List (Poly Mono)) (z : Mono) (r : Record) where
   offered_beyond : T (offers (unmet_beyond v last) fs z r) → T (gives (beyond last) z r) × (T (in_v2 plain v (image r z)) → ⊥)
   unfolding offers gives
   offered_beyond t =
@@ -195,7 +192,7 @@ module _ (g : Record → Bool) (z : Mono) where
     meets_one o e more = collecting_next met rs d h c o (λ m p. rw e (more m p))
 
   -- the least of them all is the first of an ascending list with the same members
-  pub meets_heads : (rs : List Record) (t : ℕ) (best : Pick) → Collecting met rs (λ l. Best before l best) t → length rs ≤ t
+  pub meets_heads : (rs : List Record) (t : ℕ) (best : Option Monomial) → Collecting met rs (λ l. Best before l best) t → length rs ≤ t
       → (all : List Mono) → Ascending before all → imaged rs ⊆ all → all ⊆ imaged rs → Heads all best
   meets_heads rs t best c h all asc inside outside =
       heads all (imaged rs) best asc inside outside (subst (λ (l : List Mono). Best before l best) (met_all rs) (collecting_end met rs c h))

@@ -29,7 +29,8 @@ use Rattle.wiring.specs.Terms.{exponents_right}
 use Rattle.wiring.proofs.terms.Laws.{exponents_everywhere}
 use Rattle.wiring.proofs.kit.Laws.{may_can}
 use Rattle.wiring.specs.Sets.{places, size_of, set_of, ascending, monomial_right, set_right, monomials_of, SetReads}
-use Rattle.wiring.specs.declared.sets.SetRead.{SetRead}
+use Rattle.wiring.specs.declared.sets.Set.{Set}
+use Rattle.std.specs.Prelude.{Some, None}
 use Rattle.wiring.proofs.terms.Laws.{all_small}
 
 -- ---- a chain that tests every entry says what the test of all says
@@ -207,37 +208,29 @@ module _ (panel : Panel) (bytes : List ℕ) (len : ℕ) (e : len ≡ size_of byt
   unfolding set_right set_of zeros order each
   sized = rw e
 
-  refused : (r : SetRead) → r.good ≡ false → r.set.len ≡ 0 → (T (zeros && order && each) → ⊥) → SetReads panel bytes r
-  refused r bad none f = record {
-    right = bad ∙ sym (sized ∙ n_t→is (zeros && order && each) f);
-    holds = λ g. absurd (is→n_t r.good bad (is→T r.good g));
-    size = λ g. absurd (is→n_t r.good bad (is→T r.good g));
-    fits = omega arith;
-  }
+  refused : (T (zeros && order && each) → ⊥) → SetReads panel bytes None
+  refused f = record { right = sym (sized ∙ n_t→is (zeros && order && each) f); set = tt }
 
-  module _ (r : SetRead) (bad : r.good ≡ false) (none : r.set.len ≡ 0) where
-    pub refused_bytes : all (eqb 0) (drop (width * len) bytes) ≡ false → SetReads panel bytes r
-    unfolding zeros
-    refused_bytes f = refused r bad none (λ t. is→n_t zeros f (search (and_l, and_r, t)))
+  pub refused_bytes : all (eqb 0) (drop (width * len) bytes) ≡ false → SetReads panel bytes None
+  unfolding zeros
+  refused_bytes f = refused (λ t. is→n_t zeros f (search (and_l, and_r, t)))
 
-    pub refused_order : ascending (take len (places bytes)) ≡ false → SetReads panel bytes r
-    unfolding order
-    refused_order f = refused r bad none (λ t. is→n_t order f (search (and_l, and_r, t)))
+  pub refused_order : ascending (take len (places bytes)) ≡ false → SetReads panel bytes None
+  unfolding order
+  refused_order f = refused (λ t. is→n_t order f (search (and_l, and_r, t)))
 
-    pub refused_monomial : all (monomial_right panel) (take len (places bytes)) ≡ false → SetReads panel bytes r
-    unfolding each
-    refused_monomial f = refused r bad none (λ t. is→n_t each f (search (and_l, and_r, t)))
+  pub refused_monomial : all (monomial_right panel) (take len (places bytes)) ≡ false → SetReads panel bytes None
+  unfolding each
+  refused_monomial f = refused (λ t. is→n_t each f (search (and_l, and_r, t)))
 
   pub accepted : all (eqb 0) (drop (width * len) bytes) ≡ true → ascending (take len (places bytes)) ≡ true → all (monomial_right panel) (take len (places bytes)) ≡ true
-      → (r : SetRead) → r.good ≡ true → len ≤ cards → monomials_of r.set ≡ take len (places bytes) → r.set.len ≡ len → SetReads panel bytes r
+      → (set : Set) → len ≤ cards → monomials_of set ≡ take len (places bytes) → set.len ≡ len → SetReads panel bytes (Some set)
   unfolding set_of zeros order each
-  accepted z o m r good h is long =
+  accepted z o m set h is long =
       let whole : take len (places bytes) ≡ set_of bytes = ap (λ (k : ℕ). take k (places bytes)) e in
       record {
-        right = good ∙ sym (sized ∙ rw (z, o, m));
-        holds = λ g. is ∙ whole;
-        size = λ g. long ∙ sym (used_length bytes len h) ∙ ap length whole;
-        fits = omega arith;
+        right = sym (sized ∙ rw (z, o, m));
+        set = record { holds = is ∙ whole; size = long ∙ sym (used_length bytes len h) ∙ ap length whole; fits = omega arith };
       }
 
 -- ---- what a right record holds

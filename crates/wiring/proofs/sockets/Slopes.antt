@@ -1,6 +1,7 @@
 -- The derivative of a signal does not matter: a monomial without signals has the same derivative whatever the equations of the signals are, and
 -- of a signal's own nothing is asked. Over clean records the derivative that the definitions take is that of what has one, on all of V.
 -- Assumes nothing.
+use Rattle.std.specs.Prelude.{Ok}
 use mathlib.Core.Path.{◌≡◌, refl, sym, ap, ap₂, ◌∙◌, subst, fun_ext}
 use mathlib.Core.Logic.{⊎_elim, ◌↔◌}
 use mathlib.Core.Bool.{true, false}
@@ -26,7 +27,6 @@ use Rattle.wiring.specs.Derivative.{part, parts_from, derivative}
 use Rattle.wiring.specs.Quadratic.{multiplied, Linked, Quadratic}
 use Rattle.wiring.specs.Signals.{signals}
 use Rattle.wiring.specs.Terms.{records, fault, system}
-use Rattle.wiring.specs.declared.terms.Fault.TheVariants.{Clean}
 use Rattle.wiring.specs.Claims.{Free, LeftLinked, slope, Driven, FirstUnlinked}
 use Rattle.wiring.proofs.terms.Laws.{clean_right, fields_out}
 use Rattle.wiring.proofs.signals.Laws.{signals_cases}
@@ -125,7 +125,7 @@ constant_one w i j z h a b = go (test (eqb i j))
         absurd (omega arith)
 
 -- ---- over clean records no signal has an equation, and its own derivative is nothing
-module _ (panel : Panel) (terms : List ℕ) (clean : fault panel (records terms) ≡ Clean) where
+module _ (panel : Panel) (terms : List ℕ) (clean : fault panel (records terms) ≡ Ok tt) where
   signal_flat : (z : Mono) → z ∈ constants width → free panel.marks z ≡ false → derivative plain (system (records terms)) z ≡ []
   signal_flat z h e = no_members (derivative plain (system (records terms)) z) (λ t k. none (derived (records terms) z t.1 (Memᴰ.map (λ (x : Term Mono). x.1) k)))
     where

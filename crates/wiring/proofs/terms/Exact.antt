@@ -1,5 +1,7 @@
 -- When each refusal of the term records is said, exactly: every rule in plain equations and inequalities, and which record decides.
 -- Assumes nothing.
+use Rattle.std.specs.Prelude.{Result, Ok, Err, ⊤}
+use Rattle.wiring.specs.declared.terms.Fault.{Fault}
 use mathlib.Core.Path.{◌≡◌, refl, sym, ap, ◌∙◌, subst}
 use mathlib.Core.Logic.{◌↔◌}
 use mathlib.Core.Bool.{true, not, ◌&&◌}
@@ -20,7 +22,7 @@ use Rattle.wiring.specs.Panel.{term_bytes, terms_bytes, most_coefficient, term_e
 use Rattle.wiring.specs.declared.panel.Panel.{Panel}
 use Rattle.wiring.specs.Coefficient.{is_zero}
 use Rattle.wiring.specs.Terms.{Record, length_right, coefficient_right, term_right, alike, fault}
-use Rattle.wiring.specs.declared.terms.Fault.TheVariants.{Clean, Wrong, Repeated}
+use Rattle.wiring.specs.declared.terms.Fault.TheVariants.{Wrong, Repeated}
 use Rattle.wiring.specs.Claims.{Measured, Keeps, Alike, Fine, Breaks, Repeats, Flawless}
 use Rattle.wiring.proofs.Poly.{zero_is, is-zero}
 use Rattle.wiring.proofs.terms.Laws.{wrong_clean, repeated_clean, exponents_in, exponents_everywhere, Fields, fields_in, fields_out, alike_in, alike_out, Judging, judging_start, judging_wrong, judging_repeated, judging_on, judging_ends}
@@ -66,13 +68,13 @@ pub term_exact : (panel : Panel) (r : Record) → (term_right panel r ≡ true) 
 term_exact panel r = ((λ e. keeps_out panel r (fields_out panel r (is→T (term_right panel r) e))), (λ k. T→is (term_right panel r) (fields_in panel r (keeps_in panel r k))))
 
 -- ---- the three answers are apart, and each tells its place
-wrong_repeated : {C : Type 0} {p q : ℕ} → Wrong p ≡ Repeated q → C
+wrong_repeated : {C : Type 0} {p q : ℕ} → ◌≡◌ {A = Result ⊤ Fault} (Err (Wrong p)) (Err (Repeated q)) → C
 wrong_repeated e = let z : ◌≡◌ {A = ℕ} 0 1 = cc in let y : ⊥ = omega arith in absurd y
 
-wrong_same : {p q : ℕ} → Wrong p ≡ Wrong q → p ≡ q
+wrong_same : {p q : ℕ} → ◌≡◌ {A = Result ⊤ Fault} (Err (Wrong p)) (Err (Wrong q)) → p ≡ q
 wrong_same e = cc
 
-repeated_same : {p q : ℕ} → Repeated p ≡ Repeated q → p ≡ q
+repeated_same : {p q : ℕ} → ◌≡◌ {A = Result ⊤ Fault} (Err (Repeated p)) (Err (Repeated q)) → p ≡ q
 repeated_same e = cc
 
 -- ---- which record decides. Records are numbered from 0; d stands for a record beyond the last, of which nothing is said
@@ -105,21 +107,21 @@ module _ (panel : Panel) (rs : List Record) (d : Record) where
       let new = n_t→is (any (alike (at i)) (take i rs)) (λ t. let e = repeated_out i (omega arith) t in own.new e.0 e.1 e.2) in
       subst (Judging panel rs) (add-one i) (judging_on d (judged i (omega arith) (λ j k. f j (omega arith))) (omega arith) ((term_exact panel (at i)).1 own.keeps) new)
 
-  wrong_says : (p : ℕ) → Breaks panel rs d p → fault panel rs ≡ Wrong p
+  wrong_says : (p : ℕ) → Breaks panel rs d p → fault panel rs ≡ Err (Wrong p)
   wrong_says p b =
       let i = b.number in
       let bad = n_t→is (term_right panel (at i)) (λ t. b.wrong ((term_exact panel (at i)).0 (T→is (term_right panel (at i)) t))) in
       let c = b.counted in
-      sym (judging_wrong d (judged i (omega arith) b.before) c bad) ∙ ap Wrong (add-one i ∙ sym b.place)
+      sym (judging_wrong d (judged i (omega arith) b.before) c bad) ∙ ap {B = Result ⊤ Fault} (λ (k : ℕ). Err (Wrong k)) (add-one i ∙ sym b.place)
 
-  repeated_says : (p : ℕ) → Repeats panel rs d p → fault panel rs ≡ Repeated p
+  repeated_says : (p : ℕ) → Repeats panel rs d p → fault panel rs ≡ Err (Repeated p)
   repeated_says p b =
       let i = b.number in
       let c = b.counted in
       let seen = T→is (any (alike (at i)) (take i rs)) (repeated_in i b.earlier b.sooner (omega arith) b.same) in
-      sym (judging_repeated d (judged i (omega arith) b.before) c ((term_exact panel (at i)).1 b.keeps) seen) ∙ ap Repeated (add-one i ∙ sym b.place)
+      sym (judging_repeated d (judged i (omega arith) b.before) c ((term_exact panel (at i)).1 b.keeps) seen) ∙ ap {B = Result ⊤ Fault} (λ (k : ℕ). Err (Repeated k)) (add-one i ∙ sym b.place)
 
-  clean_says : Flawless panel rs d → fault panel rs ≡ Clean
+  clean_says : Flawless panel rs d → fault panel rs ≡ Ok tt
   clean_says f =
       let all = judged (length rs) (omega arith) (λ j k. record { keeps = f.keeps j k; new = λ i h. f.apart j i h k }) in
       sym (judging_ends all (omega arith))
@@ -154,26 +156,26 @@ module _ (panel : Panel) (rs : List Record) (d : Record) where
   verdict = verdict_from (length rs) 0 (omega arith) (λ j h. absurd (omega arith))
 
   -- ---- each answer is given exactly where its condition holds
-  pub wrong_exact : (p : ℕ) → (fault panel rs ≡ Wrong p) ↔ Breaks panel rs d p
+  pub wrong_exact : (p : ℕ) → (fault panel rs ≡ Err (Wrong p)) ↔ Breaks panel rs d p
   wrong_exact p = (out verdict, wrong_says p)
     where
-      out : Verdict → fault panel rs ≡ Wrong p → Breaks panel rs d p
+      out : Verdict → fault panel rs ≡ Err (Wrong p) → Breaks panel rs d p
       out (flawless f) e = wrong_clean (sym e ∙ clean_says f)
       out (breaks q b) e = subst (Breaks panel rs d) (wrong_same (sym (wrong_says q b) ∙ e)) b
       out (repeats q b) e = wrong_repeated (sym e ∙ repeated_says q b)
 
-  pub repeated_exact : (p : ℕ) → (fault panel rs ≡ Repeated p) ↔ Repeats panel rs d p
+  pub repeated_exact : (p : ℕ) → (fault panel rs ≡ Err (Repeated p)) ↔ Repeats panel rs d p
   repeated_exact p = (out verdict, repeated_says p)
     where
-      out : Verdict → fault panel rs ≡ Repeated p → Repeats panel rs d p
+      out : Verdict → fault panel rs ≡ Err (Repeated p) → Repeats panel rs d p
       out (flawless f) e = repeated_clean (sym e ∙ clean_says f)
       out (breaks q b) e = wrong_repeated (sym (wrong_says q b) ∙ e)
       out (repeats q b) e = subst (Repeats panel rs d) (repeated_same (sym (repeated_says q b) ∙ e)) b
 
-  pub clean_exact : (fault panel rs ≡ Clean) ↔ Flawless panel rs d
+  pub clean_exact : (fault panel rs ≡ Ok tt) ↔ Flawless panel rs d
   clean_exact = (out verdict, clean_says)
     where
-      out : Verdict → fault panel rs ≡ Clean → Flawless panel rs d
+      out : Verdict → fault panel rs ≡ Ok tt → Flawless panel rs d
       out (flawless f) e = f
       out (breaks q b) e = wrong_clean (sym (wrong_says q b) ∙ e)
       out (repeats q b) e = repeated_clean (sym (repeated_says q b) ∙ e)

@@ -1,4 +1,6 @@
 -- Term records as a list, what clean ones hold, and the loops that judge them. Assumes nothing.
+use Rattle.std.specs.Prelude.{Result, Ok, Err, ⊤}
+use Rattle.wiring.specs.declared.terms.Fault.{Fault}
 use mathlib.Core.Path.{◌≡◌, refl, sym, ap, ◌∙◌, subst}
 use mathlib.Core.Logic.{⊎_elim}
 use mathlib.Core.Bool.{Bool, true, false, not}
@@ -27,7 +29,7 @@ use Rattle.wiring.specs.Sockets.{full_panel, marked}
 use Rattle.wiring.specs.declared.panel.Panel.{Panel}
 use Rattle.wiring.specs.Coefficient.{is_zero}
 use Rattle.wiring.specs.Terms.{Record, record_at, records, exponents_right, coefficient_right, term_right, alike, fault_from, fault, CleanFor, CleanTerms}
-use Rattle.wiring.specs.declared.terms.Fault.TheVariants.{Clean, Wrong, Repeated}
+use Rattle.wiring.specs.declared.terms.Fault.TheVariants.{Wrong, Repeated}
 use Rattle.wiring.specs.Claims.{Unlike}
 use Rattle.wiring.proofs.sockets.Laws.{unmarked}
 
@@ -65,19 +67,19 @@ alike_out r q t = (
 )
 
 -- ---- clean records
-pub wrong_clean : {C : Type 0} {p : ℕ} → Wrong p ≡ Clean → C
+pub wrong_clean : {C : Type 0} {p : ℕ} → ◌≡◌ {A = Result ⊤ Fault} (Err (Wrong p)) (Ok tt) → C
 wrong_clean e = let z : ◌≡◌ {A = ℕ} 0 1 = cc in let y : ⊥ = omega arith in absurd y
 
-pub repeated_clean : {C : Type 0} {p : ℕ} → Repeated p ≡ Clean → C
+pub repeated_clean : {C : Type 0} {p : ℕ} → ◌≡◌ {A = Result ⊤ Fault} (Err (Repeated p)) (Ok tt) → C
 repeated_clean e = let z : ◌≡◌ {A = ℕ} 0 1 = cc in let y : ⊥ = omega arith in absurd y
 
 -- the first of clean records keeps its rule and repeats none that was seen, and those behind it are clean where it has been seen
 pub record Leading (panel : Panel) (seen : List Record) (r : Record) (rs : List Record) : Type 0 where
   pub right : T (term_right panel r)
   pub new : T (any (alike r) seen) → ⊥
-  pub rest : fault_from panel (seen ++ (r ∷ [])) rs ≡ Clean
+  pub rest : fault_from panel (seen ++ (r ∷ [])) rs ≡ Ok tt
 
-pub clean_leads : (panel : Panel) (seen : List Record) (r : Record) (rs : List Record) → fault_from panel seen (r ∷ rs) ≡ Clean → Leading panel seen r rs
+pub clean_leads : (panel : Panel) (seen : List Record) (r : Record) (rs : List Record) → fault_from panel seen (r ∷ rs) ≡ Ok tt → Leading panel seen r rs
 unfolding fault_from
 clean_leads panel seen r rs e = go (test (term_right panel r)) (test (any (alike r) seen))
   where
@@ -86,23 +88,23 @@ clean_leads panel seen r rs e = go (test (term_right panel r)) (test (any (alike
     go (passed p) (passed q) = repeated_clean (rw (p, q) at e)
     go (passed p) (failed q) = record { right = is→T (term_right panel r) p; new = is→n_t (any (alike r) seen) q; rest = rw (p, q) at e }
 
-pub clean_cons : (panel : Panel) (seen : List Record) (r : Record) (rs : List Record) → Leading panel seen r rs → fault_from panel seen (r ∷ rs) ≡ Clean
+pub clean_cons : (panel : Panel) (seen : List Record) (r : Record) (rs : List Record) → Leading panel seen r rs → fault_from panel seen (r ∷ rs) ≡ Ok tt
 unfolding fault_from
 clean_cons panel seen r rs l = rw (T→is (term_right panel r) l.right, n_t→is (any (alike r) seen) l.new) l.rest
 
-pub clean_none : (panel : Panel) (seen : List Record) → fault_from panel seen [] ≡ Clean
+pub clean_none : (panel : Panel) (seen : List Record) → fault_from panel seen [] ≡ Ok tt
 unfolding fault_from
 clean_none panel seen = refl
 
 -- each keeps its rule
-pub clean_right : (panel : Panel) (seen rs : List Record) → fault_from panel seen rs ≡ Clean → (r : Record) → r ∈ rs → T (term_right panel r)
+pub clean_right : (panel : Panel) (seen rs : List Record) → fault_from panel seen rs ≡ Ok tt → (r : Record) → r ∈ rs → T (term_right panel r)
 clean_right panel seen [] e r h = absurd (Memᴰ.not-nil h)
 clean_right panel seen (q ∷ rs) e r h =
     let l = clean_leads panel seen q rs e in
     ⊎_elim (λ i. subst (λ x. T (term_right panel x)) (sym i) l.right) (λ k. clean_right panel (seen ++ (q ∷ [])) rs l.rest r k) (Memᴰ.cases_cons h)
 
 -- and is like none that was seen
-pub clean_new : (panel : Panel) (seen rs : List Record) → fault_from panel seen rs ≡ Clean → (q r : Record) → q ∈ seen → r ∈ rs → T (alike r q) → ⊥
+pub clean_new : (panel : Panel) (seen rs : List Record) → fault_from panel seen rs ≡ Ok tt → (q r : Record) → q ∈ seen → r ∈ rs → T (alike r q) → ⊥
 clean_new panel seen [] e q r s h t = Memᴰ.not-nil h
 clean_new panel seen (p ∷ rs) e q r s h t =
     let l = clean_leads panel seen p rs e in
@@ -110,13 +112,13 @@ clean_new panel seen (p ∷ rs) e q r s h t =
     (λ k. clean_new panel (seen ++ (p ∷ [])) rs l.rest q r (Memᴰ.append_left (p ∷ []) s) k t)
     (Memᴰ.cases_cons h)
 
-pub clean_unlike : (panel : Panel) (seen rs : List Record) → fault_from panel seen rs ≡ Clean → Unlike rs
+pub clean_unlike : (panel : Panel) (seen rs : List Record) → fault_from panel seen rs ≡ Ok tt → Unlike rs
 clean_unlike panel seen [] e = tt
 clean_unlike panel seen (q ∷ rs) e =
     let l = clean_leads panel seen q rs e in
     (λ r h. clean_new panel (seen ++ (q ∷ [])) rs l.rest q r (Memᴰ.append_right seen here) h, clean_unlike panel (seen ++ (q ∷ [])) rs l.rest)
 
-pub clean_take : (panel : Panel) (seen rs : List Record) (t : ℕ) → fault_from panel seen rs ≡ Clean → fault_from panel seen (take t rs) ≡ Clean
+pub clean_take : (panel : Panel) (seen rs : List Record) (t : ℕ) → fault_from panel seen rs ≡ Ok tt → fault_from panel seen (take t rs) ≡ Ok tt
 unfolding fault_from
 clean_take panel seen [] zero e = refl
 clean_take panel seen [] (suc t) e = refl
@@ -293,17 +295,17 @@ module _ (panel wide : Panel) (more : panel.n ≤ wide.n) (fewer : (i : ℕ) →
         coefficient = f.coefficient;
       })
 
-  pub clean_widens : (rs : List Record) → fault panel rs ≡ Clean → fault wide rs ≡ Clean
+  pub clean_widens : (rs : List Record) → fault panel rs ≡ Ok tt → fault wide rs ≡ Ok tt
   clean_widens rs e = widen [] rs e
     where
-      widen : (seen rs : List Record) → fault_from panel seen rs ≡ Clean → fault_from wide seen rs ≡ Clean
+      widen : (seen rs : List Record) → fault_from panel seen rs ≡ Ok tt → fault_from wide seen rs ≡ Ok tt
       widen seen [] e = clean_none wide seen
       widen seen (r ∷ rs) e =
           let l = clean_leads panel seen r rs e in
           clean_cons wide seen r rs (record { right = right_widens r l.right; new = l.new; rest = widen (seen ++ (r ∷ [])) rs l.rest })
 
 -- records that are clean for a panel are clean for one of as many variables, or of more, without marks
-pub clean_for : (panel : Panel) (b : ℕ) (bytes : List ℕ) → panel.n ≤ b → fault panel (records bytes) ≡ Clean → CleanFor b bytes
+pub clean_for : (panel : Panel) (b : ℕ) (bytes : List ℕ) → panel.n ≤ b → fault panel (records bytes) ≡ Ok tt → CleanFor b bytes
 clean_for panel b bytes h = clean_widens panel (full_panel b) h (λ i e. unmarked i) (records bytes)
 
 -- ---- a loop that judges the records, and has come to number t: what is left says what the whole says
@@ -318,11 +320,11 @@ module _ (d : Record) {panel : Panel} {rs : List Record} {t : ℕ} (j : Judging 
   seen : length (take t rs) ≡ t
   seen = length-take-le t rs (omega arith)
 
-  pub judging_wrong : term_right panel (get_or rs t d) ≡ false → Wrong (t + 1) ≡ fault panel rs
+  pub judging_wrong : term_right panel (get_or rs t d) ≡ false → Err (Wrong (t + 1)) ≡ fault panel rs
   unfolding fault_from
   judging_wrong e = rw (add-one t) (rw (drop-cons rs t d h, e, seen) at j.rest)
 
-  pub judging_repeated : term_right panel (get_or rs t d) ≡ true → any (alike (get_or rs t d)) (take t rs) ≡ true → Repeated (t + 1) ≡ fault panel rs
+  pub judging_repeated : term_right panel (get_or rs t d) ≡ true → any (alike (get_or rs t d)) (take t rs) ≡ true → Err (Repeated (t + 1)) ≡ fault panel rs
   unfolding fault_from
   judging_repeated e f = rw (add-one t) (rw (drop-cons rs t d h, e, f, seen) at j.rest)
 
@@ -330,7 +332,7 @@ module _ (d : Record) {panel : Panel} {rs : List Record} {t : ℕ} (j : Judging 
   unfolding fault_from
   judging_on e f = record { within = omega arith; rest = rw (add-one t, take-suc rs t d h) (rw (drop-cons rs t d h, e, f) at j.rest) }
 
-pub judging_ends : {panel : Panel} {rs : List Record} {t : ℕ} → Judging panel rs t → length rs ≤ t → Clean ≡ fault panel rs
+pub judging_ends : {panel : Panel} {rs : List Record} {t : ℕ} → Judging panel rs t → length rs ≤ t → Ok tt ≡ fault panel rs
 unfolding fault_from
 judging_ends {panel} {rs} {t} j h = rw (drop_of_length-le rs h) at j.rest
 
@@ -342,10 +344,10 @@ module _ (bytes : List ℕ) {panel : Panel} {t : ℕ} (j : Judging panel (record
   inside : t < length (records bytes)
   inside = rw (records_length bytes) h
 
-  pub records_wrong : term_right panel (record_at bytes t) ≡ false → Wrong (t + 1) ≡ fault panel (records bytes)
+  pub records_wrong : term_right panel (record_at bytes t) ≡ false → Err (Wrong (t + 1)) ≡ fault panel (records bytes)
   records_wrong e = judging_wrong (record_at bytes t) j inside (ap (term_right panel) is ∙ e)
 
-  pub records_repeated : term_right panel (record_at bytes t) ≡ true → any (alike (record_at bytes t)) (take t (records bytes)) ≡ true → Repeated (t + 1) ≡ fault panel (records bytes)
+  pub records_repeated : term_right panel (record_at bytes t) ≡ true → any (alike (record_at bytes t)) (take t (records bytes)) ≡ true → Err (Repeated (t + 1)) ≡ fault panel (records bytes)
   records_repeated e f = judging_repeated (record_at bytes t) j inside (ap (term_right panel) is ∙ e) (ap (λ (r : Record). any (alike r) (take t (records bytes))) is ∙ f)
 
   pub records_on : term_right panel (record_at bytes t) ≡ true → any (alike (record_at bytes t)) (take t (records bytes)) ≡ false → Judging panel (records bytes) (t + 1)

@@ -2,7 +2,7 @@
 -- Assumes nothing.
 use mathlib.Core.Path.{◌≡◌, refl, sym, ap, ap₂, ◌∙◌, subst}
 use mathlib.Core.Logic.{⊎_elim}
-use mathlib.Core.Bool.{Bool, true, false, not}
+use mathlib.Core.Bool.{true, false, not}
 use mathlib.Core.List.Memᴰ
 use mathlib.Core.List.{List, [], ◌∷◌, ◌++◌, map, append-nil, append_assoc, map-append}
 use Prim.Native.Nat.{ℕ, zero, suc, ◌+◌, ◌*◌, ◌-◌, ◌/◌, ◌<◌, ◌≤◌}
@@ -24,10 +24,10 @@ use Rattle.wiring.specs.Panel.{wire_bytes}
 use Rattle.wiring.specs.Poly.{Poly, plain, coeff, support}
 use Rattle.wiring.specs.Quadratic.{in_v2, unmet, lacking}
 use Rattle.wiring.specs.Choice.{Heads, beyond}
-use Rattle.wiring.specs.declared.choice.Pick.{Pick}
-use Rattle.wiring.specs.declared.wires.Pass.TheVariants.{Through, Unmet}
-use Rattle.wiring.specs.declared.wires.Written.{Written}
-use Rattle.wiring.specs.Wires.{Wire, first_of, second_of, row, rows_from, wiring, wire_record, wire_list, Sheet, Standing, Wrote, unmet_beyond, RowPassed, Passed}
+use Rattle.std.specs.Prelude.{Option, Some, None, Ok, Err}
+use Rattle.monomial.specs.declared.Monomial.{Monomial}
+use Rattle.wiring.specs.declared.wires.Unmet.{Unmet}
+use Rattle.wiring.specs.Wires.{Wire, first_of, second_of, row, rows_from, wiring, wire_record, wire_list, Sheet, Wrote, unmet_beyond, RowPassed, Passed}
 use Rattle.wiring.proofs.Poly.{support_asc}
 use Rattle.wiring.proofs.quadratic.Laws.{unmet_in, unmet_out}
 use Rattle.wiring.proofs.parts.Laws.{beyond_none, heads_none, behind_next}
@@ -91,14 +91,6 @@ sheet_more list at out w s h = record { counted = counted; room = room; bytes = 
         ∙ ap (λ (l : List ℕ). l ++ replicate (length written - wire_bytes * (at + 1)) 0)
         (sym (gather_append wire_record list (w ∷ []) ∙ ap (λ (l : List ℕ). wire_list list ++ l) (append-nil (wire_record w))))
 
--- ---- what was written, by the word of the code
-module _ (list : List Wire) (w : Written) (out : List ℕ) where
-  pub wrote_out : (b : Bool) → w.ok ≡ b → Wrote list w out → Standing b list w.at out
-  wrote_out b e s = subst (λ (t : Bool). Standing t list w.at out) e s
-
-  pub wrote_in : (b : Bool) → w.ok ≡ b → Standing b list w.at out → Wrote list w out
-  wrote_in b e s = subst (λ (t : Bool). Standing t list w.at out) (sym e) s
-
 -- one record more than the buffer holds
 pub sheet_long : (list : List Wire) (at : ℕ) (x : Wire) (out : List ℕ) → Sheet list at out → length out / wire_bytes ≤ at → length out < wire_bytes * length (list ++ (x ∷ []))
 sheet_long list at x out s h = let e = length-append list (x ∷ []) in let c = s.counted in omega arith
@@ -115,24 +107,24 @@ module _ (v : List Mono) (left : ℕ) (p : Poly Mono) where
   wire_is m a b x ea eb ex = rw (ea, eb, ex)
 
   -- the monomials up to the last one have passed, each of them in V2 and with its record, behind what was written from w₀ on
-  pub record Rowing (w₀ : Written) (out₀ : List ℕ) (last : Pick) (w : Written) (out : List ℕ) : Type 0 where
+  pub record Rowing (w₀ : Option ℕ) (out₀ : List ℕ) (last : Option Monomial) (w : Option ℕ) (out : List ℕ) : Type 0 where
     pub passed_by : List Mono
     pub whole : passed_by ++ keep (beyond last) S ≡ S
     pub met : (m : Mono) → m ∈ passed_by → T (in_v2 plain v m)
     pub long : length out ≡ length out₀
     pub wrote : (done : List Wire) → Wrote done w₀ out₀ → Wrote (done ++ map wire_of passed_by) w out
 
-  pub rowing_start : (w : Written) (out : List ℕ) (none : Pick) → none.some ≡ false → Rowing w out none w out
-  rowing_start w out none e = record {
+  pub rowing_start : (w : Option ℕ) (out : List ℕ) → Rowing w out None w out
+  rowing_start w out = record {
     passed_by = [];
-    whole = beyond_none none S e;
+    whole = beyond_none S;
     met = λ m h. absurd (Memᴰ.not-nil h);
     long = refl;
     wrote = λ done s. subst (λ (l : List Wire). Wrote l w out) (sym (append-nil done)) s;
   }
 
   -- nothing more is written: what is behind the last one is judged
-  module _ {w₀ : Written} {out₀ : List ℕ} {last : Pick} {w : Written} {out : List ℕ} (r : Rowing w₀ out₀ last w out) (ok : w.ok ≡ false) where
+  module _ {w₀ : Option ℕ} {out₀ : List ℕ} {last : Option Monomial} {out : List ℕ} (r : Rowing w₀ out₀ last None out) where
     pub rowing_lacks : some (keep (unmet_beyond v last) S) ≡ true → some (unmet plain v p) ≡ true
     rowing_lacks t =
         let x = some_out (keep (unmet_beyond v last) S) (is→T (some (keep (unmet_beyond v last) S)) t) in
@@ -140,9 +132,9 @@ module _ (v : List Mono) (left : ℕ) (p : Poly Mono) where
         let no = T_not (in_v2 plain v x.0) (and_r (beyond last x.0) (not (in_v2 plain v x.0)) k.1) in
         T→is (some (unmet plain v p)) (some_in (unmet_in plain mono_order v p x.0 k.0 no))
 
-    pub rowing_judged : some (keep (unmet_beyond v last) S) ≡ false → (done : List Wire) → Wrote done w₀ out₀ → RowPassed plain v left p done (Through w) out
+    pub rowing_judged : some (keep (unmet_beyond v last) S) ≡ false → (done : List Wire) → Wrote done w₀ out₀ → RowPassed plain v left p done (Ok None) out
     unfolding row
-    rowing_judged t done s = (n_t→is (some (unmet plain v p)) all_met, wrote_in (done ++ map wire_of S) w out false ok long)
+    rowing_judged t done s = (n_t→is (some (unmet plain v p)) all_met, long)
       where
         all_met : T (some (unmet plain v p)) → ⊥
         all_met q =
@@ -155,17 +147,17 @@ module _ (v : List Mono) (left : ℕ) (p : Poly Mono) where
 
         long : length out < wire_bytes * length (done ++ map wire_of S)
         long =
-            let far = wrote_out (done ++ map wire_of r.passed_by) w out false ok (r.wrote done s) in
+            let far = r.wrote done s in
             let a = length-append done (map wire_of r.passed_by) in
             let b = length-append done (map wire_of S) in
             let c = length-append r.passed_by (keep (beyond last) S) in
             omega (arith, ap length r.whole, length-map r.passed_by wire_of, length-map S wire_of)
 
-  module _ {w₀ : Written} {out₀ : List ℕ} {last : Pick} {w : Written} {out : List ℕ} (r : Rowing w₀ out₀ last w out) (next : Pick) (h : Heads (keep (beyond last) S) next) where
+  module _ {w₀ : Option ℕ} {out₀ : List ℕ} {last : Option Monomial} {w : Option ℕ} {out : List ℕ} (r : Rowing w₀ out₀ last w out) where
     -- none is left: the row is whole, and each of its monomials is in V2
-    module _ (e : next.some ≡ false) where
+    module _ (h : Heads (keep (beyond last) S) None) where
       all_passed : r.passed_by ≡ S
-      all_passed = sym (append-nil r.passed_by) ∙ ap (λ (l : List Mono). r.passed_by ++ l) (sym (heads_none (keep (beyond last) S) next e h)) ∙ r.whole
+      all_passed = sym (append-nil r.passed_by) ∙ ap (λ (l : List Mono). r.passed_by ++ l) (sym (heads_none (keep (beyond last) S) h)) ∙ r.whole
 
       row_met : some (unmet plain v p) ≡ false
       row_met = n_t→is (some (unmet plain v p)) (λ t.
@@ -173,51 +165,51 @@ module _ (v : List Mono) (left : ℕ) (p : Poly Mono) where
           let u = unmet_out plain mono_order v p x.0 x.1 in
           u.1 (r.met x.0 (subst (λ (l : List Mono). x.0 ∈ l) (sym all_passed) u.0)))
 
-      pub rowing_ends : (done : List Wire) → Wrote done w₀ out₀ → RowPassed plain v left p done (Through w) out
+      pub rowing_ends : (done : List Wire) → Wrote done w₀ out₀ → RowPassed plain v left p done (Ok w) out
       unfolding row
       rowing_ends done s = (row_met, subst (λ (l : List Mono). Wrote (done ++ map wire_of l) w out) all_passed (r.wrote done s))
 
-    module _ (e : next.some ≡ true) where
-      onward : keep (beyond last) S ≡ next.m.e ∷ keep (beyond next) S
-      onward = behind_next last next S (support_asc plain mono_order p) e h
+    module _ (m : Monomial) (h : Heads (keep (beyond last) S) (Some m)) where
+      onward : keep (beyond last) S ≡ m.e ∷ keep (beyond (Some m)) S
+      onward = behind_next last m S (support_asc plain mono_order p) h
 
-      listed : next.m.e ∈ S
-      listed = (keep_out (beyond last) S (subst (λ (l : List Mono). next.m.e ∈ l) (sym onward) here)).0
+      listed : m.e ∈ S
+      listed = (keep_out (beyond last) S (subst (λ (l : List Mono). m.e ∈ l) (sym onward) here)).0
 
       -- the next one is not in V2
-      pub rowing_unmet : in_v2 plain v next.m.e ≡ false → some (unmet plain v p) ≡ true
-      rowing_unmet n = T→is (some (unmet plain v p)) (some_in (unmet_in plain mono_order v p next.m.e listed (is→n_t (in_v2 plain v next.m.e) n)))
+      pub rowing_unmet : in_v2 plain v m.e ≡ false → some (unmet plain v p) ≡ true
+      rowing_unmet n = T→is (some (unmet plain v p)) (some_in (unmet_in plain mono_order v p m.e listed (is→n_t (in_v2 plain v m.e) n)))
 
       -- or it is, and has its record
-      pub rowing_more : (w' : Written) (out' : List ℕ) (x : Wire) → in_v2 plain v next.m.e ≡ true → x ≡ wire_of next.m.e → length out' ≡ length out
-          → ((done : List Wire) → Wrote done w out → Wrote (done ++ (x ∷ [])) w' out') → Rowing w₀ out₀ next w' out'
+      pub rowing_more : (w' : Option ℕ) (out' : List ℕ) (x : Wire) → in_v2 plain v m.e ≡ true → x ≡ wire_of m.e → length out' ≡ length out
+          → ((done : List Wire) → Wrote done w out → Wrote (done ++ (x ∷ [])) w' out') → Rowing w₀ out₀ (Some m) w' out'
       rowing_more w' out' x t xe l one_more = record {
-        passed_by = r.passed_by ++ (next.m.e ∷ []);
-        whole = append_assoc r.passed_by (next.m.e ∷ []) (keep (beyond next) S) ∙ ap (λ (l : List Mono). r.passed_by ++ l) (sym onward) ∙ r.whole;
-        met = λ m k. ⊎_elim (r.met m) (λ j. ⊎_elim (λ q. subst (λ (y : Mono). T (in_v2 plain v y)) (sym q) (is→T (in_v2 plain v next.m.e) t)) (λ n. absurd (Memᴰ.not-nil n)) (Memᴰ.cases_cons j))
+        passed_by = r.passed_by ++ (m.e ∷ []);
+        whole = append_assoc r.passed_by (m.e ∷ []) (keep (beyond (Some m)) S) ∙ ap (λ (l : List Mono). r.passed_by ++ l) (sym onward) ∙ r.whole;
+        met = λ y k. ⊎_elim (r.met y) (λ j. ⊎_elim (λ q. subst (λ (z : Mono). T (in_v2 plain v z)) (sym q) (is→T (in_v2 plain v m.e) t)) (λ n. absurd (Memᴰ.not-nil n)) (Memᴰ.cases_cons j))
             (Memᴰ.append_cases r.passed_by k);
         long = l ∙ r.long;
         wrote = λ done s. subst (λ (q : List Wire). Wrote q w' out') (more done) (one_more (done ++ map wire_of r.passed_by) (r.wrote done s));
       }
         where
-          more : (done : List Wire) → (done ++ map wire_of r.passed_by) ++ (x ∷ []) ≡ done ++ map wire_of (r.passed_by ++ (next.m.e ∷ []))
+          more : (done : List Wire) → (done ++ map wire_of r.passed_by) ++ (x ∷ []) ≡ done ++ map wire_of (r.passed_by ++ (m.e ∷ []))
           more done =
               append_assoc done (map wire_of r.passed_by) (x ∷ [])
-              ∙ ap (λ (q : List Wire). done ++ q) (ap (λ (y : Wire). map wire_of r.passed_by ++ (y ∷ [])) xe ∙ sym (map-append wire_of r.passed_by (next.m.e ∷ [])))
+              ∙ ap (λ (q : List Wire). done ++ q) (ap (λ (y : Wire). map wire_of r.passed_by ++ (y ∷ [])) xe ∙ sym (map-append wire_of r.passed_by (m.e ∷ [])))
 
-      pub rowing_less : length (keep (beyond next) S) < length (keep (beyond last) S)
+      pub rowing_less : length (keep (beyond (Some m)) S) < length (keep (beyond last) S)
       rowing_less = let k = ap length onward in omega arith
 
 -- ---- the rows of the signals, one after the other
 module _ (v : List Mono) (d : Mono → Poly Mono) where
   -- the first signals are met and their rows written, and the rows from number `left` on make the list whole
-  pub record Listing (left : ℕ) (w : Written) (out : List ℕ) : Type 0 where
+  pub record Listing (left : ℕ) (w : Option ℕ) (out : List ℕ) : Type 0 where
     pub looked : Placing (λ z. lacking plain v (d z)) v left
     pub done : List Wire
     pub wrote : Wrote done w out
     pub whole : done ++ rows_from plain v d left (drop left v) ≡ wiring plain v d
 
-  pub listing_start : (w : Written) (out : List ℕ) → Wrote [] w out → Listing 0 w out
+  pub listing_start : (w : Option ℕ) (out : List ℕ) → Wrote [] w out → Listing 0 w out
   unfolding wiring
   listing_start w out s = record { looked = placing_start (λ z. lacking plain v (d z)) v; done = []; wrote = s; whole = refl }
 
@@ -225,14 +217,14 @@ module _ (v : List Mono) (d : Mono → Poly Mono) where
   unfolding rows_from
   next_row left h = rw (add-one left, drop-cons v left [] h)
 
-  module _ {left : ℕ} {w : Written} {out : List ℕ} (l : Listing left w out) where
+  module _ {left : ℕ} {w : Option ℕ} {out : List ℕ} (l : Listing left w out) where
     module _ (h : left < length v) where
       row_onward : (l.done ++ row plain v left (d (get_or v left []))) ++ rows_from plain v d (left + 1) (drop (left + 1) v) ≡ wiring plain v d
       row_onward =
           append_assoc l.done (row plain v left (d (get_or v left []))) (rows_from plain v d (left + 1) (drop (left + 1) v))
           ∙ ap (λ (r : List Wire). l.done ++ r) (sym (next_row left h)) ∙ l.whole
 
-      pub listing_more : (w' : Written) (out' : List ℕ) → RowPassed plain v left (d (get_or v left [])) l.done (Through w') out' → Listing (left + 1) w' out'
+      pub listing_more : (w' : Option ℕ) (out' : List ℕ) → RowPassed plain v left (d (get_or v left [])) l.done (Ok w') out' → Listing (left + 1) w' out'
       listing_more w' out' s = record {
         looked = placing_on (λ z. lacking plain v (d z)) [] l.looked h s.0;
         done = l.done ++ row plain v left (d (get_or v left []));
@@ -240,10 +232,10 @@ module _ (v : List Mono) (d : Mono → Poly Mono) where
         whole = row_onward;
       }
 
-      pub listing_unmet : (at : ℕ) (out' : List ℕ) → RowPassed plain v left (d (get_or v left [])) l.done (Unmet at) out' → Passed plain v d (Unmet left) out'
-      listing_unmet at out' s = (placing_found (λ z. lacking plain v (d z)) [] l.looked h s.0, h)
+      pub listing_unmet : (u : Unmet) (out' : List ℕ) → RowPassed plain v left (d (get_or v left [])) l.done (Err u) out' → Passed plain v d (Err u) out'
+      listing_unmet u out' s = (s.1 ∙ placing_found (λ z. lacking plain v (d z)) [] l.looked h s.0, rw s.1 h)
 
-    pub listing_ends : length v ≤ left → Passed plain v d (Through w) out
+    pub listing_ends : length v ≤ left → Passed plain v d (Ok w) out
     unfolding rows_from
     listing_ends h = (
       placing_ends (λ z. lacking plain v (d z)) l.looked h,

@@ -1,11 +1,11 @@
 -- `wire_set` meets its contract: what the pass comes to is the verdict, with the list where there is room for it. Assumes nothing.
 use mathlib.Core.Path.{◌≡◌, refl, sym, ap, ◌∙◌, subst}
-use mathlib.Core.Bool.{true, false}
 use mathlib.Core.List.{List}
 use Prim.Native.Nat.{ℕ}
 use native.Mathlib.Omega.{arith}
 use borrow.Author.Rules.{rules}
 use lib.ListN.{length, replicate}
+use Rattle.std.specs.Prelude.{Option, Result}
 use Rattle.monomial.specs.Monomial.{Mono, width}
 use Rattle.wiring.specs.Panel.{cards, set_exponent}
 use Rattle.wiring.specs.Poly.{plain}
@@ -17,10 +17,10 @@ use Rattle.wiring.specs.Reply.{outcome}
 use Rattle.wiring.specs.Wires.{Passed}
 use Rattle.wiring.specs.Answers.{wires}
 use Rattle.wiring.specs.declared.reply.Reply.TheVariants.{Done, Full, NotQuadratic}
-use Rattle.wiring.specs.declared.wires.Pass.{Pass}
+use Rattle.wiring.specs.declared.wires.Unmet.{Unmet}
 use Rattle.wiring.proofs.signals.Arrays.{array_length, front_length}
 use Rattle.wiring.proofs.signals.Laws.{signals_fitting}
-use Rattle.wiring.proofs.wires.Sheets.{sheet_start, wrote_out}
+use Rattle.wiring.proofs.wires.Sheets.{sheet_start}
 use Rattle.wiring.proofs.answers.Laws.{first_as, listed_done, listed_full, told_met, told_unmet}
 use Rattle.wiring.proofs.answers.wire_set.Goals as goal
 
@@ -34,11 +34,11 @@ wire_rows-requires c =
     let fits = signals_fitting set_exponent c.args.n (monomials_of c.args.set) (omega arith) q.fits in
     (q.clean, (omega (arith, q.few, q.small), (subst (Fitting set_exponent) (sym v.0) fits, sheet_start c.args.out.now c.requires.1)))
 
-pub shape_of-out-then-w : goal.shape_of-out-then-w
-shape_of-out-then-w c = c.wire_rows.auto.out
+pub shape_of-out-in-Ok-Some : goal.shape_of-out-in-Ok-Some
+shape_of-out-in-Ok-Some c = c.wire_rows.auto.out
 
-pub returns-then-w : goal.returns-then-w
-returns-then-w c =
+pub returns-in-Ok-Some : goal.returns-in-Ok-Some
+returns-in-Ok-Some c =
     let a = c.args in
     let room : length a.set.m ≡ cards = search (rules, array_length) in
     let m = monomials_of a.set in
@@ -47,19 +47,20 @@ returns-then-w c =
     let w = c.wire_rows in
     let out = w.new.out in
     let all = subst (λ (l : List Mono). Passed plain l (derivative plain fs) w.result out) c.signals_of-v.ensures.0 w.ensures in
-    let passed = subst (λ (p : Pass). Passed plain (signals width a.n m) (derivative plain fs) p out) c.in-Through.is all in
+    let passed = subst (λ (p : Result (Option ℕ) Unmet). Passed plain (signals width a.n m) (derivative plain fs) p out) c.in-Ok-Some.is all in
+    let stands = rw c.in-Ok-Some.field-0-is at passed.1 in
     let list = wires a.n fs m in
     let met = sym (first_as a.n fs m (signals width a.n m) (length (signals width a.n m)) refl (sym passed.0)) in
-    let written = c.in-Through.w in
-    ap (λ (k : ℕ). outcome (Done k written.at 0) out) size
-    ∙ listed_done (length m) list written.at (length a.out.now) out (wrote_out list written out true c.if-w.true passed.1) w.auto.out
+    let written = c.in-Ok-Some.count in
+    ap (λ (k : ℕ). outcome (Done k written 0) out) size
+    ∙ listed_done (length m) list written (length a.out.now) out stands w.auto.out
     ∙ told_met a.n fs m (length a.out.now) met
 
-pub shape_of-out-else-w : goal.shape_of-out-else-w
-shape_of-out-else-w c = c.clear.auto.out ∙ c.wire_rows.auto.out
+pub shape_of-out-in-Ok-None : goal.shape_of-out-in-Ok-None
+shape_of-out-in-Ok-None c = c.clear.auto.out ∙ c.wire_rows.auto.out
 
-pub returns-else-w : goal.returns-else-w
-returns-else-w c =
+pub returns-in-Ok-None : goal.returns-in-Ok-None
+returns-in-Ok-None c =
     let a = c.args in
     let room : length a.set.m ≡ cards = search (rules, array_length) in
     let m = monomials_of a.set in
@@ -68,20 +69,21 @@ returns-else-w c =
     let w = c.wire_rows in
     let out = w.new.out in
     let all = subst (λ (l : List Mono). Passed plain l (derivative plain fs) w.result out) c.signals_of-v.ensures.0 w.ensures in
-    let passed = subst (λ (p : Pass). Passed plain (signals width a.n m) (derivative plain fs) p out) c.in-Through.is all in
+    let passed = subst (λ (p : Result (Option ℕ) Unmet). Passed plain (signals width a.n m) (derivative plain fs) p out) c.in-Ok-None.is all in
+    let long = rw c.in-Ok-None.field-0-is at passed.1 in
     let list = wires a.n fs m in
     let met = sym (first_as a.n fs m (signals width a.n m) (length (signals width a.n m)) refl (sym passed.0)) in
     let cleared = c.clear in
     let blank = cleared.ensures ∙ ap (λ (k : ℕ). replicate k 0) w.auto.out in
     ap (λ (k : ℕ). outcome (Full k 0) cleared.new.out) size
-    ∙ listed_full (length m) list (length a.out.now) out cleared.new.out (wrote_out list _ out false c.if-w.false passed.1) w.auto.out blank
+    ∙ listed_full (length m) list (length a.out.now) out cleared.new.out long w.auto.out blank
     ∙ told_met a.n fs m (length a.out.now) met
 
-pub shape_of-out-in-Unmet : goal.shape_of-out-in-Unmet
-shape_of-out-in-Unmet c = c.clear-in-Unmet.auto.out ∙ c.wire_rows.auto.out
+pub shape_of-out-in-Err : goal.shape_of-out-in-Err
+shape_of-out-in-Err c = c.clear-in-Err.auto.out ∙ c.wire_rows.auto.out
 
-pub returns-in-Unmet : goal.returns-in-Unmet
-returns-in-Unmet c =
+pub returns-in-Err : goal.returns-in-Err
+returns-in-Err c =
     let a = c.args in
     let room : length a.set.m ≡ cards = search (rules, array_length) in
     let m = monomials_of a.set in
@@ -90,9 +92,9 @@ returns-in-Unmet c =
     let w = c.wire_rows in
     let out = w.new.out in
     let all = subst (λ (l : List Mono). Passed plain l (derivative plain fs) w.result out) c.signals_of-v.ensures.0 w.ensures in
-    let passed = subst (λ (p : Pass). Passed plain (signals width a.n m) (derivative plain fs) p out) c.in-Unmet.is all in
-    let at = c.in-Unmet.left in
-    let cleared = c.clear-in-Unmet in
+    let passed = subst (λ (p : Result (Option ℕ) Unmet). Passed plain (signals width a.n m) (derivative plain fs) p out) c.in-Err.is all in
+    let at = c.in-Err.field-0.left in
+    let cleared = c.clear-in-Err in
     let blank = cleared.ensures ∙ ap (λ (k : ℕ). replicate k 0) w.auto.out in
     ap (λ (k : ℕ). outcome (NotQuadratic k at) cleared.new.out) size
     ∙ told_unmet a.n fs m (length a.out.now) at cleared.new.out (first_as a.n fs m (signals width a.n m) at refl passed.0) passed.1 blank

@@ -2,10 +2,10 @@
 use mathlib.Core.Path.{sym, ◌∙◌}
 use native.Mathlib.Omega.{arith}
 use Rattle.monomial.proofs.product.Laws.{at_most_weaken}
-use Rattle.wiring.proofs.derivative.Bounds.{adding_start, adding_ends, adding_flat, adding_miss, adding_hit, power_fits, product_fits, sum_of_fits}
+use Rattle.wiring.proofs.derivative.Bounds.{adding_start, adding_ends, adding_flat, adding_miss, adding_hit, product_fits, sum_of_fits}
 use borrow.Author.Rules.{rules}
 use Rattle.wiring.proofs.derivative.total.Goals as goal
-use Rattle.wiring.proofs.derivative.total.Goals.{then-k-gt0+then-same, then-k-gt0+else-same, else-k-gt0}
+use Rattle.wiring.proofs.derivative.total.Goals.{then-k-gt0+then-same, else-k-gt0, else-k-gt0-via-then-k-gt0+else-same, else-k-gt0-via-else-k-gt0}
 
 pub loop-t-init : goal.loop-t-init
 loop-t-init c = adding_start _ _ _ c.requires.0 (search rules) c.requires.1
@@ -17,27 +17,25 @@ pub image-requires : goal.image-requires
 image-requires c =
     (c.requires.0, (omega arith, (rw (← c.power-k.ensures) c.if-k-gt0.true, at_most_weaken c.args.z.e (omega arith) c.requires.1)))
 
-pub overflow_cast-sum : goal.overflow_cast-sum
-overflow_cast-sum c =
-    power_fits c.loop-t.invariant c.loop-t-test.true _ c.power-k.ensures
-
 pub overflow_mul-sum : goal.overflow_mul-sum
 overflow_mul-sum c =
-    product_fits c.loop-t.invariant c.loop-t-test.true _ _ c.power-k.ensures c.decode.ensures
+    rw c.from.ensures (product_fits c.loop-t.invariant c.loop-t-test.true _ _ c.power-k.ensures c.decode.ensures)
 
 pub overflow_add-sum : goal.overflow_add-sum
 overflow_add-sum c =
     let hit = sym c.same.ensures ∙ c.if-same.true in
-    sum_of_fits c.loop-t.invariant c.loop-t-test.true _ _ c.power-k.ensures c.decode.ensures _ c.image.ensures hit
+    rw c.from.ensures (sum_of_fits c.loop-t.invariant c.loop-t-test.true _ _ c.power-k.ensures c.decode.ensures _ c.image.ensures hit)
 
 pub loop-t-preserved : goal.loop-t-preserved
 loop-t-preserved c =
     let inv = c.loop-t.invariant in
     let more = c.loop-t-test.true in
     elim c.if-k-gt0.branch [
-      | then-k-gt0+then-same w ↦ rw w.sum-is (adding_hit inv more _ _ c.power-k.ensures w.decode.ensures _ w.image.ensures (sym w.same.ensures ∙ w.if-same.true))
-      | then-k-gt0+else-same w ↦ rw w.sum-is (adding_miss inv more _ w.image.ensures (sym w.same.ensures ∙ w.if-same.false))
-      | else-k-gt0 w ↦ rw w.sum-is (adding_flat inv more (omega (arith, c.power-k.ensures, w.if-k-gt0.false)))
+      | then-k-gt0+then-same w ↦ rw (w.sum-is, w.from.ensures) (adding_hit inv more _ _ c.power-k.ensures w.decode.ensures _ w.image.ensures (sym w.same.ensures ∙ w.if-same.true))
+      | else-k-gt0 w ↦ rw w.sum-is (elim w.else-k-gt0.branch [
+        | else-k-gt0-via-then-k-gt0+else-same x ↦ adding_miss inv more _ x.image.ensures (sym x.same.ensures ∙ x.if-same.false)
+        | else-k-gt0-via-else-k-gt0 x ↦ adding_flat inv more (omega (arith, c.power-k.ensures, x.if-k-gt0.false))
+      ])
     ]
 
 pub returns : goal.returns

@@ -1,5 +1,5 @@
 -- `following` meets its contract: the tests of the code are those of `gives`, in its order. Assumes nothing.
-use mathlib.Core.Path.{refl, sym, ◌∙◌}
+use mathlib.Core.Path.{sym, ◌∙◌}
 use Rattle.wiring.specs.Choice.{beyond}
 use native.Mathlib.Omega.{arith}
 use Rattle.monomial.proofs.product.Laws.{at_most_weaken}
@@ -16,7 +16,7 @@ pub returns-then-power-lt1 : goal.returns-then-power-lt1
 returns-then-power-lt1 c =
     let a = c.args in
     let l = a.terms.now in
-    given_low (beyond a.last) a.z.e (record_at l a.t) c.power.result _ c.power.ensures c.if-power-lt1.true refl
+    given_low (beyond a.last) a.z.e (record_at l a.t) c.power.result c.power.ensures c.if-power-lt1.true
 
 pub image-m-requires : goal.image-m-requires
 image-m-requires c =
@@ -30,8 +30,8 @@ returns-then-not-is_beyond c =
     let l = a.terms.now in
     let x = c.power in
     let m = c.image-m in
-    given_fails (beyond a.last) a.z.e (record_at l a.t) x.result m.result.e x.ensures
-    c.if-power-lt1.false m.ensures _ (sym c.is_beyond.ensures ∙ c.if-not-is_beyond.true) refl
+    given_fails (beyond a.last) a.z.e (record_at l a.t) x.result m.result x.ensures
+    c.if-power-lt1.false m.ensures (sym c.is_beyond.ensures ∙ c.if-not-is_beyond.true)
 
 pub returns : goal.returns
 returns c =
@@ -39,5 +39,5 @@ returns c =
     let l = a.terms.now in
     let x = c.power in
     let m = c.image-m in
-    given_here (beyond a.last) a.z.e (record_at l a.t) x.result m.result.e x.ensures
-    c.if-power-lt1.false m.ensures _ (sym c.is_beyond.ensures ∙ c.if-not-is_beyond.false) refl refl
+    given_here (beyond a.last) a.z.e (record_at l a.t) x.result m.result x.ensures
+    c.if-power-lt1.false m.ensures (sym c.is_beyond.ensures ∙ c.if-not-is_beyond.false)

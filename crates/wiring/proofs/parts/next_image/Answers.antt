@@ -1,5 +1,5 @@
 -- `next_image` meets its contract: the loop keeps the best of what the records give (`Collecting`). Assumes nothing.
-use mathlib.Core.Path.{refl, sym, ◌∙◌}
+use mathlib.Core.Path.{sym, ◌∙◌}
 use Prim.Native.Nat.{◌<◌}
 use native.Mathlib.Omega.{arith}
 use lib.ListN.{length}
@@ -16,13 +16,13 @@ use Rattle.wiring.proofs.choice.Laws.{best_collects}
 use Rattle.wiring.proofs.quadratic.Records.{at_record, meets_none, meets_one, meets_heads}
 use Rattle.wiring.proofs.parts.Laws.{images_asc, given_sub, images_sub}
 use Rattle.wiring.proofs.parts.next_image.Goals as goal
-use Rattle.wiring.proofs.parts.next_image.Goals.{then-p, else-p}
+use Rattle.wiring.proofs.parts.next_image.Goals.{in-Some, in_default}
 
 pub loop-t-init : goal.loop-t-init
-loop-t-init c = (refl, collecting_start _ _ _ (λ y h. Memᴰ.not-nil h))
+loop-t-init c = collecting_start _ _ _ (λ y h. Memᴰ.not-nil h)
 
-pub following-p-requires : goal.following-p-requires
-following-p-requires c =
+pub following-requires : goal.following-requires
+following-requires c =
     (c.requires.0, (omega arith, c.requires.1))
 
 pub loop-t-preserved : goal.loop-t-preserved
@@ -31,18 +31,17 @@ loop-t-preserved c =
     let l = a.terms.now in
     let k = c.loop-t in
     let f = gives (beyond a.last) a.z.e in
-    let told = at_record f l k.t (omega arith) ∙ sym c.following-p.ensures.told in
-    let few : k.t < length (records l) = omega (arith, records_length l) in (
-      k.invariant.0,
-      elim c.if-p.branch [
-        | then-p w ↦
-            let same_image = at_record (λ r. image r a.z.e) l k.t (omega arith) ∙ sym (c.following-p.ensures.is w.if-p.true) in
-            rw w.best-is
-            (meets_one f a.z.e (records l) (record_at l k.t) few k.invariant.1 (best_collects mono_order w.least-best.result) (told ∙ w.if-p.true)
-            (λ m b. rw same_image (w.least-best.ensures m b)))
-        | else-p w ↦ rw w.best-is (meets_none f a.z.e (records l) (record_at l k.t) few k.invariant.1 (best_collects mono_order k.best) (told ∙ w.if-p.false))
-      ],
-    )
+    let few : k.t < length (records l) = omega (arith, records_length l) in
+    elim c.match-following.branch [
+      | in-Some w ↦
+          let here = at_record f l k.t (omega arith) ∙ sym w.in-Some.ensures.told in
+          let same_image = at_record (λ r. image r a.z.e) l k.t (omega arith) ∙ sym w.in-Some.ensures.is in
+          rw w.best-is
+          (meets_one f a.z.e (records l) (record_at l k.t) few k.invariant (best_collects mono_order w.least-best.result) here
+          (λ m b. rw same_image (w.least-best.ensures m b)))
+      | in_default w ↦ rw w.best-is (meets_none f a.z.e (records l) (record_at l k.t) few k.invariant (best_collects mono_order k.best)
+          (at_record f l k.t (omega arith) ∙ sym w.in_default.ensures.told))
+    ]
 
 pub returns : goal.returns
 returns c =
@@ -50,6 +49,6 @@ returns c =
     let l = a.terms.now in
     let k = c.loop-t in
     let test = beyond a.last in
-    meets_heads (gives test a.z.e) a.z.e (records l) k.t k.best k.invariant.1 (omega (arith, records_length l))
+    meets_heads (gives test a.z.e) a.z.e (records l) k.t k.best k.invariant (omega (arith, records_length l))
     (keep test (images (records l) a.z.e)) (keep_asc test (images (records l) a.z.e) (images_asc (records l) a.z.e))
     (given_sub (records l) a.z.e test) (images_sub (records l) a.z.e test)

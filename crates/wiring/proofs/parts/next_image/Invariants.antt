@@ -1,18 +1,11 @@
 -- `next_image` meets its contract: the loop keeps the best of what the records give (`Collecting`). Assumes nothing.
-use mathlib.Core.Path.{◌≡◌}
-use Prim.Native.Nat.{◌/◌, ◌-◌}
-use lib.ListN.{length}
 use Rattle.wiring.specs.Derivative.{gives}
 use Rattle.wiring.specs.Terms.{records}
 use Rattle.monomial.specs.Order.{before}
 use Rattle.monomial.proofs.Loops.{Collecting}
 use Rattle.wiring.specs.Choice.{beyond, Best}
 use Rattle.wiring.proofs.quadratic.Records.{met}
-use Rattle.wiring.specs.Panel.{term_bytes}
 use Rattle.wiring.proofs.parts.next_image.Given as goal
 
 abbrev pub invariant-loop-t : goal.invariant-loop-t
-invariant-loop-t loop = (loop.count ≡ length loop.terms / term_bytes) × Collecting (met (gives (beyond loop.last) loop.z.e) loop.z.e) (records loop.terms) (λ l. Best before l loop.best) loop.t
-
-abbrev pub decreases-loop-t : goal.decreases-loop-t
-decreases-loop-t l = l.count - l.t
+invariant-loop-t loop = Collecting (met (gives (beyond loop.last) loop.z.e) loop.z.e) (records loop.terms) (λ l. Best before l loop.best) loop.t

@@ -7,8 +7,8 @@ use Rattle.wiring.specs.Terms.{records}
 use Rattle.wiring.proofs.parts.Laws.{Parting}
 use Rattle.wiring.proofs.parts.next_part.Given as goal
 
-abbrev pub invariant-loop-z : goal.invariant-loop-z
-invariant-loop-z l = Parting (records l.terms) l.z.e l.initial.behind l.behind
+abbrev pub invariant-loop-m : goal.invariant-loop-m
+invariant-loop-m l = Parting (records l.terms) l.z.e l.initial.behind l.behind
 
-abbrev pub decreases-loop-z : goal.decreases-loop-z
-decreases-loop-z l = length (keep (beyond l.behind) (images (records l.terms) l.z.e))
+abbrev pub decreases-loop-m : goal.decreases-loop-m
+decreases-loop-m l = length (keep (beyond l.behind) (images (records l.terms) l.z.e))

@@ -1,5 +1,5 @@
 -- `has_nonsquare` meets its contract: the loop looks through the records for one that offers (`Seeking`). Assumes nothing.
-use mathlib.Core.Path.{refl, sym, ◌∙◌}
+use mathlib.Core.Path.{sym, ◌∙◌}
 use native.Mathlib.Omega.{arith}
 use Rattle.monomial.proofs.Loops.{seeking_start, seeking_found, seeking_on, seeking_ends}
 use Rattle.wiring.specs.Derivative.{offers}
@@ -12,20 +12,20 @@ use Rattle.wiring.proofs.quadratic.has_nonsquare.Goals as goal
 pub loop-t-init : goal.loop-t-init
 loop-t-init c =
     let l = c.args.terms.now in
-    (refl, seeking_start _ (records l))
+    seeking_start _ (records l)
 
-pub nonsquare_of-p-requires : goal.nonsquare_of-p-requires
-nonsquare_of-p-requires c =
+pub nonsquare_of-requires : goal.nonsquare_of-requires
+nonsquare_of-requires c =
     (c.requires.0, (omega arith, c.requires.1))
 
-pub returns-then-p : goal.returns-then-p
-returns-then-p c =
+pub returns-then-is_some : goal.returns-then-is_some
+returns-then-is_some c =
     let a = c.args in
     let l = a.terms.now in
     let k = c.loop-t in
     let f = offers (outside (signals_at a.n a.set.now)) (system (records l)) a.z.e in
-    let here = at_record f l k.t (omega arith) ∙ sym c.nonsquare_of-p.ensures.told ∙ c.if-p.true in
-    seeking_found f (record_at l k.t) k.invariant.1 (omega (arith, records_length l)) here ∙ found_unmet (signals_at a.n a.set.now) (records l) a.z.e
+    let here = at_record f l k.t (omega arith) ∙ sym c.nonsquare_of.ensures.told ∙ sym c.is_some.ensures ∙ c.if-is_some.true in
+    seeking_found f (record_at l k.t) k.invariant (omega (arith, records_length l)) here ∙ found_unmet (signals_at a.n a.set.now) (records l) a.z.e
 
 pub loop-t-preserved : goal.loop-t-preserved
 loop-t-preserved c =
@@ -33,8 +33,8 @@ loop-t-preserved c =
     let l = a.terms.now in
     let k = c.loop-t in
     let f = offers (outside (signals_at a.n a.set.now)) (system (records l)) a.z.e in
-    let not_here = at_record f l k.t (omega arith) ∙ sym c.nonsquare_of-p.ensures.told ∙ c.if-p.false in
-    (k.invariant.0, seeking_on f (record_at l k.t) k.invariant.1 (omega (arith, records_length l)) not_here)
+    let not_here = at_record f l k.t (omega arith) ∙ sym c.nonsquare_of.ensures.told ∙ sym c.is_some.ensures ∙ c.if-is_some.false in
+    seeking_on f (record_at l k.t) k.invariant (omega (arith, records_length l)) not_here
 
 pub returns : goal.returns
 returns c =
@@ -42,4 +42,4 @@ returns c =
     let l = a.terms.now in
     let k = c.loop-t in
     let f = offers (outside (signals_at a.n a.set.now)) (system (records l)) a.z.e in
-    seeking_ends f k.invariant.1 (omega (arith, records_length l)) ∙ found_unmet (signals_at a.n a.set.now) (records l) a.z.e
+    seeking_ends f k.invariant (omega (arith, records_length l)) ∙ found_unmet (signals_at a.n a.set.now) (records l) a.z.e

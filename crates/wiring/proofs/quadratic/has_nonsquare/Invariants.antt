@@ -1,17 +1,10 @@
 -- `has_nonsquare` meets its contract: the loop looks through the records for one that offers (`Seeking`). Assumes nothing.
-use mathlib.Core.Path.{◌≡◌}
-use Prim.Native.Nat.{◌/◌, ◌-◌}
-use lib.ListN.{length}
 use Rattle.monomial.proofs.Loops.{Seeking}
 use Rattle.wiring.specs.Derivative.{offers}
 use Rattle.wiring.specs.Signals.{signals_at}
 use Rattle.wiring.specs.Terms.{records, system}
 use Rattle.wiring.proofs.quadratic.Records.{outside}
-use Rattle.wiring.specs.Panel.{term_bytes}
 use Rattle.wiring.proofs.quadratic.has_nonsquare.Given as goal
 
 abbrev pub invariant-loop-t : goal.invariant-loop-t
-invariant-loop-t l = (l.count ≡ length l.terms / term_bytes) × Seeking (offers (outside (signals_at l.n l.set)) (system (records l.terms)) l.z.e) (records l.terms) l.t
-
-abbrev pub decreases-loop-t : goal.decreases-loop-t
-decreases-loop-t l = l.count - l.t
+invariant-loop-t l = Seeking (offers (outside (signals_at l.n l.set)) (system (records l.terms)) l.z.e) (records l.terms) l.t

@@ -18,6 +18,3 @@ bad terms v z = some (unmet plain v (derivative plain (system (records terms)) z
 
 abbrev pub invariant-loop-j : goal.invariant-loop-j
 invariant-loop-j l = SeekingDown (bad l.terms (signals_at l.n l.set)) (signals_at l.n l.set) l.j
-
-abbrev pub decreases-loop-j : goal.decreases-loop-j
-decreases-loop-j l = l.j

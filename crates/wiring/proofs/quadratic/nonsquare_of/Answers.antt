@@ -1,5 +1,5 @@
 -- `nonsquare_of` meets its contract: the tests of the code are those of `offers`, in its order. Assumes nothing.
-use mathlib.Core.Path.{◌≡◌, refl, sym, ap, ◌∙◌}
+use mathlib.Core.Path.{◌≡◌, sym, ap, ◌∙◌}
 use mathlib.Core.Bool.{not}
 use Rattle.wiring.specs.Signals.{signals_at}
 use native.Mathlib.Omega.{arith}
@@ -25,8 +25,8 @@ pub returns-then-power-lt1 : goal.returns-then-power-lt1
 returns-then-power-lt1 c =
     let a = c.args in
     let l = a.terms.now in
-    offered_low (outside (signals_at a.n a.set.now)) (system (records l)) a.z.e (record_at l a.t) c.power.result _
-    c.power.ensures c.if-power-lt1.true refl
+    offered_low (outside (signals_at a.n a.set.now)) (system (records l)) a.z.e (record_at l a.t) c.power.result
+    c.power.ensures c.if-power-lt1.true
 
 pub image-m-requires : goal.image-m-requires
 image-m-requires c =
@@ -40,8 +40,8 @@ returns-then-is_square c =
     let l = a.terms.now in
     let x = c.power in
     let m = c.image-m in
-    offered_fails (outside (signals_at a.n a.set.now)) (system (records l)) a.z.e (record_at l a.t) x.result m.result.e
-    x.ensures c.if-power-lt1.false m.ensures _ (ap not (sym c.is_square.ensures ∙ c.if-is_square.true)) refl
+    offered_fails (outside (signals_at a.n a.set.now)) (system (records l)) a.z.e (record_at l a.t) x.result m.result
+    x.ensures c.if-power-lt1.false m.ensures (ap not (sym c.is_square.ensures ∙ c.if-is_square.true))
 
 pub total-requires : goal.total-requires
 total-requires c =
@@ -56,9 +56,9 @@ returns-then-is_zero c =
     let sum = c.total in
     let same_sum = to_z-of_z w32 sum.result (sfits_of sum.type_inv) in
     let zero = ap is_zero (sym sum.ensures ∙ sym same_sum) ∙ sym c.is_zero.ensures ∙ c.if-is_zero.true in
-    offered_zero (outside (signals_at a.n a.set.now)) (system (records l)) a.z.e (record_at l a.t) x.result m.result.e
-    x.ensures c.if-power-lt1.false m.ensures _
-    (ap not (sym c.is_square.ensures ∙ c.if-is_square.false)) zero refl
+    offered_zero (outside (signals_at a.n a.set.now)) (system (records l)) a.z.e (record_at l a.t) x.result m.result
+    x.ensures c.if-power-lt1.false m.ensures
+    (ap not (sym c.is_square.ensures ∙ c.if-is_square.false)) zero
 
 pub returns-else-is_zero : goal.returns-else-is_zero
 returns-else-is_zero c =
@@ -69,9 +69,9 @@ returns-else-is_zero c =
     let sum = c.total in
     let same_sum = to_z-of_z w32 sum.result (sfits_of sum.type_inv) in
     let other = ap is_zero (sym sum.ensures ∙ sym same_sum) ∙ sym c.is_zero.ensures ∙ c.if-is_zero.false in
-    offered_here (outside (signals_at a.n a.set.now)) (system (records l)) a.z.e (record_at l a.t) x.result m.result.e
-    x.ensures c.if-power-lt1.false m.ensures _
-    (ap not (sym c.is_square.ensures ∙ c.if-is_square.false)) other refl refl
+    offered_here (outside (signals_at a.n a.set.now)) (system (records l)) a.z.e (record_at l a.t) x.result m.result
+    x.ensures c.if-power-lt1.false m.ensures
+    (ap not (sym c.is_square.ensures ∙ c.if-is_square.false)) other
 
 -- no total is 0, so none is summed
 pub returns-else-cancels : goal.returns-else-cancels
@@ -82,6 +82,6 @@ returns-else-cancels c =
     let x = c.power in
     let m = c.image-m in
     let other = c.requires.1.1.1 c.if-cancels.false a.z.e a.t long (omega (arith, c.requires.1.0)) (omega (arith, x.ensures, c.if-power-lt1.false)) in
-    offered_here (outside (signals_at a.n a.set.now)) (system (records l)) a.z.e (record_at l a.t) x.result m.result.e
-    x.ensures c.if-power-lt1.false m.ensures _
-    (ap not (sym c.is_square.ensures ∙ c.if-is_square.false)) (ap (λ (y : Mono). is_zero (coeff plain (derivative plain (system (records l)) a.z.e) y)) m.ensures ∙ other) refl refl
+    offered_here (outside (signals_at a.n a.set.now)) (system (records l)) a.z.e (record_at l a.t) x.result m.result
+    x.ensures c.if-power-lt1.false m.ensures
+    (ap not (sym c.is_square.ensures ∙ c.if-is_square.false)) (ap (λ (y : Mono). is_zero (coeff plain (derivative plain (system (records l)) a.z.e) y)) m.ensures ∙ other)

@@ -1,5 +1,5 @@
 -- `lacks_pair` meets its contract: the loop looks through the records for one that offers (`Seeking`). Assumes nothing.
-use mathlib.Core.Path.{refl, sym, ◌∙◌}
+use mathlib.Core.Path.{sym, ◌∙◌}
 use native.Mathlib.Omega.{arith}
 use Rattle.monomial.proofs.Loops.{seeking_start, seeking_found, seeking_on, seeking_ends}
 use Rattle.wiring.specs.Signals.{signals_of}
@@ -10,7 +10,7 @@ use Rattle.wiring.proofs.quadratic.Records.{offering, offers_some, at_record}
 use Rattle.wiring.proofs.wires.lacks_pair.Goals as goal
 
 pub loop-t-init : goal.loop-t-init
-loop-t-init c = (refl, seeking_start _ _)
+loop-t-init c = seeking_start _ _
 
 pub lacks_pair_at-requires : goal.lacks_pair_at-requires
 lacks_pair_at-requires c =
@@ -24,7 +24,7 @@ returns-then-lacks_pair_at c =
     let k = c.loop-t in
     let f = offering (unmet_beyond (signals_of a.v) a.last) (records l) a.z.e in
     let here = at_record f l k.t (omega arith) ∙ sym c.lacks_pair_at.ensures ∙ c.if-lacks_pair_at.true in
-    seeking_found f (record_at l k.t) k.invariant.1 (omega (arith, records_length l)) here ∙ offers_some (unmet_beyond (signals_of a.v) a.last) (records l) a.z.e
+    seeking_found f (record_at l k.t) k.invariant (omega (arith, records_length l)) here ∙ offers_some (unmet_beyond (signals_of a.v) a.last) (records l) a.z.e
 
 pub loop-t-preserved : goal.loop-t-preserved
 loop-t-preserved c =
@@ -33,7 +33,7 @@ loop-t-preserved c =
     let k = c.loop-t in
     let f = offering (unmet_beyond (signals_of a.v) a.last) (records l) a.z.e in
     let not_here = at_record f l k.t (omega arith) ∙ sym c.lacks_pair_at.ensures ∙ c.if-lacks_pair_at.false in
-    (k.invariant.0, seeking_on f (record_at l k.t) k.invariant.1 (omega (arith, records_length l)) not_here)
+    seeking_on f (record_at l k.t) k.invariant (omega (arith, records_length l)) not_here
 
 pub returns : goal.returns
 returns c =
@@ -41,4 +41,4 @@ returns c =
     let l = a.terms.now in
     let k = c.loop-t in
     let f = offering (unmet_beyond (signals_of a.v) a.last) (records l) a.z.e in
-    seeking_ends f k.invariant.1 (omega (arith, records_length l)) ∙ offers_some (unmet_beyond (signals_of a.v) a.last) (records l) a.z.e
+    seeking_ends f k.invariant (omega (arith, records_length l)) ∙ offers_some (unmet_beyond (signals_of a.v) a.last) (records l) a.z.e

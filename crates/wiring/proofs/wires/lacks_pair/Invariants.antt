@@ -1,9 +1,5 @@
 -- `lacks_pair` meets its contract: the loop looks through the records for one that offers (`Seeking`). Assumes nothing.
-use mathlib.Core.Path.{◌≡◌}
-use Prim.Native.Nat.{◌/◌, ◌-◌}
-use lib.ListN.{length}
 use Rattle.monomial.proofs.Loops.{Seeking}
-use Rattle.wiring.specs.Panel.{term_bytes}
 use Rattle.wiring.specs.Signals.{signals_of}
 use Rattle.wiring.specs.Terms.{records}
 use Rattle.wiring.specs.Wires.{unmet_beyond}
@@ -11,7 +7,4 @@ use Rattle.wiring.proofs.quadratic.Records.{offering}
 use Rattle.wiring.proofs.wires.lacks_pair.Given as goal
 
 abbrev pub invariant-loop-t : goal.invariant-loop-t
-invariant-loop-t l = (l.count ≡ length l.terms / term_bytes) × Seeking (offering (unmet_beyond (signals_of l.v) l.last) (records l.terms) l.z.e) (records l.terms) l.t
-
-abbrev pub decreases-loop-t : goal.decreases-loop-t
-decreases-loop-t l = l.count - l.t
+invariant-loop-t l = Seeking (offering (unmet_beyond (signals_of l.v) l.last) (records l.terms) l.z.e) (records l.terms) l.t

@@ -1,10 +1,9 @@
 -- `pair_of` meets its contract: both loops look for the first that passes (`PairRow` outside, `Placing` inside). Assumes nothing.
-use mathlib.Core.Path.{◌≡◌, refl, sym, ap, ap₂, ◌∙◌, subst}
+use mathlib.Core.Path.{◌≡◌, refl, sym, ap, ap₂, ◌∙◌}
 use mathlib.Core.List.{[]}
 use Prim.Native.Nat.{ℕ, ◌<◌, ◌≤◌}
 use native.Mathlib.Omega.{arith}
 use borrow.Author.Rules.{rules}
-use lib.Dec.{T}
 use lib.ListN.{length, get_or}
 use Rattle.monomial.specs.Monomial.{Mono}
 use Rattle.monomial.specs.Order.{same}
@@ -44,8 +43,8 @@ module _ (v : Signals) (room : length v.m ≡ most_signals) (fits : v.len ≤ mo
   alike : (i : ℕ) → i < v.len → (y : Mono) → y ∈ signals_of v → length (get_or (signals_of v) i []) ≡ length y
   alike i h y m = (wide (get_or (signals_of v) i []) (at_in (signals_of v) i [] (within i h))).0 ∙ sym (wide y m).0
 
-pub found-init : goal.found-init
-found-init c = (refl, (refl, placing_start _ _))
+pub loop-a-init : goal.loop-a-init
+loop-a-init c = (refl, placing_start _ _)
 
 pub over-rest-requires : goal.over-rest-requires
 over-rest-requires c = is→T _ (sym c.divides.ensures ∙ c.if-divides.true)
@@ -53,25 +52,24 @@ over-rest-requires c = is→T _ (sym c.divides.ensures ∙ c.if-divides.true)
 pub loop-b-init : goal.loop-b-init
 loop-b-init c =
     let v = c.args.v in
-    let k = c.found in
+    let k = c.loop-a in
     let room : length v.m ≡ most_signals = search (rules, array_length) in
     let ha : k.a < v.len = omega arith in
     let here = at v room c.requires.0 c.requires.1 k.a ha in
     let divided = is→T _ (sym c.divides.ensures ∙ c.if-divides.true) in
     record {
-      empty = k.invariant.0;
-      long = k.invariant.1.0;
+      long = k.invariant.0;
       below = ha;
       divided = rw here divided;
       quotient = c.over-rest.ensures ∙ ap (quo c.args.m.e) (sym here);
-      outer = k.invariant.1.1;
-      inner = row_start (signals_of v) c.args.m.e k.a (within v room c.requires.0 c.requires.1 k.a ha) k.invariant.1.1;
+      outer = k.invariant.1;
+      inner = row_start (signals_of v) c.args.m.e k.a (within v room c.requires.0 c.requires.1 k.a ha) k.invariant.1;
     }
 
 pub loop-b-preserved : goal.loop-b-preserved
 loop-b-preserved c =
     let v = c.args.v in
-    let o = c.found in
+    let o = c.loop-a in
     let k = c.loop-b in
     let room : length v.m ≡ most_signals = search (rules, array_length) in
     let hb : k.b < v.len = omega (arith, k.invariant.long) in
@@ -81,12 +79,12 @@ loop-b-preserved c =
     let quotient = sym (beside_quotient (signals_of v) c.args.m.e (get_or (signals_of v) o.a []) (get_or (signals_of v) k.b []) long k.invariant.divided) in
     let told = quotient ∙ ap₂ same at_b (sym k.invariant.quotient) ∙ sym c.same.ensures in
     let inner = placing_on (beside (signals_of v) c.args.m.e (get_or (signals_of v) o.a [])) [] k.invariant.inner in_b (told ∙ c.if-same.false) in
-    record { empty = k.invariant.empty; long = k.invariant.long; below = k.invariant.below; divided = k.invariant.divided; quotient = k.invariant.quotient; outer = k.invariant.outer; inner = inner }
+    record { long = k.invariant.long; below = k.invariant.below; divided = k.invariant.divided; quotient = k.invariant.quotient; outer = k.invariant.outer; inner = inner }
 
-pub found-preserved : goal.found-preserved
-found-preserved c =
+pub loop-a-preserved : goal.loop-a-preserved
+loop-a-preserved c =
     let v = c.args.v in
-    let o = c.found in
+    let o = c.loop-a in
     let room : length v.m ≡ most_signals = search (rules, array_length) in
     let ha : o.a < v.len = omega arith in
     let in_a = within v room c.requires.0 c.requires.1 o.a ha in
@@ -94,31 +92,25 @@ found-preserved c =
       | then-divides+else-loop-b-test w ↦
           let k = w.loop-b in
           let all = beyond v room c.requires.0 c.requires.1 k.b (omega (arith, k.invariant.long, w.loop-b-test.false)) in
-          (w.r-is ∙ k.invariant.empty, (o.invariant.1.0, row_ends (signals_of v) c.args.m.e o.a in_a o.invariant.1.1 k.b k.invariant.inner all))
+          (o.invariant.0, row_ends (signals_of v) c.args.m.e o.a in_a o.invariant.1 k.b k.invariant.inner all)
       | else-divides w ↦
           let no = ap (λ (x : Mono). divides x c.args.m.e) (at v room c.requires.0 c.requires.1 o.a ha) ∙ sym c.divides.ensures ∙ w.if-divides.false in
-          (w.r-is ∙ o.invariant.0, (o.invariant.1.0, row_skips (signals_of v) c.args.m.e o.a in_a o.invariant.1.1 (alike v room c.requires.0 c.requires.1 o.a ha) no))
+          (o.invariant.0, row_skips (signals_of v) c.args.m.e o.a in_a o.invariant.1 (alike v room c.requires.0 c.requires.1 o.a ha) no)
     ]
 
-pub returns-after-found : goal.returns-after-found
-returns-after-found c =
+pub returns : goal.returns
+returns c =
     let v = c.args.v in
-    let k = c.found in
+    let k = c.loop-a in
     let room : length v.m ≡ most_signals = search (rules, array_length) in
     let ha : v.len ≤ k.a = omega arith in
-    let no = n_t→is (in_v2 plain (signals_of v) c.args.m.e) (pair_there (signals_of v) c.args.m.e k.a k.invariant.1.1 (beyond v room c.requires.0 c.requires.1 k.a ha)) in
-    rw k.invariant.0 (record {
-      told = sym no;
-      first = λ e. absurd (subst T (sym e) tt);
-      second = λ e. absurd (subst T (sym e) tt);
-      a_small = omega arith;
-      b_small = omega arith;
-    })
+    let no = n_t→is (in_v2 plain (signals_of v) c.args.m.e) (pair_there (signals_of v) c.args.m.e k.a k.invariant.1 (beyond v room c.requires.0 c.requires.1 k.a ha)) in
+    record { told = sym no; pair = tt }
 
 pub returns-then-same : goal.returns-then-same
 returns-then-same c =
     let v = c.args.v in
-    let o = c.found in
+    let o = c.loop-a in
     let k = c.loop-b in
     let room : length v.m ≡ most_signals = search (rules, array_length) in
     let hb : k.b < v.len = omega (arith, k.invariant.long) in
@@ -134,8 +126,10 @@ returns-then-same c =
     let met = pair_in (signals_of v) c.args.m.e o.a in_a k.invariant.outer k.b in_b k.invariant.inner hit in
     record {
       told = sym (T→is (in_v2 plain (signals_of v) c.args.m.e) met);
-      first = λ e. first;
-      second = λ e. second;
-      a_small = small v room c.requires.0 c.requires.1 o.a k.invariant.below;
-      b_small = small v room c.requires.0 c.requires.1 k.b hb;
+      pair = record {
+        first = first;
+        second = second;
+        a_small = small v room c.requires.0 c.requires.1 o.a k.invariant.below;
+        b_small = small v room c.requires.0 c.requires.1 k.b hb;
+      };
     }

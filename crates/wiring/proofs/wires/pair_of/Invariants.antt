@@ -1,25 +1,19 @@
 -- `pair_of` meets its contract: both loops look for the first that passes (`PairRow` outside, `Placing` inside). Assumes nothing.
 use mathlib.Core.Path.{◌≡◌}
-use mathlib.Core.Bool.{false}
 use mathlib.Core.List.{[]}
-use Prim.Native.Nat.{ℕ, ◌-◌, ◌<◌}
+use Prim.Native.Nat.{ℕ, ◌<◌}
 use lib.Dec.{T}
 use lib.ListN.{get_or}
 use Rattle.monomial.specs.Monomial.{Mono}
 use Rattle.monomial.specs.Quotient.{quo, divides}
 use Rattle.monomial.proofs.Loops.{Placing}
 use Rattle.wiring.specs.declared.signals.Signals.{Signals}
-use Rattle.wiring.specs.declared.wires.Pair.{Pair}
 use Rattle.wiring.specs.Signals.{signals_of}
 use Rattle.wiring.proofs.wires.Pairs.{beside, PairRow}
 use Rattle.wiring.proofs.wires.pair_of.Given as goal
 
-abbrev pub none : Pair
-none = record { some = false; a = 0; b = 0 }
-
 -- the inner loop: signal a divides m, and the quotient is looked for from b on
-pub record Inside (v : Signals) (m : Mono) (len a : ℕ) (rest : Mono) (r : Pair) (b : ℕ) : Type 0 where
-  pub empty : r ≡ none
+pub record Inside (v : Signals) (m : Mono) (len a : ℕ) (rest : Mono) (b : ℕ) : Type 0 where
   pub long : len ≡ v.len
   pub below : a < v.len
   pub divided : T (divides (get_or (signals_of v) a []) m)
@@ -28,13 +22,7 @@ pub record Inside (v : Signals) (m : Mono) (len a : ℕ) (rest : Mono) (r : Pair
   pub inner : Placing (beside (signals_of v) m (get_or (signals_of v) a [])) (signals_of v) b
 
 abbrev pub invariant-loop-b : goal.invariant-loop-b
-invariant-loop-b l = Inside l.v l.m.e l.len l.a l.rest.e l.r l.b
+invariant-loop-b l = Inside l.v l.m.e l.len l.a l.rest.e l.b
 
-abbrev pub decreases-loop-b : goal.decreases-loop-b
-decreases-loop-b l = l.len - l.b
-
-abbrev pub invariant-found : goal.invariant-found
-invariant-found l = (l.r ≡ none) × ((l.len ≡ l.v.len) × PairRow (signals_of l.v) l.m.e l.a)
-
-abbrev pub decreases-found : goal.decreases-found
-decreases-found l = l.len - l.a
+abbrev pub invariant-loop-a : goal.invariant-loop-a
+invariant-loop-a l = (l.len ≡ l.v.len) × PairRow (signals_of l.v) l.m.e l.a

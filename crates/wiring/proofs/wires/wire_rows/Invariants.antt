@@ -1,7 +1,6 @@
 -- `wire_rows` meets its contract: the first signals are met and their rows written, and the others make the list whole (`Listing`).
 -- Assumes nothing.
 use mathlib.Core.Path.{◌≡◌}
-use Prim.Native.Nat.{◌-◌}
 use lib.ListN.{length}
 use Rattle.wiring.specs.Poly.{plain}
 use Rattle.wiring.specs.Derivative.{derivative}
@@ -12,7 +11,4 @@ use Rattle.wiring.proofs.wires.wire_rows.Given as goal
 
 abbrev pub invariant-loop-left : goal.invariant-loop-left
 invariant-loop-left l =
-    (l.len ≡ l.v.len) × ((length l.out ≡ length l.initial.out) × Listing (signals_of l.v) (derivative plain (system (records l.terms))) l.left l.w l.out)
-
-abbrev pub decreases-loop-left : goal.decreases-loop-left
-decreases-loop-left l = l.len - l.left
+    (length l.out ≡ length l.initial.out) × Listing (signals_of l.v) (derivative plain (system (records l.terms))) l.left l.w l.out
