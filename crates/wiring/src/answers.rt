@@ -6,9 +6,9 @@ ghost use Rattle.wiring.specs.Terms.{records, system};
 ghost use Rattle.wiring.specs.Sets.{monomials_of};
 ghost use Rattle.wiring.specs.Answers.{judged, told, wires, wired, Judgeable, Gives};
 
+use super::held::Set;
 use super::panel::{Panel, SET_BYTES};
 use super::reply::Reply;
-use super::sets::Set;
 use super::wires::Unmet;
 use super::{buffer, sets, signals, sockets, terms, wires};
 

@@ -8,6 +8,7 @@ pub mod buffer;
 pub mod choice;
 pub mod coefficient;
 pub mod derivative;
+pub mod held;
 pub mod kit;
 pub mod panel;
 pub mod parts;

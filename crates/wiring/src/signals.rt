@@ -3,27 +3,19 @@ ghost use Rattle.std.specs.Prelude.{◌≡◌, ◌+◌, ◌/◌, ◌≤◌, leng
 ghost use Rattle.monomial.specs.Monomial.{one, width};
 ghost use Rattle.monomial.specs.Lists.{any};
 ghost use Rattle.monomial.specs.Order.{same};
-ghost use Rattle.wiring.specs.Panel.{cards};
 ghost use Rattle.wiring.specs.Poly.{plain};
 ghost use Rattle.wiring.specs.Quadratic.{in_v2};
 ghost use Rattle.wiring.specs.Signals.{signals, signals_of, tabled, signals_at};
 ghost use Rattle.wiring.specs.Sets.{monomials_of};
 
+use super::held::{Set, Signals};
 use super::panel::MOST_SIGNALS;
-use super::sets::Set;
 use monomial::Monomial;
 use monomial::width::WIDTH;
 
-// 1, the variables, the new monomials.
-#[derive(Clone, Copy)]
-pub struct Signals {
-    pub m: [Monomial; MOST_SIGNALS],
-    pub len: usize,
-}
-
 // V of a set.
 pub fn signals_of(n: usize, set: Set) -> Signals
-    requires { (n ≤ width) × (set.len ≤ cards) }
+    requires { n ≤ width }
     ensures { (signals_of result ≡ signals width n (monomials_of set)) × (result.len ≡ n + 1 + set.len) }
 {
     let mut m = [Monomial::ONE; MOST_SIGNALS];

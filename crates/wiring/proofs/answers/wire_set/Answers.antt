@@ -25,14 +25,14 @@ use Rattle.wiring.proofs.answers.Laws.{first_as, listed_done, listed_full, told_
 use Rattle.wiring.proofs.answers.wire_set.Goals as goal
 
 pub signals_of-v-requires : goal.signals_of-v-requires
-signals_of-v-requires c = let q = c.requires.0 in (q.few, q.small)
+signals_of-v-requires c = c.requires.0.few
 
 pub wire_rows-requires : goal.wire_rows-requires
 wire_rows-requires c =
     let q = c.requires.0 in
     let v = c.signals_of-v.ensures in
     let fits = signals_fitting set_exponent c.args.n (monomials_of c.args.set) (omega arith) q.fits in
-    (q.clean, (omega (arith, q.few, q.small), (subst (Fitting set_exponent) (sym v.0) fits, sheet_start c.args.out.now c.requires.1)))
+    record { clean = q.clean; fits = subst (Fitting set_exponent) (sym v.0) fits; blank = sheet_start c.args.out.now c.requires.1 }
 
 pub shape_of-out-in-Ok-Some : goal.shape_of-out-in-Ok-Some
 shape_of-out-in-Ok-Some c = c.wire_rows.auto.out
@@ -42,7 +42,7 @@ returns-in-Ok-Some c =
     let a = c.args in
     let room : length a.set.m ≡ cards = search (rules, array_length) in
     let m = monomials_of a.set in
-    let size : a.set.len ≡ length m = sym (front_length a.set.len a.set.m (omega (arith, c.requires.0.small))) in
+    let size : a.set.len ≡ length m = sym (front_length a.set.len a.set.m (omega (arith, a.set.few))) in
     let fs = system (records a.terms.now) in
     let w = c.wire_rows in
     let out = w.new.out in
@@ -64,7 +64,7 @@ returns-in-Ok-None c =
     let a = c.args in
     let room : length a.set.m ≡ cards = search (rules, array_length) in
     let m = monomials_of a.set in
-    let size : a.set.len ≡ length m = sym (front_length a.set.len a.set.m (omega (arith, c.requires.0.small))) in
+    let size : a.set.len ≡ length m = sym (front_length a.set.len a.set.m (omega (arith, a.set.few))) in
     let fs = system (records a.terms.now) in
     let w = c.wire_rows in
     let out = w.new.out in
@@ -87,7 +87,7 @@ returns-in-Err c =
     let a = c.args in
     let room : length a.set.m ≡ cards = search (rules, array_length) in
     let m = monomials_of a.set in
-    let size : a.set.len ≡ length m = sym (front_length a.set.len a.set.m (omega (arith, c.requires.0.small))) in
+    let size : a.set.len ≡ length m = sym (front_length a.set.len a.set.m (omega (arith, a.set.few))) in
     let fs = system (records a.terms.now) in
     let w = c.wire_rows in
     let out = w.new.out in

@@ -8,7 +8,7 @@ use borrow.Author.Rules.{rules}
 use Rattle.wiring.proofs.signals.signals_of.Goals as goal
 
 pub loop-i-init : goal.loop-i-init
-loop-i-init c = (omega arith, signalling_start _ _ _ _ c.requires.0 c.requires.1 (search (rules, array_length)) refl refl)
+loop-i-init c = (omega arith, signalling_start _ _ _ _ c.requires c.args.set.few (search (rules, array_length)) refl refl)
 
 pub loop-i-preserved : goal.loop-i-preserved
 loop-i-preserved c = (omega arith, signalling_constant c.loop-i.invariant.1 c.constant.result (omega arith) c.constant.ensures)

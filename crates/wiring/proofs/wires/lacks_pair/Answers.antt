@@ -15,7 +15,7 @@ loop-t-init c = seeking_start _ _
 pub lacks_pair_at-requires : goal.lacks_pair_at-requires
 lacks_pair_at-requires c =
     let p = c.requires in
-    (p.0, (omega arith, p.1))
+    record { clean = p.clean; inside = omega arith; fits = p.fits; small = p.small }
 
 pub returns-then-lacks_pair_at : goal.returns-then-lacks_pair_at
 returns-then-lacks_pair_at c =

@@ -13,7 +13,7 @@ use Rattle.wiring.proofs.wires.lacks_pair_at.Goals as goal
 pub following-requires : goal.following-requires
 following-requires c =
     let p = c.requires in
-    (p.0, (p.1.0, p.1.1.1.1))
+    (p.clean, (p.inside, p.small))
 
 pub returns-in_default : goal.returns-in_default
 returns-in_default c =
@@ -21,8 +21,7 @@ returns-in_default c =
     sym (lacks_none (signals_of a.v) a.last (system (records a.terms.now)) a.z.e (record_at a.terms.now a.t) (sym c.in_default.ensures.told))
 
 pub pair_of-requires : goal.pair_of-requires
-pair_of-requires c =
-    (c.requires.1.1.0, c.requires.1.1.1.0)
+pair_of-requires c = c.requires.fits
 
 pub returns-then-is_some : goal.returns-then-is_some
 returns-then-is_some c =
@@ -34,7 +33,7 @@ returns-then-is_some c =
 pub total-requires : goal.total-requires
 total-requires c =
     let p = c.requires in
-    (p.0, p.1.1.1.1)
+    (p.clean, p.small)
 
 pub returns : goal.returns
 returns c =

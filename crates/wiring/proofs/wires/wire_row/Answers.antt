@@ -23,8 +23,8 @@ pub lacks_pair-requires : goal.lacks_pair-requires
 lacks_pair-requires c =
     let v = c.args.v in
     let room : length v.m ≡ most_signals = search (rules, array_length) in
-    let fits = entry_fits set_exponent v.len v.m c.args.left (omega arith) (omega arith) c.requires.1.1.1 in
-    (c.requires.0, (c.requires.1.0, (c.requires.1.1.1, fits)))
+    let fits = entry_fits set_exponent v.len v.m c.args.left (omega arith) (omega arith) c.requires.fits in
+    record { clean = c.requires.clean; fits = c.requires.fits; small = fits }
 
 pub shape_of-out-then-lacks_pair : goal.shape_of-out-then-lacks_pair
 shape_of-out-then-lacks_pair c = c.loop-w.invariant.1.long
@@ -50,8 +50,8 @@ pub next_part-requires : goal.next_part-requires
 next_part-requires c =
     let v = c.args.v in
     let room : length v.m ≡ most_signals = search (rules, array_length) in
-    let fits = entry_fits set_exponent v.len v.m c.args.left (omega arith) (omega arith) c.requires.1.1.1 in
-    (c.requires.0, fits)
+    let fits = entry_fits set_exponent v.len v.m c.args.left (omega arith) (omega arith) c.requires.fits in
+    (c.requires.clean, fits)
 
 pub shape_of-out-in_default-next_part : goal.shape_of-out-in_default-next_part
 shape_of-out-in_default-next_part c = c.loop-w.invariant.1.long
@@ -63,8 +63,7 @@ returns-in_default-next_part c =
     λ done h. rw (sym k.invariant.0) (rowing_ends _ _ _ r c.in_default-next_part.ensures.heads done h)
 
 pub pair_of-requires : goal.pair_of-requires
-pair_of-requires c =
-    (c.requires.1.0, c.requires.1.1.1)
+pair_of-requires c = c.requires.fits
 
 pub shape_of-out-in_default-pair_of : goal.shape_of-out-in_default-pair_of
 shape_of-out-in_default-pair_of c = c.loop-w.invariant.1.long
@@ -79,8 +78,8 @@ returns-in_default-pair_of c =
 pub enter-w-requires : goal.enter-w-requires
 enter-w-requires c =
     let pair = c.in-Some-pair_of.ensures.pair in
-    let few = c.requires.1.0 in
-    let left = c.requires.1.1.0 in
+    let few = c.args.v.few in
+    let left = c.requires.inside in
     (omega arith, (omega (arith, pair.a_small), omega (arith, pair.b_small)))
 
 pub loop-w-smaller : goal.loop-w-smaller
@@ -96,8 +95,8 @@ loop-w-preserved c =
     let part = c.in-Some-next_part in
     let m = part.part.m.e in
     let pair = c.in-Some-pair_of.ensures in
-    let fits = c.requires.1.1.1 _ (at_in (signals_of v) c.args.left [] (omega (arith, front_length v.len v.m (omega arith)))) in
-    let total = total_held c.args.terms.now c.requires.0 _ m (rw k.invariant.0 fits.0) (rw k.invariant.0 fits.1) _ part.ensures.total_value in
+    let fits = c.requires.fits _ (at_in (signals_of v) c.args.left [] (omega (arith, front_length v.len v.m (omega arith)))) in
+    let total = total_held c.args.terms.now c.requires.clean _ m (rw k.invariant.0 fits.0) (rw k.invariant.0 fits.1) _ part.ensures.total_value in
     let wire = wire_is (signals_of v) c.args.left _ m _ _ _ pair.pair.first pair.pair.second total in
     let entered = c.enter-w in
     let more = rowing_more _ _ _ k.invariant.1 part.part.m part.ensures.heads in

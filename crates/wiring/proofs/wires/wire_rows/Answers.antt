@@ -17,11 +17,11 @@ use Rattle.wiring.proofs.wires.wire_rows.Goals as goal
 
 pub loop-left-init : goal.loop-left-init
 loop-left-init c =
-    (refl, listing_start (signals_of c.args.v) _ _ c.args.out.now c.requires.1.1.1)
+    (refl, listing_start (signals_of c.args.v) _ _ c.args.out.now c.requires.blank)
 
 pub wire_row-requires : goal.wire_row-requires
 wire_row-requires c =
-    (c.requires.0, (c.requires.1.0, (omega arith, c.requires.1.1.0)))
+    record { clean = c.requires.clean; inside = omega arith; fits = c.requires.fits }
 
 pub loop-left-preserved : goal.loop-left-preserved
 loop-left-preserved c =
