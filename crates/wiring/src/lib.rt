@@ -17,5 +17,6 @@ pub mod reply;
 pub mod sets;
 pub mod signals;
 pub mod sockets;
+pub mod system;
 pub mod terms;
 pub mod wires;

@@ -32,7 +32,7 @@ wire_rows-requires c =
     let q = c.requires.0 in
     let v = c.signals_of-v.ensures in
     let fits = signals_fitting set_exponent c.args.n (monomials_of c.args.set) (omega arith) q.fits in
-    record { clean = q.clean; fits = subst (Fitting set_exponent) (sym v.0) fits; blank = sheet_start c.args.out.now c.requires.1 }
+    record { fits = subst (Fitting set_exponent) (sym v.0) fits; blank = sheet_start c.args.out.now c.requires.1 }
 
 pub shape_of-out-in-Ok-Some : goal.shape_of-out-in-Ok-Some
 shape_of-out-in-Ok-Some c = c.wire_rows.auto.out
