@@ -11,24 +11,24 @@ ghost use Rattle.wiring.specs.Signals.{Fitting, signals_at};
 ghost use Rattle.wiring.specs.Terms.{record_at, records, system};
 ghost use Rattle.wiring.specs.Choice.{Offered};
 
+use super::coefficient;
+use super::signals::Members;
 use super::system::System;
-use super::{coefficient, signals};
 use monomial::Monomial;
-use monomial::width::WIDTH;
 
 impl System<'_> {
     // The monomial of record t in the derivative of z, where it has a coefficient and is not in V2 of the set. The total, which is dear, is asked last,
     // and only where it may be 0.
-    pub fn nonsquare_of(self, t: usize, z: Monomial, n: usize, set: &[u8]) -> Option<Monomial>
+    pub fn nonsquare_of(self, t: usize, z: Monomial, v: Members) -> Option<Monomial>
         requires inside { term_bytes * t + term_bytes ≤ length self.terms.now }
         requires small { AtMost set_exponent z.e }
-        ensures { Offered (offers (λ m. not (in_v2 plain (signals_at n set.now) m)) (system (records self.entry.terms.now)) z.e (record_at self.entry.terms.now t)) (image (record_at self.entry.terms.now t) z.e) result }
+        ensures { Offered (offers (λ m. not (in_v2 plain (signals_at v.entry.n v.entry.set.now) m)) (system (records self.entry.terms.now)) z.e (record_at self.entry.terms.now t)) (image (record_at self.entry.terms.now t) z.e) result }
     {
         if self.power(t, z) < 1 {
             return None;
         }
         let m = self.image(t, z);
-        if signals::is_square(n, set, m) {
+        if v.is_square(m) {
             return None;
         }
         if self.cancels {
@@ -40,12 +40,12 @@ impl System<'_> {
     }
 
     // Whether the derivative of z has a monomial that is not in V2 of the set.
-    fn has_nonsquare(self, z: Monomial, n: usize, set: &[u8]) -> bool
+    fn has_nonsquare(self, z: Monomial, v: Members) -> bool
         requires { AtMost set_exponent z.e }
-        ensures { result ≡ lacking plain (signals_at n set.now) (derivative plain (system (records self.entry.terms.now)) z.e) }
+        ensures { result ≡ lacking plain (signals_at v.entry.n v.entry.set.now) (derivative plain (system (records self.entry.terms.now)) z.e) }
     {
         for t in 0..self.count() {
-            if self.nonsquare_of(t, z, n, set).is_some() {
+            if self.nonsquare_of(t, z, v).is_some() {
                 return true;
             }
         }
@@ -53,13 +53,13 @@ impl System<'_> {
     }
 
     // Whether the set has a nonsquare. The signals are asked from the last: the newest ones have most.
-    pub fn is_unmet(self, n: usize, set: &[u8]) -> bool
-        requires few { n ≤ width }
-        requires fits { Fitting set_exponent (signals_at n set.now) }
-        ensures { result ≡ some (nonsquares plain (signals_at n set.now) (derivative plain (system (records self.entry.terms.now)))) }
+    pub fn is_unmet(self, v: Members) -> bool
+        requires few { v.n ≤ width }
+        requires fits { Fitting set_exponent (signals_at v.n v.set.now) }
+        ensures { result ≡ some (nonsquares plain (signals_at v.entry.n v.entry.set.now) (derivative plain (system (records self.entry.terms.now)))) }
     {
-        for j in (0..n + 1 + set.len() / WIDTH).rev() {
-            if self.has_nonsquare(signals::signal(n, set, j), n, set) {
+        for j in (0..v.len()).rev() {
+            if self.has_nonsquare(v.signal(j), v) {
                 return true;
             }
         }

@@ -23,16 +23,16 @@ returns-then-is_some c =
     let a = c.args in
     let l = a.self.terms.now in
     let k = c.loop-t in
-    let f = offers (outside (signals_at a.n a.set.now)) (system (records l)) a.z.e in
+    let f = offers (outside (signals_at a.v.n a.v.set.now)) (system (records l)) a.z.e in
     let here = at_record f l k.t (omega arith) ∙ sym c.nonsquare_of.ensures.told ∙ sym c.is_some.ensures ∙ c.if-is_some.true in
-    seeking_found f (record_at l k.t) k.invariant (omega (arith, records_length l)) here ∙ found_unmet (signals_at a.n a.set.now) (records l) a.z.e
+    seeking_found f (record_at l k.t) k.invariant (omega (arith, records_length l)) here ∙ found_unmet (signals_at a.v.n a.v.set.now) (records l) a.z.e
 
 pub loop-t-preserved : goal.loop-t-preserved
 loop-t-preserved c =
     let a = c.args in
     let l = a.self.terms.now in
     let k = c.loop-t in
-    let f = offers (outside (signals_at a.n a.set.now)) (system (records l)) a.z.e in
+    let f = offers (outside (signals_at a.v.n a.v.set.now)) (system (records l)) a.z.e in
     let not_here = at_record f l k.t (omega arith) ∙ sym c.nonsquare_of.ensures.told ∙ sym c.is_some.ensures ∙ c.if-is_some.false in
     seeking_on f (record_at l k.t) k.invariant (omega (arith, records_length l)) not_here
 
@@ -41,5 +41,5 @@ returns c =
     let a = c.args in
     let l = a.self.terms.now in
     let k = c.loop-t in
-    let f = offers (outside (signals_at a.n a.set.now)) (system (records l)) a.z.e in
-    seeking_ends f k.invariant (omega (arith, records_length l)) ∙ found_unmet (signals_at a.n a.set.now) (records l) a.z.e
+    let f = offers (outside (signals_at a.v.n a.v.set.now)) (system (records l)) a.z.e in
+    seeking_ends f k.invariant (omega (arith, records_length l)) ∙ found_unmet (signals_at a.v.n a.v.set.now) (records l) a.z.e

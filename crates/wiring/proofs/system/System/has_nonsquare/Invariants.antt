@@ -7,4 +7,4 @@ use Rattle.wiring.proofs.quadratic.Records.{outside}
 use Rattle.wiring.proofs.system.System.has_nonsquare.Given as goal
 
 abbrev pub invariant-loop-t : goal.invariant-loop-t
-invariant-loop-t l = Seeking (offers (outside (signals_at l.n l.set)) (system (records l.self.terms.now)) l.z.e) (records l.self.terms.now) l.t
+invariant-loop-t l = Seeking (offers (outside (signals_at l.v.n l.v.set.now)) (system (records l.self.terms.now)) l.z.e) (records l.self.terms.now) l.t

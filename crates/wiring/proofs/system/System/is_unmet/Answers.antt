@@ -10,23 +10,20 @@ use Rattle.wiring.specs.Poly.{plain}
 use Rattle.wiring.specs.Derivative.{derivative}
 use Rattle.wiring.specs.Signals.{signals_at}
 use Rattle.wiring.specs.Terms.{records, system}
-use Rattle.wiring.proofs.signals.Laws.{signals_at_length, fitting_at}
+use Rattle.wiring.proofs.signals.Laws.{fitting_at}
 use Rattle.wiring.proofs.quadratic.Laws.{some_nonsquares}
 use Rattle.wiring.proofs.system.System.is_unmet.Invariants.{bad}
 use Rattle.wiring.proofs.system.System.is_unmet.Goals as goal
 
 pub loop-j-init : goal.loop-j-init
-loop-j-init c =
-    let a = c.args in
-    down_start _ (signals_at a.n a.set.now) _ (sym (signals_at_length a.n a.set.now c.requires.few))
+loop-j-init c = down_start _ _ _ c.len-j.ensures
 
 pub signal-requires : goal.signal-requires
-signal-requires c =
-    (c.requires.few, omega (arith, c.loop-j.invariant.within, signals_at_length c.args.n c.args.set.now c.requires.few))
+signal-requires c = record { few = c.requires.few; inside = omega (arith, c.loop-j.invariant.within) }
 
 pub has_nonsquare-requires : goal.has_nonsquare-requires
 has_nonsquare-requires c =
-    let v = signals_at c.args.n c.args.set.now in
+    let v = signals_at c.args.v.n c.args.v.set.now in
     let j = c.loop-j.j in
     let fits = fitting_at set_exponent v (j - 1) (one width) c.requires.fits (omega (arith, c.loop-j.invariant.within)) in
     rw c.signal.ensures fits
@@ -34,7 +31,7 @@ has_nonsquare-requires c =
 pub returns-then-has_nonsquare : goal.returns-then-has_nonsquare
 returns-then-has_nonsquare c =
     let a = c.args in
-    let v = signals_at a.n a.set.now in
+    let v = signals_at a.v.n a.v.set.now in
     let f = bad a.self.terms.now v in
     let k = c.loop-j in
     let here = ap f (sym c.signal.ensures) ∙ sym c.has_nonsquare.ensures ∙ c.if-has_nonsquare.true in
@@ -43,7 +40,7 @@ returns-then-has_nonsquare c =
 pub loop-j-preserved : goal.loop-j-preserved
 loop-j-preserved c =
     let a = c.args in
-    let f = bad a.self.terms.now (signals_at a.n a.set.now) in
+    let f = bad a.self.terms.now (signals_at a.v.n a.v.set.now) in
     let k = c.loop-j in
     let not_here = ap f (sym c.signal.ensures) ∙ sym c.has_nonsquare.ensures ∙ c.if-has_nonsquare.false in
     down_on f (one width) k.invariant (k.j - 1) (omega arith) not_here
@@ -51,7 +48,7 @@ loop-j-preserved c =
 pub returns : goal.returns
 returns c =
     let a = c.args in
-    let v = signals_at a.n a.set.now in
+    let v = signals_at a.v.n a.v.set.now in
     let k = c.loop-j in
     let last : k.j ≡ 0 = omega arith in
     down_ends (bad a.self.terms.now v) (subst (SeekingDown (bad a.self.terms.now v) v) last k.invariant)

@@ -17,4 +17,4 @@ abbrev pub bad : List ℕ → List Mono → Mono → Bool
 bad terms v z = some (unmet plain v (derivative plain (system (records terms)) z))
 
 abbrev pub invariant-loop-j : goal.invariant-loop-j
-invariant-loop-j l = SeekingDown (bad l.self.terms.now (signals_at l.n l.set)) (signals_at l.n l.set) l.j
+invariant-loop-j l = SeekingDown (bad l.self.terms.now (signals_at l.v.n l.v.set.now)) (signals_at l.v.n l.v.set.now) l.j

@@ -23,7 +23,7 @@ pub returns-then-power-lt1 : goal.returns-then-power-lt1
 returns-then-power-lt1 c =
     let a = c.args in
     let l = a.self.terms.now in
-    offered_low (outside (signals_at a.n a.set.now)) (system (records l)) a.z.e (record_at l a.t) c.power.result
+    offered_low (outside (signals_at a.v.n a.v.set.now)) (system (records l)) a.z.e (record_at l a.t) c.power.result
     c.power.ensures c.if-power-lt1.true
 
 pub image-m-requires : goal.image-m-requires
@@ -38,7 +38,7 @@ returns-then-is_square c =
     let l = a.self.terms.now in
     let x = c.power in
     let m = c.image-m in
-    offered_fails (outside (signals_at a.n a.set.now)) (system (records l)) a.z.e (record_at l a.t) x.result m.result
+    offered_fails (outside (signals_at a.v.n a.v.set.now)) (system (records l)) a.z.e (record_at l a.t) x.result m.result
     x.ensures c.if-power-lt1.false m.ensures (ap not (sym c.is_square.ensures ∙ c.if-is_square.true))
 
 pub total-requires : goal.total-requires
@@ -54,7 +54,7 @@ returns-then-is_zero c =
     let sum = c.total in
     let same_sum = to_z-of_z w32 sum.result (sfits_of sum.type_inv) in
     let zero = ap is_zero (sym sum.ensures ∙ sym same_sum) ∙ sym c.is_zero.ensures ∙ c.if-is_zero.true in
-    offered_zero (outside (signals_at a.n a.set.now)) (system (records l)) a.z.e (record_at l a.t) x.result m.result
+    offered_zero (outside (signals_at a.v.n a.v.set.now)) (system (records l)) a.z.e (record_at l a.t) x.result m.result
     x.ensures c.if-power-lt1.false m.ensures
     (ap not (sym c.is_square.ensures ∙ c.if-is_square.false)) zero
 
@@ -67,7 +67,7 @@ returns-else-is_zero c =
     let sum = c.total in
     let same_sum = to_z-of_z w32 sum.result (sfits_of sum.type_inv) in
     let other = ap is_zero (sym sum.ensures ∙ sym same_sum) ∙ sym c.is_zero.ensures ∙ c.if-is_zero.false in
-    offered_here (outside (signals_at a.n a.set.now)) (system (records l)) a.z.e (record_at l a.t) x.result m.result
+    offered_here (outside (signals_at a.v.n a.v.set.now)) (system (records l)) a.z.e (record_at l a.t) x.result m.result
     x.ensures c.if-power-lt1.false m.ensures
     (ap not (sym c.is_square.ensures ∙ c.if-is_square.false)) other
 
@@ -80,6 +80,6 @@ returns-else-self c =
     let x = c.power in
     let m = c.image-m in
     let other = c.args.self.sums c.if-self.false a.z.e a.t long (omega (arith, c.requires.inside)) (omega (arith, x.ensures, c.if-power-lt1.false)) in
-    offered_here (outside (signals_at a.n a.set.now)) (system (records l)) a.z.e (record_at l a.t) x.result m.result
+    offered_here (outside (signals_at a.v.n a.v.set.now)) (system (records l)) a.z.e (record_at l a.t) x.result m.result
     x.ensures c.if-power-lt1.false m.ensures
     (ap not (sym c.is_square.ensures ∙ c.if-is_square.false)) (ap (λ (y : Mono). is_zero (coeff plain (derivative plain (system (records l)) a.z.e) y)) m.ensures ∙ other)

@@ -3,7 +3,7 @@
 use Rattle.monomial.proofs.Loops.{SeekingDown}
 use Rattle.wiring.specs.Signals.{tabled}
 use Rattle.wiring.proofs.signals.Division.{leaves}
-use Rattle.wiring.proofs.signals.is_square.Given as goal
+use Rattle.wiring.proofs.signals.Members.is_square.Given as goal
 
 abbrev pub invariant-loop-i : goal.invariant-loop-i
-invariant-loop-i l = SeekingDown (leaves l.n (tabled l.set) l.m.e) (tabled l.set) l.i
+invariant-loop-i l = SeekingDown (leaves l.self.n (tabled l.self.set.now) l.m.e) (tabled l.self.set.now) l.i
