@@ -1,5 +1,6 @@
-// A system: term records without a fault, which what asks for derivatives is given.
+// A system: term records without a fault. What asks for derivatives is a method of it.
 ghost use Rattle.std.specs.Prelude.{◌≡◌, false, ◌+◌, ◌*◌, ◌/◌, ◌≤◌, length};
+ghost use Rattle.monomial.specs.Monomial.{width};
 ghost use Rattle.wiring.specs.Panel.{term_bytes};
 ghost use Rattle.wiring.specs.Derivative.{Uncancelled};
 ghost use Rattle.wiring.specs.Terms.{record_at, CleanTerms};
@@ -25,10 +26,12 @@ impl System<'_> {
         self.terms.len() / TERM_BYTES
     }
 
-    // The number of record t's equation.
+    // The number of the variable whose equation record t belongs to.
     pub(crate) fn equation(self, t: usize) -> usize
         requires { term_bytes * t + term_bytes ≤ length self.terms.now }
-        ensures { result ≡ (record_at self.entry.terms.now t).equation }
+        ensures value { result ≡ (record_at self.entry.terms.now t).equation }
+        ensures low { 1 ≤ result }
+        ensures high { result ≤ width }
     {
         usize::from(self.terms[TERM_BYTES * t])
     }

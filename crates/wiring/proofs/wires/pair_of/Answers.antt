@@ -1,5 +1,5 @@
 -- `pair_of` meets its contract: both loops look for the first that passes (`PairRow` outside, `Placing` inside). Assumes nothing.
-use mathlib.Core.Path.{◌≡◌, refl, sym, ap, ap₂, ◌∙◌}
+use mathlib.Core.Path.{◌≡◌, sym, ap, ap₂, ◌∙◌}
 use mathlib.Core.List.{[]}
 use Prim.Native.Nat.{ℕ, ◌<◌, ◌≤◌}
 use native.Mathlib.Omega.{arith}
@@ -11,7 +11,7 @@ use Rattle.monomial.specs.Quotient.{quo, divides}
 use Rattle.monomial.specs.Claims.{◌∈◌}
 use Rattle.monomial.proofs.Tests.{T→is, n_t→is, is→T}
 use Rattle.monomial.proofs.Counting.{at_in}
-use Rattle.monomial.proofs.Loops.{placing_start, placing_on}
+use Rattle.monomial.proofs.Loops.{placing_on}
 use Rattle.wiring.specs.Panel.{set_exponent, most_signals}
 use Rattle.wiring.specs.Poly.{plain}
 use Rattle.wiring.specs.Quadratic.{in_v2}
@@ -42,12 +42,6 @@ module _ (v : Signals) (room : length v.m ≡ most_signals) (fits : v.len ≤ mo
   -- all signals are of one length
   alike : (i : ℕ) → i < v.len → (y : Mono) → y ∈ signals_of v → length (get_or (signals_of v) i []) ≡ length y
   alike i h y m = (wide (get_or (signals_of v) i []) (at_in (signals_of v) i [] (within i h))).0 ∙ sym (wide y m).0
-
-pub loop-a-init : goal.loop-a-init
-loop-a-init c = (refl, placing_start _ _)
-
-pub over-rest-requires : goal.over-rest-requires
-over-rest-requires c = is→T _ (sym c.divides.ensures ∙ c.if-divides.true)
 
 pub loop-b-init : goal.loop-b-init
 loop-b-init c =

@@ -7,20 +7,14 @@ use Rattle.wiring.specs.Terms.{record_at}
 use Rattle.wiring.proofs.quadratic.Records.{given_low, given_fails, given_here}
 use Rattle.wiring.proofs.system.System.following.Goals as goal
 
-pub power-requires : goal.power-requires
-power-requires c = c.requires.inside
-
 pub returns-then-power-lt1 : goal.returns-then-power-lt1
 returns-then-power-lt1 c =
     let a = c.args in
     let l = a.self.terms.now in
     given_low (beyond a.last) a.z.e (record_at l a.t) c.power.result c.power.ensures c.if-power-lt1.true
 
-pub image-m-requires : goal.image-m-requires
-image-m-requires c =
-    let raised = c.power.ensures in
-    let low = c.if-power-lt1.false in
-    record { inside = c.requires.inside; raised = omega arith; small = at_most_weaken c.args.z.e (omega arith) c.requires.small }
+pub image-m-requires-clause-small : goal.image-m-requires-clause-small
+image-m-requires-clause-small c = at_most_weaken c.args.z.e (omega arith) c.requires.small
 
 pub returns-then-not-is_beyond : goal.returns-then-not-is_beyond
 returns-then-not-is_beyond c =

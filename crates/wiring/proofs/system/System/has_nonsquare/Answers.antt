@@ -1,22 +1,13 @@
 -- `has_nonsquare` meets its contract: the loop looks through the records for one that offers (`Seeking`). Assumes nothing.
 use mathlib.Core.Path.{sym, ◌∙◌}
 use native.Mathlib.Omega.{arith}
-use Rattle.monomial.proofs.Loops.{seeking_start, seeking_found, seeking_on, seeking_ends}
+use Rattle.monomial.proofs.Loops.{seeking_found, seeking_on, seeking_ends}
 use Rattle.wiring.specs.Derivative.{offers}
 use Rattle.wiring.specs.Signals.{signals_at}
 use Rattle.wiring.specs.Terms.{record_at, records, system}
 use Rattle.wiring.proofs.terms.Laws.{records_length}
 use Rattle.wiring.proofs.quadratic.Records.{outside, found_unmet, at_record}
 use Rattle.wiring.proofs.system.System.has_nonsquare.Goals as goal
-
-pub loop-t-init : goal.loop-t-init
-loop-t-init c =
-    let l = c.args.self.terms.now in
-    seeking_start _ (records l)
-
-pub nonsquare_of-requires : goal.nonsquare_of-requires
-nonsquare_of-requires c =
-    record { inside = omega arith; small = c.requires }
 
 pub returns-then-is_some : goal.returns-then-is_some
 returns-then-is_some c =

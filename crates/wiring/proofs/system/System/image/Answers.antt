@@ -1,5 +1,5 @@
 -- `System::image` meets its contract: the exponent of the record's variable falls by one, then the product. Assumes nothing.
-use mathlib.Core.Path.{◌≡◌, sym, subst, ◌∙◌}
+use mathlib.Core.Path.{◌≡◌, sym, subst}
 use native.Mathlib.Omega.{arith}
 use lib.ListN.{length}
 use Rattle.monomial.specs.Product.{FitsBytes}
@@ -14,34 +14,12 @@ use Rattle.monomial.specs.Monomial.{width}
 use Rattle.wiring.specs.Panel.{term_exponent}
 use Rattle.wiring.proofs.system.System.image.Goals as goal
 
-pub overflow_sub-i : goal.overflow_sub-i
-overflow_sub-i c =
-    omega (arith, c.equation-i.ensures, (clean_at c.args.self.terms.now c.args.self.clean c.args.t (omega arith)).low)
-
-pub bounds-e-i : goal.bounds-e-i
-bounds-e-i c =
-    omega (arith, c.equation-i.ensures, (clean_at c.args.self.terms.now c.args.self.clean c.args.t (omega arith)).high)
-
-pub overflow_sub-e : goal.overflow_sub-e
-overflow_sub-e c =
-    rw c.equation-i.ensures c.requires.raised
-
-pub bounds-e-i-2 : goal.bounds-e-i-2
-bounds-e-i-2 c =
-    omega (arith, c.equation-i.ensures, (clean_at c.args.self.terms.now c.args.self.clean c.args.t (omega arith)).high)
-
 pub times-requires : goal.times-requires
 times-requires c =
     let r = record_at c.args.self.terms.now c.args.t in
     let z = c.args.z.e in
     let h = clean_at c.args.self.terms.now c.args.self.clean c.args.t (omega arith) in
-    let made = image_made r z _ _ _ c.equation-i.ensures c.of.ensures c.monomial.ensures in
+    let made = image_made r z _ _ _ c.equation-i.ensures.value c.of.ensures c.monomial.ensures in
     let six : length z ≡ width = search rules in
     let fits = (image_fits r term_exponent 200 z h.long h.small six c.requires.small).1 in
     subst FitsBytes (sym made) (at_most_weaken (image r z) (omega arith) fits)
-
-pub returns : goal.returns
-returns c =
-    let r = record_at c.args.self.terms.now c.args.t in
-    let made = image_made r c.args.z.e _ _ _ c.equation-i.ensures c.of.ensures c.monomial.ensures in
-    c.times.ensures ∙ made

@@ -3,7 +3,7 @@ use mathlib.Core.Path.{◌≡◌, sym, ap, ◌∙◌, subst}
 use Prim.Native.Nat.{◌-◌}
 use native.Mathlib.Omega.{arith}
 use Rattle.monomial.specs.Monomial.{one, width}
-use Rattle.monomial.proofs.Loops.{SeekingDown, down_start, down_found, down_on, down_ends}
+use Rattle.monomial.proofs.Loops.{SeekingDown, down_found, down_on, down_ends}
 use Rattle.monomial.proofs.order.Laws.{mono_order}
 use Rattle.wiring.specs.Panel.{set_exponent}
 use Rattle.wiring.specs.Poly.{plain}
@@ -14,12 +14,6 @@ use Rattle.wiring.proofs.signals.Laws.{fitting_at}
 use Rattle.wiring.proofs.quadratic.Laws.{some_nonsquares}
 use Rattle.wiring.proofs.system.System.is_unmet.Invariants.{bad}
 use Rattle.wiring.proofs.system.System.is_unmet.Goals as goal
-
-pub loop-j-init : goal.loop-j-init
-loop-j-init c = down_start _ _ _ c.len-j.ensures
-
-pub signal-requires : goal.signal-requires
-signal-requires c = record { few = c.requires.few; inside = omega (arith, c.loop-j.invariant.within) }
 
 pub has_nonsquare-requires : goal.has_nonsquare-requires
 has_nonsquare-requires c =

@@ -1,21 +1,13 @@
 -- `lacks_pair` meets its contract: the loop looks through the records for one that offers (`Seeking`). Assumes nothing.
 use mathlib.Core.Path.{sym, ◌∙◌}
 use native.Mathlib.Omega.{arith}
-use Rattle.monomial.proofs.Loops.{seeking_start, seeking_found, seeking_on, seeking_ends}
+use Rattle.monomial.proofs.Loops.{seeking_found, seeking_on, seeking_ends}
 use Rattle.wiring.specs.Signals.{signals_of}
 use Rattle.wiring.specs.Terms.{record_at, records}
 use Rattle.wiring.specs.Wires.{unmet_beyond}
 use Rattle.wiring.proofs.terms.Laws.{records_length}
 use Rattle.wiring.proofs.quadratic.Records.{offering, offers_some, at_record}
 use Rattle.wiring.proofs.system.System.lacks_pair.Goals as goal
-
-pub loop-t-init : goal.loop-t-init
-loop-t-init c = seeking_start _ _
-
-pub lacks_pair_at-requires : goal.lacks_pair_at-requires
-lacks_pair_at-requires c =
-    let p = c.requires in
-    record { inside = omega arith; fits = p.fits; small = p.small }
 
 pub returns-then-lacks_pair_at : goal.returns-then-lacks_pair_at
 returns-then-lacks_pair_at c =

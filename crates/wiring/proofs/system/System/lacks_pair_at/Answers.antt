@@ -10,18 +10,10 @@ use Rattle.wiring.specs.Terms.{record_at, records, system}
 use Rattle.wiring.proofs.quadratic.Records.{lacks_none, lacks_met, lacks_unmet}
 use Rattle.wiring.proofs.system.System.lacks_pair_at.Goals as goal
 
-pub following-requires : goal.following-requires
-following-requires c =
-    let p = c.requires in
-    record { inside = p.inside; small = p.small }
-
 pub returns-in_default : goal.returns-in_default
 returns-in_default c =
     let a = c.args in
     sym (lacks_none (signals_of a.v) a.last (system (records a.self.terms.now)) a.z.e (record_at a.self.terms.now a.t) (sym c.in_default.ensures.told))
-
-pub pair_of-requires : goal.pair_of-requires
-pair_of-requires c = c.requires.fits
 
 pub returns-then-is_some : goal.returns-then-is_some
 returns-then-is_some c =
@@ -29,11 +21,6 @@ returns-then-is_some c =
     let m = c.in-Some in
     let met = sym c.pair_of.ensures.told ∙ sym c.is_some.ensures ∙ c.if-is_some.true in
     sym (lacks_met (signals_of a.v) a.last (system (records a.self.terms.now)) a.z.e (record_at a.self.terms.now a.t) m.m.e m.ensures.is met)
-
-pub total-requires : goal.total-requires
-total-requires c =
-    let p = c.requires in
-    p.small
 
 pub returns : goal.returns
 returns c =

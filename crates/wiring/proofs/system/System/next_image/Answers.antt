@@ -21,10 +21,6 @@ use Rattle.wiring.proofs.system.System.next_image.Goals.{in-Some, in_default}
 pub loop-t-init : goal.loop-t-init
 loop-t-init c = collecting_start _ _ _ (λ y h. Memᴰ.not-nil h)
 
-pub following-requires : goal.following-requires
-following-requires c =
-    record { inside = omega arith; small = c.requires }
-
 pub loop-t-preserved : goal.loop-t-preserved
 loop-t-preserved c =
     let a = c.args in

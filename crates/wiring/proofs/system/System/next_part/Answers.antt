@@ -10,15 +10,9 @@ use Rattle.wiring.proofs.system.System.next_part.Goals as goal
 pub loop-m-init : goal.loop-m-init
 loop-m-init c = parting_start _ _ _
 
-pub next_image-requires : goal.next_image-requires
-next_image-requires c = c.requires
-
 pub returns : goal.returns
 returns c =
     record { heads = parting_none _ _ _ c.loop-m.invariant c.in_default.ensures; total_value = tt }
-
-pub total-total-requires : goal.total-total-requires
-total-total-requires c = c.requires
 
 pub returns-then-not-is_zero : goal.returns-then-not-is_zero
 returns-then-not-is_zero c =

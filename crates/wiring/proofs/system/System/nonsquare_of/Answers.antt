@@ -16,9 +16,6 @@ use Rattle.wiring.specs.Terms.{record_at, records, system}
 use Rattle.wiring.proofs.quadratic.Records.{outside, offered_low, offered_fails, offered_zero, offered_here}
 use Rattle.wiring.proofs.system.System.nonsquare_of.Goals as goal
 
-pub power-requires : goal.power-requires
-power-requires c = c.requires.inside
-
 pub returns-then-power-lt1 : goal.returns-then-power-lt1
 returns-then-power-lt1 c =
     let a = c.args in
@@ -26,11 +23,8 @@ returns-then-power-lt1 c =
     offered_low (outside (signals_at a.v.n a.v.set.now)) (system (records l)) a.z.e (record_at l a.t) c.power.result
     c.power.ensures c.if-power-lt1.true
 
-pub image-m-requires : goal.image-m-requires
-image-m-requires c =
-    let raised = c.power.ensures in
-    let low = c.if-power-lt1.false in
-    record { inside = c.requires.inside; raised = omega arith; small = at_most_weaken c.args.z.e (omega arith) c.requires.small }
+pub image-m-requires-clause-small : goal.image-m-requires-clause-small
+image-m-requires-clause-small c = at_most_weaken c.args.z.e (omega arith) c.requires.small
 
 pub returns-then-is_square : goal.returns-then-is_square
 returns-then-is_square c =
@@ -40,10 +34,6 @@ returns-then-is_square c =
     let m = c.image-m in
     offered_fails (outside (signals_at a.v.n a.v.set.now)) (system (records l)) a.z.e (record_at l a.t) x.result m.result
     x.ensures c.if-power-lt1.false m.ensures (ap not (sym c.is_square.ensures ∙ c.if-is_square.true))
-
-pub total-requires : goal.total-requires
-total-requires c =
-    c.requires.small
 
 pub returns-then-is_zero : goal.returns-then-is_zero
 returns-then-is_zero c =

@@ -10,12 +10,8 @@ use Rattle.wiring.proofs.system.System.total.Goals.{then-k-gt0+then-same, else-k
 pub loop-t-init : goal.loop-t-init
 loop-t-init c = adding_start _ _ _ c.args.self.clean (search rules) c.requires
 
-pub power-k-requires : goal.power-k-requires
-power-k-requires c = omega arith
-
-pub image-requires : goal.image-requires
-image-requires c =
-    record { inside = omega arith; raised = rw (← c.power-k.ensures) c.if-k-gt0.true; small = at_most_weaken c.args.z.e (omega arith) c.requires }
+pub image-requires-clause-small : goal.image-requires-clause-small
+image-requires-clause-small c = at_most_weaken c.args.z.e (omega arith) c.requires
 
 pub overflow_mul-sum : goal.overflow_mul-sum
 overflow_mul-sum c =

@@ -19,15 +19,11 @@ loop-w-init c =
     let room : length v.m ≡ most_signals = search (rules, array_length) in
     (sym (front_at v.len v.m c.args.left [] (omega arith) (omega arith)), rowing_start _ _ _ _ _)
 
-pub lacks_pair-requires : goal.lacks_pair-requires
-lacks_pair-requires c =
+pub lacks_pair-requires-clause-small : goal.lacks_pair-requires-clause-small
+lacks_pair-requires-clause-small c =
     let v = c.args.v in
     let room : length v.m ≡ most_signals = search (rules, array_length) in
-    let fits = entry_fits set_exponent v.len v.m c.args.left (omega arith) (omega arith) c.requires.fits in
-    record { fits = c.requires.fits; small = fits }
-
-pub shape_of-out-then-lacks_pair : goal.shape_of-out-then-lacks_pair
-shape_of-out-then-lacks_pair c = c.loop-w.invariant.1.long
+    entry_fits set_exponent v.len v.m c.args.left (omega arith) (omega arith) c.requires.fits
 
 pub returns-then-lacks_pair : goal.returns-then-lacks_pair
 returns-then-lacks_pair c =
@@ -35,9 +31,6 @@ returns-then-lacks_pair c =
     let r = rw c.in_default.is at k.invariant.1 in
     let lacks = rowing_lacks _ _ _ r (sym c.lacks_pair.ensures ∙ c.if-lacks_pair.true) in
     λ done h. (rw (sym k.invariant.0) lacks, refl)
-
-pub shape_of-out : goal.shape_of-out
-shape_of-out c = c.loop-w.invariant.1.long
 
 pub returns : goal.returns
 returns c =
@@ -50,11 +43,7 @@ pub next_part-requires : goal.next_part-requires
 next_part-requires c =
     let v = c.args.v in
     let room : length v.m ≡ most_signals = search (rules, array_length) in
-    let fits = entry_fits set_exponent v.len v.m c.args.left (omega arith) (omega arith) c.requires.fits in
-    fits
-
-pub shape_of-out-in_default-next_part : goal.shape_of-out-in_default-next_part
-shape_of-out-in_default-next_part c = c.loop-w.invariant.1.long
+    entry_fits set_exponent v.len v.m c.args.left (omega arith) (omega arith) c.requires.fits
 
 pub returns-in_default-next_part : goal.returns-in_default-next_part
 returns-in_default-next_part c =
@@ -62,25 +51,12 @@ returns-in_default-next_part c =
     let r = rw c.in-Some.is at k.invariant.1 in
     λ done h. rw (sym k.invariant.0) (rowing_ends _ _ _ r c.in_default-next_part.ensures.heads done h)
 
-pub pair_of-requires : goal.pair_of-requires
-pair_of-requires c = c.requires.fits
-
-pub shape_of-out-in_default-pair_of : goal.shape_of-out-in_default-pair_of
-shape_of-out-in_default-pair_of c = c.loop-w.invariant.1.long
-
 pub returns-in_default-pair_of : goal.returns-in_default-pair_of
 returns-in_default-pair_of c =
     let k = c.loop-w in
     let part = c.in-Some-next_part in
     let none = rowing_unmet _ _ _ k.invariant.1 part.part.m part.ensures.heads (sym c.in_default-pair_of.ensures.told) in
     λ done h. (rw (sym k.invariant.0) none, refl)
-
-pub enter-w-requires : goal.enter-w-requires
-enter-w-requires c =
-    let pair = c.in-Some-pair_of.ensures.pair in
-    let few = c.args.v.few in
-    let left = c.requires.inside in
-    (omega arith, (omega (arith, pair.a_small), omega (arith, pair.b_small)))
 
 pub loop-w-smaller : goal.loop-w-smaller
 loop-w-smaller c =

@@ -19,10 +19,6 @@ pub loop-left-init : goal.loop-left-init
 loop-left-init c =
     (refl, listing_start (signals_of c.args.v) _ _ c.args.out.now c.requires.blank)
 
-pub wire_row-requires : goal.wire_row-requires
-wire_row-requires c =
-    record { inside = omega arith; fits = c.requires.fits }
-
 pub loop-left-preserved : goal.loop-left-preserved
 loop-left-preserved c =
     let v = c.args.v in
