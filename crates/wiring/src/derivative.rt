@@ -1,5 +1,5 @@
 // Derivatives of monomials, record by record: no list of terms is kept.
-ghost use Rattle.std.specs.Prelude.{◌≡◌, false, ◌+◌, ◌*◌, ◌≤◌, ◌<◌, length};
+ghost use Rattle.std.specs.Prelude.{◌≡◌, false, ◌/◌, ◌<◌, length};
 ghost use Rattle.monomial.specs.Product.{AtMost};
 ghost use Rattle.wiring.specs.Panel.{term_bytes, set_exponent};
 ghost use Rattle.wiring.specs.Poly.{plain, coeff};
@@ -12,7 +12,7 @@ use monomial::Monomial;
 impl System<'_> {
     // The exponent in z of the variable of record t.
     pub(crate) fn power(self, t: usize, z: Monomial) -> u8
-        requires { term_bytes * t + term_bytes ≤ length self.terms.now }
+        requires { t < length self.terms.now / term_bytes }
         ensures { result ≡ power (record_at self.entry.terms.now t) z.e }
     {
         let i = self.equation(t) - 1;
@@ -22,7 +22,7 @@ impl System<'_> {
 
     // The monomial of record t in the derivative of z: z divided by the record's variable, times the record's monomial.
     pub(crate) fn image(self, t: usize, z: Monomial) -> Monomial
-        requires inside { term_bytes * t + term_bytes ≤ length self.terms.now }
+        requires inside { t < length self.terms.now / term_bytes }
         requires raised { 0 < power (record_at self.terms.now t) z.e }
         requires small { AtMost 200 z.e }
         ensures { result.e ≡ image (record_at self.entry.terms.now t) z.e }
@@ -33,7 +33,8 @@ impl System<'_> {
         Monomial::of(e).times(self.monomial(t))
     }
 
-    // The total coefficient of m in the derivative of z.
+    // The total coefficient of m in the derivative of z. That the exponents of z are small stays a clause, here and above: a type for z would be filled and
+    // opened at each call, which is no plainer.
     pub fn total(self, z: Monomial, m: Monomial) -> i32
         requires { AtMost set_exponent z.e }
         ensures { result ≡ coeff plain (derivative plain (system (records self.entry.terms.now)) z.e) m.e }
@@ -50,8 +51,8 @@ impl System<'_> {
 
     // Whether records t and u, of two equations, give one monomial wherever both give one: each times the variable of the other is the same.
     fn crosses(self, t: usize, u: usize) -> bool
-        requires one { term_bytes * t + term_bytes ≤ length self.terms.now }
-        requires other { term_bytes * u + term_bytes ≤ length self.terms.now }
+        requires one { t < length self.terms.now / term_bytes }
+        requires other { u < length self.terms.now / term_bytes }
         ensures { result ≡ crosses (record_at self.entry.terms.now t) (record_at self.entry.terms.now u) }
     {
         let a = self.equation(t);

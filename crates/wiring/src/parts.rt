@@ -1,5 +1,5 @@
 // The monomials of a derivative, one after the other: no list of them is kept, and each total is summed once.
-ghost use Rattle.std.specs.Prelude.{◌≡◌, ◌+◌, ◌*◌, ◌≤◌, length, IfSome};
+ghost use Rattle.std.specs.Prelude.{◌≡◌, ◌/◌, ◌<◌, length, IfSome};
 ghost use Rattle.std.specs.Option.{option_map};
 ghost use Rattle.monomial.specs.Lists.{keep};
 ghost use Rattle.monomial.specs.Product.{AtMost};
@@ -33,7 +33,7 @@ fn is_beyond(last: Option<Monomial>, m: Monomial) -> bool
 impl System<'_> {
     // The monomial of record t in the derivative of z, where it stands behind the last one. Its total is not asked here: it may be 0.
     pub(crate) fn following(self, t: usize, z: Monomial, last: Option<Monomial>) -> Option<Monomial>
-        requires inside { term_bytes * t + term_bytes ≤ length self.terms.now }
+        requires inside { t < length self.terms.now / term_bytes }
         requires small { AtMost set_exponent z.e }
         ensures { Offered (gives (beyond last) z.e (record_at self.entry.terms.now t)) (image (record_at self.entry.terms.now t) z.e) result }
     {

@@ -1,5 +1,5 @@
 // Nonsquares of a set whose monomials lie side by side: what a record gives, and whether there are any.
-ghost use Rattle.std.specs.Prelude.{◌≡◌, not, ◌+◌, ◌*◌, ◌≤◌, length};
+ghost use Rattle.std.specs.Prelude.{◌≡◌, not, ◌/◌, ◌≤◌, ◌<◌, length};
 ghost use Rattle.monomial.specs.Lists.{some};
 ghost use Rattle.monomial.specs.Monomial.{width};
 ghost use Rattle.monomial.specs.Product.{AtMost};
@@ -20,7 +20,7 @@ impl System<'_> {
     // The monomial of record t in the derivative of z, where it has a coefficient and is not in V2 of the set. The total, which is dear, is asked last,
     // and only where it may be 0.
     pub fn nonsquare_of(self, t: usize, z: Monomial, v: Members) -> Option<Monomial>
-        requires inside { term_bytes * t + term_bytes ≤ length self.terms.now }
+        requires inside { t < length self.terms.now / term_bytes }
         requires small { AtMost set_exponent z.e }
         ensures { Offered (offers (λ m. not (in_v2 plain (signals_at v.entry.n v.entry.set.now) m)) (system (records self.entry.terms.now)) z.e (record_at self.entry.terms.now t)) (image (record_at self.entry.terms.now t) z.e) result }
     {

@@ -43,7 +43,8 @@ pub fn is_among(list: &[u8], m: Monomial) -> bool
     false
 }
 
-// The members of V: 1, n variables, and the monomials of a set that lie side by side in lent bytes.
+// The members of V: 1, n variables, and the monomials of a set that lie side by side in lent bytes. That n is at most the width stays a clause where it is
+// needed: is_signal and is_square are promised for every n.
 #[derive(Clone, Copy)]
 pub struct Members<'a> {
     pub n: usize,

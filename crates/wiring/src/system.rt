@@ -1,5 +1,5 @@
 // A system: term records without a fault. What asks for derivatives is a method of it.
-ghost use Rattle.std.specs.Prelude.{◌≡◌, false, ◌+◌, ◌*◌, ◌/◌, ◌≤◌, length};
+ghost use Rattle.std.specs.Prelude.{◌≡◌, false, ◌/◌, ◌≤◌, ◌<◌, length};
 ghost use Rattle.monomial.specs.Monomial.{width};
 ghost use Rattle.wiring.specs.Panel.{term_bytes};
 ghost use Rattle.wiring.specs.Derivative.{Uncancelled};
@@ -28,7 +28,7 @@ impl System<'_> {
 
     // The number of the variable whose equation record t belongs to.
     pub(crate) fn equation(self, t: usize) -> usize
-        requires { term_bytes * t + term_bytes ≤ length self.terms.now }
+        requires { t < length self.terms.now / term_bytes }
         ensures value { result ≡ (record_at self.entry.terms.now t).equation }
         ensures low { 1 ≤ result }
         ensures high { result ≤ width }
@@ -38,7 +38,7 @@ impl System<'_> {
 
     // The monomial of record t.
     pub(crate) fn monomial(self, t: usize) -> Monomial
-        requires { term_bytes * t + term_bytes ≤ length self.terms.now }
+        requires { t < length self.terms.now / term_bytes }
         ensures { result.e ≡ (record_at self.entry.terms.now t).monomial }
     {
         Monomial::read(self.terms, TERM_BYTES * t + MONOMIAL_AT)
@@ -46,7 +46,7 @@ impl System<'_> {
 
     // The coefficient of record t.
     pub(crate) fn coefficient(self, t: usize) -> i32
-        requires { term_bytes * t + term_bytes ≤ length self.terms.now }
+        requires { t < length self.terms.now / term_bytes }
         ensures { result ≡ (record_at self.entry.terms.now t).coefficient }
     {
         coefficient::decode(self.terms, TERM_BYTES * t + COEFFICIENT_AT)

@@ -1,5 +1,5 @@
 // The wiring list, judged and written in one pass: a record that has room is written, and a monomial that no two signals multiply to ends it.
-ghost use Rattle.std.specs.Prelude.{◌≡◌, List, [], ◌∷◌, ◌++◌, ◌+◌, ◌*◌, ◌≤◌, ◌<◌, length, get_or};
+ghost use Rattle.std.specs.Prelude.{◌≡◌, List, [], ◌∷◌, ◌++◌, ◌+◌, ◌*◌, ◌/◌, ◌≤◌, ◌<◌, length, get_or};
 ghost use Rattle.std.proofs.Math.Seq.{paste};
 ghost use Rattle.wiring.specs.Panel.{term_bytes, set_exponent, wire_bytes};
 ghost use Rattle.wiring.specs.Poly.{plain, support};
@@ -29,7 +29,8 @@ pub struct Unmet {
     pub left: usize,
 }
 
-// The pair of smallest a, then smallest b, whose product is m, where there is one. Most signals do not divide m.
+// The pair of smallest a, then smallest b, whose product is m, where there is one. Most signals do not divide m. That the signals fit stays a clause, here
+// and below: held by Signals it would ask more of who calls signals_of.
 pub fn pair_of(v: Signals, m: Monomial) -> Option<Pair>
     requires { Fitting set_exponent (signals_of v) }
     ensures { FirstPair (signals_of v) m.e result }
@@ -78,7 +79,7 @@ impl System<'_> {
     // Whether record t gives the derivative of z a monomial behind the last one that has a coefficient and no pair. The total, which is dear, is asked
     // last.
     fn lacks_pair_at(self, t: usize, v: Signals, z: Monomial, last: Option<Monomial>) -> bool
-        requires inside { term_bytes * t + term_bytes ≤ length self.terms.now }
+        requires inside { t < length self.terms.now / term_bytes }
         requires fits { Fitting set_exponent (signals_of v) }
         requires small { AtMost set_exponent z.e }
         ensures { result ≡ offers (unmet_beyond (signals_of v) last) (system (records self.entry.terms.now)) z.e (record_at self.entry.terms.now t) }
