@@ -6,6 +6,7 @@ ghost use Rattle.std.specs.Ordering.{nat_cmp, on, as_partial_cmp};
 ghost use Rattle.monomial.specs.Order.{same, before};
 
 use super::Monomial;
+use super::width::WIDTH;
 use std::cmp::Ordering;
 
 // The order of the exponents. The derived `<` was tried: it turns over what the exponents gave once more, and takes half as long again.
@@ -15,7 +16,12 @@ impl PartialOrd for Monomial {
     ghost laws = { on_po (λ m. m.e) (lists_po unsigned_po) };
 
     fn partial_cmp(&self, other: &Monomial) -> Option<Ordering> {
-        self.e.partial_cmp(&other.e)
+        for i in 0..WIDTH {
+            if self.e[i] != other.e[i] {
+                return self.e[i].partial_cmp(&other.e[i]);
+            }
+        }
+        Some(Ordering::Equal)
     }
 }
 
