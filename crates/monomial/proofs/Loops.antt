@@ -105,7 +105,7 @@ module _ {A : Type 0} (d : A) (test : A → A → Bool) where
     unfolding pairwise
     pairwise_ends h = comparing_says true c (rw (drop_of_length-le a {i = i} (omega arith), drop_of_length-le b {i = i} (omega arith)))
 
--- ---- what the library's words say
+-- ---- a chain that tests two lists side by side
 module _ {A : Type 0} where
   pub pairwise_zip : (test : A → A → Bool) (a b : List A) → length a ≡ length b → list_all (λ p. test p.0 p.1) (zip a b) ≡ pairwise test a b
   unfolding pairwise
@@ -113,11 +113,6 @@ module _ {A : Type 0} where
   pairwise_zip test [] (y ∷ b) e = let o : ⊥ = omega arith in absurd o
   pairwise_zip test (x ∷ a) [] e = let o : ⊥ = omega arith in absurd o
   pairwise_zip test (x ∷ a) (y ∷ b) e = ap (◌&&◌ (test x y)) (pairwise_zip test a b (omega arith))
-
-  pub all_listed : (test : A → Bool) (l : List A) → list_all test l ≡ all test l
-  unfolding all
-  all_listed test [] = refl
-  all_listed test (x ∷ l) = ap (◌&&◌ (test x)) (all_listed test l)
 
 -- ---- a loop that looks through l for an entry that passes f, and has come to place i
 module _ {A : Type 0} (f : A → Bool) where

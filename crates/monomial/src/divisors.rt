@@ -23,7 +23,7 @@ impl Monomial {
         requires { T (divides self.e m.e) }
         ensures { result ≡ leads m.e self.e }
     {
-        !m.over(self).before(self)
+        self <= m.over(self)
     }
 
     // The divisor of m after self, in the order; 1 after the last.
