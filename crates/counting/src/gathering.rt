@@ -15,7 +15,6 @@ ghost use Rattle.counting.specs.Gathering.{Lent, Notes, Gathers};
 
 use monomial::Monomial;
 use monomial::width::WIDTH;
-use wiring::choice::Pick;
 use wiring::panel::TERM_BYTES;
 use wiring::{choice, quadratic, signals};
 
@@ -62,9 +61,8 @@ fn gather_in(
     let mut held = len;
     let mut t: usize = 0;
     while t < count {
-        let p = quadratic::nonsquare_of(terms, t, z, n, set, cancels);
-        if p.some {
-            let got = note(list, held, most, p.m);
+        if let Some(m) = quadratic::nonsquare_of(terms, t, z, n, set, cancels) {
+            let got = note(list, held, most, m);
             if got.over {
                 return got;
             }
@@ -116,11 +114,11 @@ pub fn gather(
 }
 
 // The monomial of a list that is split: the cheapest.
-pub fn cheapest_of(list: &[u8]) -> Pick
+pub fn cheapest_of(list: &[u8]) -> Option<Monomial>
     ensures { Best cheaper (tabled list.now) result }
 {
     let count = list.len() / WIDTH;
-    let mut best = Pick::NONE;
+    let mut best = None;
     let mut i: usize = 0;
     while i < count {
         best = choice::cheapest(best, Monomial::read(list, WIDTH * i));

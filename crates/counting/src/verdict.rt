@@ -60,8 +60,7 @@ pub fn verdict_of(
     if counting::closes(panel, &list[..used], set, room) {
         return closed;
     }
-    let p = gathering::cheapest_of(&list[..used]);
-    let m = p.m;
+    let m = gathering::cheapest_of(&list[..used]).unwrap();
     Verdict {
         found: false,
         split: true,

@@ -13,7 +13,6 @@ ghost use Rattle.truth.specs.Truth.{line_true};
 ghost use Rattle.truth.specs.Sums.{most_number, most_sum, pair_cells, cell, Bounded, Summed, Told, agrees, row_agrees};
 
 use monomial::Monomial;
-use wiring::choice::Pick;
 use wiring::panel::MOST_SIGNALS;
 use wiring::signals::Signals;
 use wiring::{derivative, wires};
@@ -42,7 +41,7 @@ fn cell_of(v: Signals, m: Monomial) -> usize
     requires { (v.len ≤ most_signals) × (Fitting set_exponent (signals_of v) × T (in_v2 plain (signals_of v) m.e)) }
     ensures { (result ≡ cell (signals_of v) m.e) × (result < pair_cells) }
 {
-    let p = wires::pair_of(v, m);
+    let p = wires::pair_of(v, m).unwrap();
     MOST_SIGNALS * p.a + p.b
 }
 
@@ -123,5 +122,5 @@ pub fn is_true(terms: &[u8], v: Signals, left: usize, sums: Sums) -> bool
         }
         a += 1;
     }
-    !wires::lacks_pair(terms, v, z, Pick::NONE)
+    !wires::lacks_pair(terms, v, z, None)
 }

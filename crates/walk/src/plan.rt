@@ -13,7 +13,6 @@ use super::walk::{Frame, State, Turn};
 use counting::verdict::LIST_BYTES;
 use wiring::panel::{CARDS, MOST_STEPS, Panel};
 use wiring::reply::Reply;
-use wiring::terms::Fault;
 use wiring::{buffer, derivative, sockets, terms};
 
 // Whether n, the marks, the kit's degree, the cap and the limit are in range.
@@ -110,8 +109,7 @@ pub fn plan(
         degree,
     };
     match terms::fault_of(panel, terms) {
-        Fault::Clean => climb(terms, out, panel, cap as usize, limit),
-        Fault::Wrong(place) => Reply::Term { place },
-        Fault::Repeated(place) => Reply::Twice { place },
+        Ok(()) => climb(terms, out, panel, cap as usize, limit),
+        Err(fault) => Reply::from(fault),
     }
 }

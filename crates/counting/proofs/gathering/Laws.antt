@@ -26,7 +26,8 @@ use Rattle.wiring.specs.Terms.{Record, system}
 use Rattle.wiring.specs.Quadratic.{unmet, nonsquares}
 use Rattle.wiring.specs.Signals.{tabled, listed}
 use Rattle.wiring.specs.Choice.{cheaper, Picked, Best, Offered}
-use Rattle.wiring.specs.declared.choice.Pick.{Pick}
+use Rattle.std.specs.Prelude.{Option, Some}
+use Rattle.monomial.specs.declared.Monomial.{Monomial}
 use Rattle.wiring.proofs.signals.Tables.{tabled_none, tabled_length, tabled_more}
 use Rattle.wiring.proofs.quadratic.Laws.{nonsquares_in, nonsquares_out, nonsquares_asc}
 use Rattle.wiring.proofs.quadratic.Records.{outside, passing, offering, offered_in, offered_sub, passing_sub, passing_unmet, met, met_all, meets_none, meets_one}
@@ -170,20 +171,20 @@ module _ (l0 : List Mono) where
         (passing_sub (outside v) rs z y (subst (λ (l : List Mono). y ∈ l) (sym (passing_unmet v rs z)) h))
 
     -- what a record offers is one of them
-    offered_lacks : (r : Record) (p : Pick) → Offered (offering (outside v) rs z r) (image r z) p → p.some ≡ true → p.m.e ∈ lacked
-    offered_lacks r p o t =
-        let given : image r z ∈ passing (outside v) rs z = offered_in (outside v) rs z r (is→T (offering (outside v) rs z r) (sym o.told ∙ t)) in
-        subst (λ (l : List Mono). p.m.e ∈ l) (passing_unmet v rs z) (Memᴰ.cast (o.is t) given)
+    offered_lacks : (r : Record) (m : Monomial) → Offered (offering (outside v) rs z r) (image r z) (Some m) → m.e ∈ lacked
+    offered_lacks r m o =
+        let given : image r z ∈ passing (outside v) rs z = offered_in (outside v) rs z r (is→T (offering (outside v) rs z r) (sym o.told)) in
+        subst (λ (l : List Mono). m.e ∈ l) (passing_unmet v rs z) (Memᴰ.cast o.is given)
 
     module _ {most len : ℕ} {bytes : List ℕ} {t : ℕ} (c : Meeting most len bytes t) where
       -- one of them is too many
-      pub meeting_over : (r : Record) (p : Pick) → Offered (offering (outside v) rs z r) (image r z) p → p.some ≡ true
-          → Exceeds (p.m.e ∷ listed len bytes) most → Exceeds (lacked ++ l0) most
-      meeting_over r p o s x = exceeds_over c.holds (p.m.e ∷ []) (lacked ++ l0) one so_far x
+      pub meeting_over : (r : Record) (m : Monomial) → Offered (offering (outside v) rs z r) (image r z) (Some m)
+          → Exceeds (m.e ∷ listed len bytes) most → Exceeds (lacked ++ l0) most
+      meeting_over r m o x = exceeds_over c.holds (m.e ∷ []) (lacked ++ l0) one so_far x
         where
-          one : (p.m.e ∷ []) ⊆ (lacked ++ l0)
+          one : (m.e ∷ []) ⊆ (lacked ++ l0)
           one y k =
-              ⊎_elim (λ q. Memᴰ.append_left l0 (Memᴰ.cast q (offered_lacks r p o s))) (λ n. absurd (Memᴰ.not-nil n)) (Memᴰ.cases_cons k)
+              ⊎_elim (λ q. Memᴰ.append_left l0 (Memᴰ.cast q (offered_lacks r m o))) (λ n. absurd (Memᴰ.not-nil n)) (Memᴰ.cases_cons k)
 
           so_far : (gather giving (take t rs) ++ l0) ⊆ (lacked ++ l0)
           so_far = beside (gather giving (take t rs)) lacked (λ y k. given_in y (collecting_sub giving rs t y k))
@@ -246,5 +247,5 @@ module _ (v : List Mono) (d : Mono → Poly Mono) where
         lists = record { few = held.few; many = sym (rearranged_length ns (listed len bytes) are ∙ lent_length (holds_lent held r)); are = are }
 
 -- ---- the cheapest of the listed nonsquares is the one that is split
-pub picked_of : (l r : List Mono) (p : Pick) → Rearranged l r → Best cheaper r p → Picked l p
+pub picked_of : (l r : List Mono) (p : Option Monomial) → Rearranged l r → Best cheaper r p → Picked l p
 picked_of l r p q b = picked l r p (rearranged_out l r q) (rearranged_in l r q) b

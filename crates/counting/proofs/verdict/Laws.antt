@@ -1,5 +1,5 @@
 -- What follows for an opened set below its level: the nonsquares that a list need hold, and the answers. Assumes nothing.
-use mathlib.Core.Path.{◌≡◌, refl, sym, ap, ◌∙◌}
+use mathlib.Core.Path.{◌≡◌, refl, sym, ap}
 use mathlib.Core.Bool.{Bool, true, false}
 use mathlib.Core.List.Memᴰ
 use mathlib.Core.List.{List, [], ◌∷◌, map}
@@ -24,7 +24,8 @@ use Rattle.wiring.specs.Claims.{Wide}
 use Rattle.wiring.specs.Panel.{cards}
 use Rattle.wiring.specs.Signals.{signals_at}
 use Rattle.wiring.specs.Choice.{Picked}
-use Rattle.wiring.specs.declared.choice.Pick.{Pick}
+use Rattle.std.specs.Prelude.{Option, Some, None, IsSome}
+use Rattle.monomial.specs.declared.Monomial.{Monomial}
 use Rattle.wiring.proofs.signals.Tables.{tabled_length}
 use Rattle.wiring.proofs.signals.Laws.{signals_at_length, signals_at_wide}
 use Rattle.counting.specs.Counting.{quotients_of, count, least_from, needed, shares, hits, frequent, closes}
@@ -121,6 +122,12 @@ module _ {terms set : List ℕ} {n room : ℕ} {cancels : Bool} (w : Weighing te
     pub list_closes : (l : List Mono) → Rearranged ns l → closes may room (signals_at n set) l ≡ closes may room (signals_at n set) ns
     list_closes l r = sym (closes_rearranged may room (signals_at n set) ns l r)
 
+-- where there are nonsquares, one of them is split
+pub picked_some : (ns : List Mono) (p : Option Monomial) → 0 < length ns → Picked ns p → IsSome p
+picked_some [] p h q = let z : ⊥ = omega arith in absurd z
+picked_some (x ∷ l) None h q = absurd q
+picked_some (x ∷ l) (Some m) h q = refl
+
 -- ---- the answers
 module _ (may : Mono → Bool) (room : ℕ) (v ns : List Mono) (r : Verdict) where
   pub judged_found : r.found ≡ true → length ns ≡ 0 → Judged may room v ns r
@@ -133,7 +140,7 @@ module _ (may : Mono → Bool) (room : ℕ) (v ns : List Mono) (r : Verdict) whe
     splits = λ t u. absurd (is_not r.split u s);
   }
 
-  pub judged_split : (p : Pick) → r.found ≡ false → r.split ≡ true → r.m.e ≡ p.m.e → 0 < length ns → closes may room v ns ≡ false → Picked ns p → Judged may room v ns r
+  pub judged_split : (p : Option Monomial) → r.found ≡ false → r.split ≡ true → p ≡ Some r.m → 0 < length ns → closes may room v ns ≡ false → Picked ns p → Judged may room v ns r
   judged_split p f s m some on picked = record {
     finds = λ t. absurd (is_not r.found t f);
     shuts = λ t u. absurd (is_not r.split s u);
@@ -142,4 +149,4 @@ module _ (may : Mono → Bool) (room : ℕ) (v ns : List Mono) (r : Verdict) whe
     where
       go : (l : List Mono) → ns ≡ l → Picked l p → Split may room v ns r.m.e
       go [] e q = let z : ⊥ = omega (arith, ap length e) in absurd z
-      go (x ∷ l) e q = record { first = x; others = l; are = e; on = on; is = m ∙ q.1 }
+      go (x ∷ l) e q = record { first = x; others = l; are = e; on = on; is = rw m at q }

@@ -1,4 +1,5 @@
 -- Planning, step by step: what each level leaves to the levels above it, and what each check says of the outcome. Assumes nothing.
+use Rattle.std.specs.Prelude.{Ok, Err}
 use mathlib.Core.Path.{◌≡◌, refl, sym, ap, ap₂, ◌∙◌, subst}
 use mathlib.Core.Bool.{true, false}
 use mathlib.Core.List.Memᴰ
@@ -20,7 +21,8 @@ use Rattle.wiring.specs.Sockets.{panel_right}
 use Rattle.wiring.specs.declared.panel.Panel.{Panel}
 use Rattle.wiring.specs.declared.reply.Reply.{Reply}
 use Rattle.wiring.specs.declared.reply.Reply.TheVariants as reply
-use Rattle.wiring.specs.declared.terms.Fault.TheVariants.{Clean, Wrong, Repeated}
+use Rattle.wiring.specs.declared.terms.Fault.{Fault}
+use Rattle.wiring.specs.Answers.{reply_of}
 use Rattle.wiring.proofs.answers.Laws.{panel_few}
 use Rattle.wiring.proofs.terms.Laws.{clean_for}
 use Rattle.walk.specs.declared.walk.State.{State}
@@ -218,7 +220,7 @@ module _ (panel : Panel) (cap limit : ℕ) (e : settings_right panel cap limit �
   settings_low = let t = is→T (settings_right panel cap limit) e in leb→le cap cards (search (and_l, and_r, t))
 
   -- what the climb asks of the records
-  pub settings_clean : (terms : List ℕ) → fault panel (records terms) ≡ Clean → CleanTerms terms
+  pub settings_clean : (terms : List ℕ) → fault panel (records terms) ≡ Ok tt → CleanTerms terms
   settings_clean terms = clean_for panel width terms settings_few
 
 module _ (panel : Panel) (cap limit : ℕ) (terms : List ℕ) (size : ℕ) where
@@ -233,17 +235,13 @@ module _ (panel : Panel) (cap limit : ℕ) (terms : List ℕ) (size : ℕ) where
       unfolding planned
       said_length h = rw (e, h, z)
 
-      pub said_wrong : length_right terms ≡ true → (place : ℕ) → fault panel (records terms) ≡ Wrong place → outcome (reply.Term place) zeros ≡ planned panel cap limit terms size
+      pub said_fault : length_right terms ≡ true → (f : Fault) → fault panel (records terms) ≡ Err f → outcome (reply_of f) zeros ≡ planned panel cap limit terms size
       unfolding planned
-      said_wrong h place q = rw (e, h, q, z)
-
-      pub said_repeated : length_right terms ≡ true → (place : ℕ) → fault panel (records terms) ≡ Repeated place → outcome (reply.Twice place) zeros ≡ planned panel cap limit terms size
-      unfolding planned
-      said_repeated h place q = rw (e, h, q, z)
+      said_fault h f q = rw (e, h, q, z)
 
   -- what is not refused is walked by the rules of the kit, in the buffer that was cleared
   pub said_walked : (answer : Outcome) (size' : ℕ) → answer ≡ said (plan (kit_rules panel) panel.n (system (records terms)) limit (size' / set_bytes) cap) size' → size' ≡ size
-      → settings_right panel cap limit ≡ true → length_right terms ≡ true → fault panel (records terms) ≡ Clean → answer ≡ planned panel cap limit terms size
+      → settings_right panel cap limit ≡ true → length_right terms ≡ true → fault panel (records terms) ≡ Ok tt → answer ≡ planned panel cap limit terms size
   unfolding planned
   said_walked answer size' a k e h q =
       let walk = kit_plan panel panel.n terms (settings_clean panel cap limit e terms q) cap (settings_low panel cap limit e) limit (size' / set_bytes) in

@@ -11,14 +11,14 @@ use Rattle.wiring.proofs.terms.Laws.{records_length}
 use Rattle.wiring.proofs.quadratic.Records.{outside, offering, at_record}
 use Rattle.counting.proofs.gathering.Laws.{meeting_none, meeting_more, meeting_over, meeting_ends, holds_lent, lent_holds, notes_all, notes_more}
 use Rattle.counting.proofs.gathering.gather_in.Goals as goal
-use Rattle.counting.proofs.gathering.gather_in.Goals.{then-p+else-got, else-p}
+use Rattle.counting.proofs.gathering.gather_in.Goals.{in-Some+else-got, in_default}
 
 pub loop-t-init : goal.loop-t-init
 loop-t-init c =
     (refl, (refl, collecting_start _ _ _ (lent_holds c.requires.1.1.0)))
 
-pub nonsquare_of-p-requires : goal.nonsquare_of-p-requires
-nonsquare_of-p-requires c =
+pub nonsquare_of-requires : goal.nonsquare_of-requires
+nonsquare_of-requires c =
     (c.requires.0, (omega arith, (c.requires.1.0, c.requires.1.1.1)))
 
 pub note-got-requires : goal.note-got-requires
@@ -34,10 +34,9 @@ pub returns-then-got : goal.returns-then-got
 returns-then-got c =
     let a = c.args in
     let k = c.loop-t in
-    let offer = c.nonsquare_of-p in
     notes_more _ c.if-got.true
     (meeting_over (listed a.len a.list.now) (signals_at a.n a.set.now) (records a.terms.now) a.z.e k.invariant.1.1
-    (record_at a.terms.now k.t) offer.result offer.ensures c.if-p.true (c.note-got.ensures.more c.if-got.true))
+    (record_at a.terms.now k.t) c.in-Some.m c.in-Some.ensures (c.note-got.ensures.more c.if-got.true))
 
 pub loop-t-preserved : goal.loop-t-preserved
 loop-t-preserved c =
@@ -45,22 +44,23 @@ loop-t-preserved c =
     let l = a.terms.now in
     let k = c.loop-t in
     let f = offering (outside (signals_at a.n a.set.now)) (records l) a.z.e in
-    let offer = c.nonsquare_of-p in
-    let told = at_record f l k.t (omega arith) ∙ sym offer.ensures.told in
     let few : k.t < length (records l) = omega (arith, records_length l) in
     let l0 = listed a.len a.list.now in (
       k.invariant.0,
-      elim c.if-p.branch [
-        | then-p+else-got w ↦
-            let is = at_record (λ r. image r a.z.e) l k.t (omega arith) ∙ sym (offer.ensures.is w.if-p.true) in
+      elim c.match-nonsquare_of.branch [
+        | in-Some+else-got w ↦
+            let offer = w.in-Some.ensures in
+            let told = at_record f l k.t (omega arith) ∙ sym offer.told in
+            let is = at_record (λ r. image r a.z.e) l k.t (omega arith) ∙ sym offer.is in
             rw (w.held-is, w.list-is) (
               w.note-got.auto.list ∙ k.invariant.1.0,
-              meeting_more l0 (signals_at a.n a.set.now) (records l) a.z.e k.invariant.1.1 (record_at l k.t) few (told ∙ w.if-p.true) _ is _ _
+              meeting_more l0 (signals_at a.n a.set.now) (records l) a.z.e k.invariant.1.1 (record_at l k.t) few told _ is _ _
                   (w.note-got.ensures.all w.if-got.false),
             )
-        | else-p w ↦
+        | in_default w ↦
+            let told = at_record f l k.t (omega arith) ∙ sym w.in_default.ensures.told in
             rw (w.held-is, w.list-is)
-            (k.invariant.1.0, meeting_none l0 (signals_at a.n a.set.now) (records l) a.z.e k.invariant.1.1 (record_at l k.t) few (told ∙ w.if-p.false))
+            (k.invariant.1.0, meeting_none l0 (signals_at a.n a.set.now) (records l) a.z.e k.invariant.1.1 (record_at l k.t) few told)
       ],
     )
 

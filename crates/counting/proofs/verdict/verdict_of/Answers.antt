@@ -13,7 +13,7 @@ use Rattle.wiring.specs.Signals.{listed, signals_at}
 use Rattle.wiring.specs.Terms.{records, system}
 use Rattle.wiring.proofs.quadratic.Laws.{nonsquares_asc}
 use Rattle.counting.proofs.gathering.Laws.{picked_of}
-use Rattle.counting.proofs.verdict.Laws.{list_fits, over_closes, list_closes, judged_found, judged_closed, judged_split}
+use Rattle.counting.proofs.verdict.Laws.{list_fits, over_closes, list_closes, judged_found, judged_closed, judged_split, picked_some}
 use borrow.Author.Rules.{rules}
 use Rattle.counting.proofs.verdict.verdict_of.Goals as goal
 
@@ -93,6 +93,16 @@ slice_bounds-cheapest_of-end-2 c =
     let l = made.ensures.all c.if-g.false in
     sym (length-take-le (width * made.result.len) made.new.list (omega (arith, l.few, list_fits c.requires.0, c.requires.1, made.auto.list)))
 
+-- the list has one: so there is a cheapest
+pub unwrap-m-requires : goal.unwrap-m-requires
+unwrap-m-requires c =
+    let made = c.gather-g in
+    let l = made.ensures.all c.if-g.false in
+    let v = signals_at c.args.panel.n c.args.set.now in
+    let ns = nonsquares plain v (derivative plain (system (records c.args.terms.now))) in
+    let picked = picked_of ns (listed made.result.len made.new.list) c.cheapest_of.result l.are c.cheapest_of.ensures in
+    picked_some ns c.cheapest_of.result (omega (arith, l.many)) picked
+
 pub returns : goal.returns
 returns c =
     let made = c.gather-g in
@@ -101,5 +111,5 @@ returns c =
     let on = sym (list_closes c.requires.0 may _ _ l.are) ∙ sym c.closes.ensures ∙ c.if-closes.false in
     let v = signals_at c.args.panel.n c.args.set.now in
     let ns = nonsquares plain v (derivative plain (system (records c.args.terms.now))) in
-    let picked = picked_of ns (listed made.result.len made.new.list) c.cheapest_of-p.result l.are c.cheapest_of-p.ensures in
-    judged_split may _ _ _ _ c.cheapest_of-p.result refl refl refl (omega (arith, l.many)) on picked
+    let picked = picked_of ns (listed made.result.len made.new.list) c.cheapest_of.result l.are c.cheapest_of.ensures in
+    judged_split may _ _ _ _ c.cheapest_of.result refl refl c.unwrap-m.ensures (omega (arith, l.many)) on picked
