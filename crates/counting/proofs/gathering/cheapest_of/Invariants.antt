@@ -10,7 +10,4 @@ use Rattle.wiring.specs.Choice.{cheaper, Best}
 use Rattle.counting.proofs.gathering.cheapest_of.Given as goal
 
 abbrev pub invariant-loop-i : goal.invariant-loop-i
-invariant-loop-i loop = (loop.count ≡ length loop.list / width) × Collecting (λ x. x ∷ []) (tabled loop.list) (λ l. Best cheaper l loop.best) loop.i
-
-abbrev pub decreases-loop-i : goal.decreases-loop-i
-decreases-loop-i l = l.count - l.i
+invariant-loop-i loop = Collecting (λ x. x ∷ []) (tabled loop.list) (λ l. Best cheaper l loop.best) loop.i
