@@ -11,7 +11,4 @@ use Rattle.counting.proofs.counting.frequent.Given as goal
 
 abbrev pub invariant-loop-i : goal.invariant-loop-i
 invariant-loop-i l =
-    (l.len ≡ length l.list / width) × Finding (can_build l.panel) (signals_at l.panel.n l.set) l.often (tabled l.list) l.cap l.i l.met
-
-abbrev pub decreases-loop-i : goal.decreases-loop-i
-decreases-loop-i l = l.len - l.i
+    Finding (can_build l.panel) (signals_at l.panel.n l.set) l.often (tabled l.list) l.cap l.i l.met

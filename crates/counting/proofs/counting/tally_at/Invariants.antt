@@ -11,8 +11,4 @@ use Rattle.counting.proofs.counting.tally_at.Given as goal
 
 abbrev pub invariant-loop-j : goal.invariant-loop-j
 invariant-loop-j l =
-    (l.len ≡ length (signals_at l.panel.n l.set))
-    × Tallying (begins (can_build l.panel) (signals_at l.panel.n l.set) l.often (take l.i (tabled l.list)) (drop (l.i + 1) (tabled l.list)) (get_or (tabled l.list) l.i (one width))) (signals_at l.panel.n l.set) l.cap l.many l.j l.met
-
-abbrev pub decreases-loop-j : goal.decreases-loop-j
-decreases-loop-j l = l.len - l.j
+    Tallying (begins (can_build l.panel) (signals_at l.panel.n l.set) l.often (take l.i (tabled l.list)) (drop (l.i + 1) (tabled l.list)) (get_or (tabled l.list) l.i (one width))) (signals_at l.panel.n l.set) l.cap l.many l.j l.met
