@@ -9,10 +9,10 @@ use Rattle.lister.proofs.cheap.is_met.Goals as goal
 pub returns-then-same : goal.returns-then-same
 returns-then-same c =
     let a = c.args in
-    ap (λ (b : Bool). b || any (same a.a.e) (signals_at a.n a.set.now)) (sym (sym c.same.ensures ∙ c.if-same.true))
+    c.if-same.true ∙ ap (λ (b : Bool). b || any (same a.a.e) (signals_at a.n a.set.now)) (sym (sym c.same.ensures ∙ c.if-same.true))
 
-pub returns : goal.returns
-returns c =
+pub returns-else-same : goal.returns-else-same
+returns-else-same c =
     let a = c.args in
     c.is_signal.ensures
     ∙ ap (λ (b : Bool). b || any (same a.a.e) (signals_at a.n a.set.now)) (sym (sym c.same.ensures ∙ c.if-same.false))

@@ -6,7 +6,4 @@ use Rattle.lister.specs.Nearest.{root_of}
 use Rattle.lister.proofs.nearest.half.Given as goal
 
 abbrev pub invariant-loop-i : goal.invariant-loop-i
-invariant-loop-i l = Filling 0 width (root_of l.e) l.r l.i
-
-abbrev pub decreases-loop-i : goal.decreases-loop-i
-decreases-loop-i l = width - l.i
+invariant-loop-i l = Filling 0 width (root_of l.m.e) l.e l.i

@@ -2,6 +2,7 @@
 use mathlib.Core.Path.{◌≡◌, refl, sym, ◌∙◌, subst}
 use mathlib.Core.Bool.{true}
 use mathlib.Core.List.{List}
+use Rattle.std.specs.Prelude.{IfSome}
 use lib.Dec.{T}
 use Rattle.monomial.specs.Monomial.{Mono}
 use Rattle.monomial.specs.Order.{before}
@@ -57,5 +58,5 @@ returns c =
     let near = nearer_out (x w) a.a.e a.near (sym w.is_nearer.ensures ∙ w.if-not-is_nearer.false) in
     let own : CheapFrom (v w) (m w) a.a.e (x w) =
     record { divisor = c.requires.0; leading = c.requires.1; cheap = is→T _ (sym (told w) ∙ c.if-not-is_of.false); later = near.0 } in
-    λ j n e. nearing_take (v w) (m w) a.a.e n _ refl e (subst (CheapFrom (v w) (m w) a.a.e) e own)
-    (subst (λ (y : Mono). Holds (v w) (split (m w) y) w.look_up-held.result) e (held w)) (subst (λ (y : Mono). a.near.some ≡ true → T (before y a.near.a.e)) e near.1)
+    λ j n e. nearing_take (v w) (m w) a.a.e n _ e (subst (CheapFrom (v w) (m w) a.a.e) e own)
+    (subst (λ (y : Mono). Holds (v w) (split (m w) y) w.look_up-held.result) e (held w)) (subst (λ (y : Mono). IfSome a.near (λ n. T (before y n.a.e))) e near.1)

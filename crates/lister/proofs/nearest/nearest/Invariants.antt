@@ -8,7 +8,4 @@ use Rattle.lister.specs.Nearest.{Nearing}
 use Rattle.lister.proofs.nearest.nearest.Given as goal
 
 abbrev pub invariant-loop-j : goal.invariant-loop-j
-invariant-loop-j l = (l.j ≤ l.last + 1) × ((l.last ≡ l.n + 1 + length l.set / width) × Nearing (signals_at l.n l.set) l.m.e l.a.e l.near l.j)
-
-abbrev pub decreases-loop-j : goal.decreases-loop-j
-decreases-loop-j l = l.last + 1 - l.j
+invariant-loop-j l = Nearing (signals_at l.n l.set) l.m.e l.a.e l.near l.j
