@@ -2,22 +2,19 @@
 -- Assumes nothing.
 use mathlib.Core.Path.{◌≡◌, sym, ap, ◌∙◌}
 use mathlib.Core.List.{List}
-use Prim.Native.Nat.{ℕ, suc, ◌+◌, ◌-◌, ◌*◌, ◌/◌, ◌≤◌}
+use Prim.Native.Nat.{ℕ, suc, ◌+◌, ◌-◌, ◌*◌, ◌/◌}
 use native.Mathlib.Omega.{arith}
 use native.Mathlib.Numerals.{add-one}
-use native.Mathlib.Nat.{div-le_self}
 use Rattle.std.specs.Int.{div_ceil}
 use borrow.Author.Tests.{lt-ltb, le-ltb}
 use lib.ListN.{length}
 use Rattle.monomial.specs.Monomial.{Mono, width}
-use Rattle.wiring.specs.Panel.{cards}
 use Rattle.wiring.specs.Signals.{tabled, signals_at}
 use Rattle.wiring.specs.Sockets.{can_build}
 use Rattle.wiring.proofs.signals.Tables.{tabled_length}
 use Rattle.counting.specs.Counting.{frequent}
 use Rattle.counting.proofs.UpTo.{up_to_none, up_to_some}
-use Rattle.counting.proofs.counting.Sums.{closes_few, closes_sum, closes_rare, closes_one, twos_small, share_some, share_less, share_whole}
-use borrow.Author.Rules.{rules}
+use Rattle.counting.proofs.counting.Sums.{closes_few, closes_sum, closes_rare, closes_one, share_some, share_less, share_whole}
 use Rattle.counting.proofs.counting.closes.Goals as goal
 use Rattle.counting.proofs.counting.closes.Goals.{After-frequent}
 

@@ -1,6 +1,6 @@
 -- `frequent` meets its contract: one monomial of the list after the other (`Finding`), which comes to all quotients (`news_frequent`).
 -- Assumes nothing.
-use mathlib.Core.Path.{refl, ap, ◌∙◌}
+use mathlib.Core.Path.{ap, ◌∙◌}
 use native.Mathlib.Omega.{arith}
 use Rattle.monomial.specs.Monomial.{one, width}
 use Rattle.wiring.specs.Signals.{tabled, signals_at}

@@ -1,8 +1,4 @@
 -- `recurs` meets its contract: the loop meets one multiple after the other (`Recurring`). Assumes nothing.
-use mathlib.Core.Path.{◌≡◌}
-use Prim.Native.Nat.{◌-◌, ◌/◌}
-use lib.ListN.{length}
-use Rattle.monomial.specs.Monomial.{width}
 use Rattle.wiring.specs.Signals.{tabled, signals_at}
 use Rattle.counting.proofs.counting.Hits.{Recurring}
 use Rattle.counting.proofs.counting.recurs.Given as goal

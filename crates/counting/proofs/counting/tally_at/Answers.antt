@@ -8,7 +8,7 @@ use Rattle.wiring.specs.Signals.{tabled, signals_at}
 use Rattle.wiring.specs.Sockets.{can_build}
 use Rattle.wiring.proofs.signals.Laws.{signals_at_length}
 use Rattle.counting.specs.Counting.{begins}
-use Rattle.counting.proofs.counting.Hits.{tallying_start, tallying_full, tallying_end, tallying_hit, tallying_miss}
+use Rattle.counting.proofs.counting.Hits.{tallying_full, tallying_end, tallying_hit, tallying_miss}
 use Rattle.counting.proofs.counting.tally_at.Goals as goal
 use Rattle.counting.proofs.counting.tally_at.Goals.{then-begins_at, else-begins_at}
 

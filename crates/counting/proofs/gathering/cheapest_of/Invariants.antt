@@ -1,9 +1,5 @@
 -- `cheapest_of` meets its contract: the loop keeps the cheapest of the monomials met (`Collecting`). Assumes nothing.
-use mathlib.Core.Path.{◌≡◌}
 use mathlib.Core.List.{[], ◌∷◌}
-use Prim.Native.Nat.{◌/◌, ◌-◌}
-use lib.ListN.{length}
-use Rattle.monomial.specs.Monomial.{width}
 use Rattle.monomial.proofs.Loops.{Collecting}
 use Rattle.wiring.specs.Signals.{tabled}
 use Rattle.wiring.specs.Choice.{cheaper, Best}

@@ -1,9 +1,8 @@
 -- `gather` meets its contract: two loops list the nonsquares of one signal's derivative after the other, from the last (`Gathering`). Assumes nothing.
 use mathlib.Core.Path.{◌≡◌, refl, sym, ◌∙◌, subst}
 use mathlib.Core.List.{List}
-use Prim.Native.Nat.{ℕ, ◌+◌, ◌-◌, ◌/◌, ◌<◌, ◌≤◌}
+use Prim.Native.Nat.{ℕ, ◌+◌, ◌-◌, ◌/◌, ◌<◌}
 use native.Mathlib.Omega.{arith}
-use borrow.Author.Rules.{rules}
 use lib.ListN.{length, get_or}
 use Rattle.monomial.specs.Monomial.{Mono, one, width}
 use Rattle.monomial.proofs.Loops.{collecting_last}

@@ -1,5 +1,4 @@
 -- `half` meets its contract: the loop fills the result place by place (`Filling`). Assumes nothing.
-use Prim.Native.Nat.{◌-◌}
 use Rattle.monomial.specs.Monomial.{width}
 use Rattle.monomial.proofs.Loops.{Filling}
 use Rattle.lister.specs.Nearest.{root_of}

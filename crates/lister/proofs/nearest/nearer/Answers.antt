@@ -1,6 +1,5 @@
 -- `nearer` meets its contract: c is not nearer, or begins no cheap pair, or is taken. Assumes nothing.
-use mathlib.Core.Path.{◌≡◌, refl, sym, ◌∙◌, subst}
-use mathlib.Core.Bool.{true}
+use mathlib.Core.Path.{◌≡◌, sym, ◌∙◌, subst}
 use mathlib.Core.List.{List}
 use Rattle.std.specs.Prelude.{IfSome}
 use lib.Dec.{T}

@@ -1,8 +1,4 @@
 -- `nearest` meets its contract: V and the root are tried one after the other (`Nearing`). Assumes nothing.
-use mathlib.Core.Path.{◌≡◌}
-use Prim.Native.Nat.{◌+◌, ◌-◌, ◌/◌, ◌≤◌}
-use lib.ListN.{length}
-use Rattle.monomial.specs.Monomial.{width}
 use Rattle.wiring.specs.Signals.{signals_at}
 use Rattle.lister.specs.Nearest.{Nearing}
 use Rattle.lister.proofs.nearest.nearest.Given as goal
