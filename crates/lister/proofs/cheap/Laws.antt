@@ -48,16 +48,6 @@ cheap_held v p h q =
     just_one h.first h.second ∙ rw (q.first, q.second) refl
     ∙ sym (cheap_by v p.0 p.1 (any (same p.0) v) (any (same p.1) v) (same p.0 p.1) refl refl refl)
 
--- and of which kind it is
-pub kind_told : (v : List Mono) (p : Mono × Mono) (rest c : Bool) → c ≡ cheap v p → not (beq c rest) ≡ of_kind v rest p
-kind_told v p rest c e = turn c rest ∙ ap (λ (b : Bool). cond rest (not b) b) e
-  where
-    turn : (b r : Bool) → not (beq b r) ≡ cond r (not b) b
-    turn true true = refl
-    turn true false = refl
-    turn false true = refl
-    turn false false = refl
-
 -- a pair of the rest adds nothing, or both of the two
 pub dear_out : (v : List Mono) (p : Mono × Mono) → cheap v p ≡ false
     → (((same p.0 p.1 || any (same p.0) v) ≡ true) × (any (same p.1) v ≡ true)) ⊎ (((same p.0 p.1 || any (same p.0) v) ≡ false) × (any (same p.1) v ≡ false))

@@ -26,14 +26,6 @@ returns-then-not-divides c =
     begins_undivided (can_build a.panel) _ _ _ _ _ _ (sym c.divides.ensures ∙ c.if-not-divides.true)
     ∙ ap (λ (m : Mono). begins (can_build a.panel) (signals_at a.panel.n a.set.now) a.often (take a.i (tabled l)) (drop (a.i + 1) (tabled l)) m a.x.e) here
 
-pub over-q-requires : goal.over-q-requires
-over-q-requires c = is→T _ (sym c.divides.ensures ∙ c.if-not-divides.false)
-
-pub slice_bounds-recurs-end : goal.slice_bounds-recurs-end
-slice_bounds-recurs-end c =
-    let near = c.requires.0 in
-    sym (length-take-le (width * c.args.i) c.args.list.now (omega arith))
-
 -- ---- the place where the quotient was made
 module _ (c : After-over-q) where
   abbrev l : List ℕ

@@ -17,9 +17,6 @@ returns-else-divides c =
     let long : length a.q.e ≡ width = search rules in
     c.if-divides.false ∙ share_none (signals_at a.n a.set.now) (signals_at_wide a.n a.set.now) a.q.e a.m.e long (sym c.divides.ensures ∙ c.if-divides.false)
 
-pub over-requires : goal.over-requires
-over-requires c = is→T _ (sym c.divides.ensures ∙ c.if-divides.true)
-
 pub returns-then-divides : goal.returns-then-divides
 returns-then-divides c =
     let a = c.args in

@@ -18,6 +18,3 @@ pub loop-often-preserved : goal.loop-often-preserved
 loop-often-preserved c =
     let k = c.loop-often in
     summing_next _ _ _ _ k.invariant _ c.frequent-many.ensures (omega arith) (omega arith)
-
-pub returns : goal.returns
-returns c = summing_end _ _ _ _ c.loop-often.invariant (omega arith)

@@ -60,13 +60,6 @@ loop-i-preserved c =
       gathering_next (v w) (derivative plain (system (records c.args.terms.now))) k.invariant.1 (at w) (omega arith) _ (set_signal w) _ _ c.in_ok-len.ensures,
     )
 
-pub loop-j-init : goal.loop-j-init
-loop-j-init c =
-    let k = c.loop-i in
-    let v = signals_at c.args.n c.args.set.now in
-    let last : c.args.n + 1 + k.i ≡ c.args.n + 1 = omega arith in
-    (refl, subst (Gathering v (derivative plain (system (records c.args.terms.now))) c.args.most k.len k.list) last k.invariant.1)
-
 pub gather_in-requires-in-loop-j : goal.gather_in-requires-in-loop-j
 gather_in-requires-in-loop-j c =
     let w = (goal.at.gather_in-requires-in-loop-j c).After-constant-z in

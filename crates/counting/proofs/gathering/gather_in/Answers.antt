@@ -16,18 +16,6 @@ use Rattle.counting.proofs.gathering.gather_in.Goals.{then-p+in_ok-held, else-p}
 pub loop-t-init : goal.loop-t-init
 loop-t-init c = (refl, collecting_start _ _ _ (lent_holds c.requires.1.1.0))
 
-pub nonsquare_of-p-requires : goal.nonsquare_of-p-requires
-nonsquare_of-p-requires c =
-    (c.requires.0, (omega arith, (c.requires.1.0, c.requires.1.1.1)))
-
-pub note-requires : goal.note-requires
-note-requires c =
-    let k = c.loop-t in
-    holds_lent k.invariant.1.holds (omega (arith, c.requires.1.1.0.room))
-
-pub shape_of-list-in_err-held : goal.shape_of-list-in_err-held
-shape_of-list-in_err-held c = c.note.auto.list ∙ c.loop-t.invariant.0
-
 pub returns-in_err-held : goal.returns-in_err-held
 returns-in_err-held c =
     let a = c.args in
@@ -59,9 +47,6 @@ loop-t-preserved c =
           rw (w.held-is, w.list-is)
           (k.invariant.0, meeting_none l0 (signals_at a.n a.set.now) (records l) a.z.e k.invariant.1 (record_at l k.t) few (told ∙ w.if-p.false))
     ]
-
-pub shape_of-list : goal.shape_of-list
-shape_of-list c = c.loop-t.invariant.0
 
 pub returns : goal.returns
 returns c =

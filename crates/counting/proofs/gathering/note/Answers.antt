@@ -7,9 +7,6 @@ use Rattle.counting.proofs.gathering.Laws.{lent_part, note_old, note_full, note_
 use borrow.Author.Rules.{rules}
 use Rattle.counting.proofs.gathering.note.Goals as goal
 
-pub slice_bounds-is_among-end-2 : goal.slice_bounds-is_among-end-2
-slice_bounds-is_among-end-2 c = sym (lent_part c.requires)
-
 pub returns-then-is_among : goal.returns-then-is_among
 returns-then-is_among c =
     note_old c.requires c.args.m.e (sym c.is_among.ensures ∙ c.if-is_among.true)
@@ -17,10 +14,6 @@ returns-then-is_among c =
 pub returns-then-most-len : goal.returns-then-most-len
 returns-then-most-len c =
     note_full c.requires c.args.m.e (sym c.is_among.ensures ∙ c.if-is_among.false) c.if-most-len.true
-
-pub write-requires : goal.write-requires
-write-requires c =
-    omega (arith, c.requires.room, c.if-most-len.false)
 
 pub returns : goal.returns
 returns c =

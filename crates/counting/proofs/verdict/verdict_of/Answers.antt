@@ -18,24 +18,6 @@ use Rattle.counting.proofs.verdict.Laws.{list_fits, over_closes, list_closes, sp
 use borrow.Author.Rules.{rules}
 use Rattle.counting.proofs.verdict.verdict_of.Goals as goal
 
-pub overflow_mul-most : goal.overflow_mul-most
-overflow_mul-most c =
-    let w = c.requires.0 in
-    let small = list_fits w in
-    search rules
-
-pub overflow_mul-most-2 : goal.overflow_mul-most-2
-overflow_mul-most-2 c =
-    let w = c.requires.0 in
-    let small = list_fits w in
-    search rules
-
-pub overflow_add-most-2 : goal.overflow_add-most-2
-overflow_add-most-2 c =
-    let w = c.requires.0 in
-    let small = list_fits w in
-    search rules
-
 pub gather-requires : goal.gather-requires
 gather-requires c =
     let w = c.requires.0 in
@@ -45,9 +27,6 @@ pub returns-in_default : goal.returns-in_default
 returns-in_default c =
     let v = signals_at c.args.panel.n c.args.set.now in
     over_closes c.requires.0 (can_build c.args.panel) _ (nonsquares_asc plain mono_order v _) c.in_default.ensures
-
-pub returns-then-len-lt1 : goal.returns-then-len-lt1
-returns-then-len-lt1 c = no_length _ (omega (arith, c.in-Some.ensures.many))
 
 pub overflow_mul-listed : goal.overflow_mul-listed
 overflow_mul-listed c =
@@ -62,11 +41,6 @@ pub slice_bounds-listed-end-2 : goal.slice_bounds-listed-end-2
 slice_bounds-listed-end-2 c =
     let made = c.gather in
     sym (length-take-le (width * c.in-Some.len) made.new.list (omega (arith, c.in-Some.ensures.few, list_fits c.requires.0, c.requires.1, made.auto.list)))
-
-pub closes-requires : goal.closes-requires
-closes-requires c =
-    let w = c.requires.0 in
-    (w.few, (w.low, (w.high, w.different)))
 
 pub returns-then-closes : goal.returns-then-closes
 returns-then-closes c =

@@ -13,16 +13,10 @@ returns-then-not-divides c =
     let l : length a.m.e ≡ width = search rules in
     sym (lead_one a.m.e a.w.e (sym c.divides.ensures ∙ c.if-not-divides.true) ∙ ap one l)
 
-pub leads-requires : goal.leads-requires
-leads-requires c = is→T _ (sym c.divides.ensures ∙ c.if-not-divides.false)
-
 pub returns-then-leads : goal.returns-then-leads
 returns-then-leads c =
     let a = c.args in
     sym (lead_own a.m.e a.w.e (sym c.divides.ensures ∙ c.if-not-divides.false) (sym c.leads.ensures ∙ c.if-leads.true))
-
-pub over-requires : goal.over-requires
-over-requires c = is→T _ (sym c.divides.ensures ∙ c.if-not-divides.false)
 
 pub returns : goal.returns
 returns c =

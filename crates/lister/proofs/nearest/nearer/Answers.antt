@@ -31,17 +31,6 @@ module _ (c : After-is_of) where
   told : c.is_of.result ≡ cheap v (split m x)
   told = c.is_of.ensures v (split m x) held
 
-pub returns-then-not-is_nearer : goal.returns-then-not-is_nearer
-returns-then-not-is_nearer c =
-    let a = c.args in
-    let v = signals_at a.n a.set.now in
-    let far = sym c.is_nearer.ensures ∙ c.if-not-is_nearer.true in
-    λ j w e. nearing_by v a.m.e a.a.e w
-    (subst (NotBehind v a.m.e a.a.e a.near) e (λ d. nearer_not a.c.e a.a.e a.near far d.later))
-
-pub over-requires : goal.over-requires
-over-requires c = c.requires.0
-
 pub returns-then-not-is_of : goal.returns-then-not-is_of
 returns-then-not-is_of c =
     let w = (goal.at.returns-then-not-is_of c).After-is_of in

@@ -12,18 +12,12 @@ use Rattle.lister.specs.Nearest.{root_of, asked}
 use Rattle.lister.proofs.nearest.Laws.{lead_divides, lead_leads, nearing_start, nearing_end}
 use Rattle.lister.proofs.nearest.nearest.Goals as goal
 
-pub loop-j-init : goal.loop-j-init
-loop-j-init c = nearing_start _ _ _
-
 -- what is tried is the first of a pair
 pub nearer-near-requires : goal.nearer-near-requires
 nearer-near-requires c =
     let a = c.args in
     let w = get_or (asked (signals_at a.n a.set.now) a.m.e) c.loop-j.j (one width) in
     rw c.candidate.ensures (lead_divides a.m.e w, lead_leads a.m.e w)
-
-pub loop-j-preserved : goal.loop-j-preserved
-loop-j-preserved c = c.nearer-near.ensures c.loop-j.j c.loop-j.invariant c.candidate.ensures
 
 pub returns : goal.returns
 returns c =

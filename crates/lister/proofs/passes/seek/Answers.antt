@@ -40,15 +40,6 @@ module _ (c : After-is_of) where
   told : c.is_of.result ≡ of_kind v c.args.from.rest (split m a)
   told = c.is_of.ensures v (split m a) held
 
-pub loop-m-init : goal.loop-m-init
-loop-m-init c = record { divisor = c.requires.1.divisor; unmet = refl }
-
-pub leads-requires : goal.leads-requires
-leads-requires c = c.loop-m.invariant.divisor
-
-pub over-requires : goal.over-requires
-over-requires c = c.loop-m.invariant.divisor
-
 pub overflow_add-listed : goal.overflow_add-listed
 overflow_add-listed c =
     let w = (goal.at.overflow_add-listed c).After-is_of in
