@@ -7,7 +7,7 @@ use mathlib.Core.Logic.{⊎_elim}
 use Prim.Native.Nat.{ℕ, zero, suc, ◌+◌, ◌-◌, ◌*◌, ◌/◌, ◌<◌, ◌≤◌}
 use native.Mathlib.Omega.{arith}
 use native.Mathlib.Numerals.{add-one}
-use native.Mathlib.Nat.{le_trans, mul-le-mul_left, mul-le-mul_right, mul_comm}
+use native.Mathlib.Nat.{mul_comm}
 use Rattle.std.specs.Int.{div_ceil}
 use Rattle.std.proofs.lemmas.Grind.{div_ceil_times}
 use borrow.Author.Tests.{lt-ltb, le-ltb, ltb-false}
@@ -96,9 +96,6 @@ module _ (may : Mono → Bool) (v l : List Mono) where
     pub summing_start : (wanted : ℕ) → Summing wanted wanted 1
     summing_start wanted = record { level = 0; is = refl; low = omega arith; says = ap (λ (k : ℕ). ltb k wanted) above_all }
 
-    pub summing_end : {wanted left often : ℕ} → Summing wanted left often → left ≤ 0 → false ≡ ltb (sum (take room tally)) wanted
-    summing_end {left = left} s h = sym (le-ltb (above s.level) left (omega arith)) ∙ s.says
-
     module _ {wanted left often : ℕ} (s : Summing wanted left often) (many : ℕ) (is : many ≡ up_to room (frequent may v l often)) where
       next : above s.level ≡ many + above often
       next =
@@ -157,13 +154,6 @@ module _ (may : Mono → Bool) (v l : List Mono) where
           closes_sum false (sym (le-ltb (sum (take room tally)) wanted (omega arith)))
 
 -- ---- the numbers of the rule
--- what the monomials make by twos stays small
-pub twos_small : (room most : ℕ) → room ≤ most → room * (room + 1) ≤ most * (most + 1)
-twos_small room most h = le_trans (mul-le-mul_left room (add_le h)) (mul-le-mul_right (most + 1) h)
-  where
-    add_le : room ≤ most → room + 1 ≤ most + 1
-    add_le k = omega arith
-
 -- the share of each, if together they are to come to what is wanted
 module _ (wanted room : ℕ) (some : 0 < wanted) (roomy : 0 < room) where
   pub share_some : 0 < div_ceil wanted room

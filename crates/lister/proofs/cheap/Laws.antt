@@ -9,7 +9,7 @@ use Rattle.monomial.specs.Order.{same, before}
 use Rattle.monomial.proofs.Tests.{is→T, is_not}
 use Rattle.monomial.proofs.order.Laws.{mono_order}
 use Rattle.lister.specs.declared.cheap.Held.{Held}
-use Rattle.lister.specs.Cheap.{added, cheap, of_kind, Holds}
+use Rattle.lister.specs.Cheap.{added, cheap, Holds}
 
 -- by three tests: whether V has the first and the second, and whether they are one
 module _ (v : List Mono) (a b : Mono) where

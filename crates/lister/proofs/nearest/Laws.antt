@@ -18,7 +18,7 @@ use Rattle.monomial.specs.Product.{mul}
 use Rattle.monomial.specs.Quotient.{quo, divides}
 use Rattle.monomial.specs.Divisors.{leads}
 use Rattle.monomial.specs.Claims.{◌∈◌, split}
-use Rattle.monomial.proofs.Tests.{Tested, passed, failed, test, T→is, n_t→is, is→T, is→n_t, is_not, and_l, and_r}
+use Rattle.monomial.proofs.Tests.{Tested, passed, failed, test, T→is, is→T, is→n_t, and_l, and_r}
 use Rattle.monomial.proofs.Members.{here}
 use Rattle.monomial.proofs.Counting.{in_at}
 use Rattle.monomial.proofs.order.Laws.{mono_order, level}
@@ -121,9 +121,6 @@ module _ (v : List Mono) (m a d : Mono) (c : CheapFrom v m a d) where
 
 -- ---- the loop over those that are asked
 module _ (v : List Mono) (m a : Mono) where
-  pub nearing_start : Nearing v m a None 0
-  nearing_start = record { own = tt; least = λ i h. let z : ⊥ = omega arith in absurd z }
-
   -- one more was tried
   least_next : (near : Option Near) (j : ℕ) → ((i : ℕ) → i < j → NotBehind v m a near (tried v m i))
       → (NotBehind v m a near (tried v m j))
@@ -174,10 +171,3 @@ module _ (c a : Mono) where
       go : (o : Option Near) → T (ahead c o) → IfSome o (λ n. T (before c n.a.e))
       go None t = tt
       go (Some n) t = t
-
-  pub nearer_not : (near : Option Near) → (not (before c a) && ahead c near) ≡ false → (T (before c a) → ⊥) → IsSomeAnd near (λ n. T (before c n.a.e) → ⊥)
-  nearer_not near e l = go near (rw (n_t→is (before c a) l) at e)
-    where
-      go : (o : Option Near) → ahead c o ≡ false → IsSomeAnd o (λ n. T (before c n.a.e) → ⊥)
-      go None f = is_not true refl f
-      go (Some n) f = is→n_t (before c n.a.e) f

@@ -1,6 +1,6 @@
 -- `stays_below` meets its contract: the quotients that occur once, twice, and so on are added up (`Summing`). Assumes nothing.
 use native.Mathlib.Omega.{arith}
-use Rattle.counting.proofs.counting.Sums.{summing_start, summing_enough, summing_none, summing_next, summing_end}
+use Rattle.counting.proofs.counting.Sums.{summing_start, summing_enough, summing_none, summing_next}
 use Rattle.counting.proofs.counting.stays_below.Goals as goal
 
 pub loop-often-init : goal.loop-often-init

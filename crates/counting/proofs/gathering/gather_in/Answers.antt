@@ -9,7 +9,7 @@ use Rattle.wiring.specs.Signals.{listed, signals_at}
 use Rattle.wiring.specs.Terms.{record_at, records}
 use Rattle.wiring.proofs.terms.Laws.{records_length}
 use Rattle.wiring.proofs.quadratic.Records.{outside, offering, at_record}
-use Rattle.counting.proofs.gathering.Laws.{meeting_none, meeting_more, meeting_over, meeting_ends, holds_lent, lent_holds}
+use Rattle.counting.proofs.gathering.Laws.{meeting_none, meeting_more, meeting_over, meeting_ends, lent_holds}
 use Rattle.counting.proofs.gathering.gather_in.Goals as goal
 use Rattle.counting.proofs.gathering.gather_in.Goals.{then-p+in_ok-held, else-p}
 

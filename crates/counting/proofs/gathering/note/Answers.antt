@@ -3,7 +3,7 @@ use mathlib.Core.Path.{◌≡◌, sym, ◌∙◌}
 use native.Mathlib.Omega.{arith}
 use lib.ListN.{length}
 use Rattle.monomial.specs.Monomial.{width}
-use Rattle.counting.proofs.gathering.Laws.{lent_part, note_old, note_full, note_new}
+use Rattle.counting.proofs.gathering.Laws.{note_old, note_full, note_new}
 use borrow.Author.Rules.{rules}
 use Rattle.counting.proofs.gathering.note.Goals as goal
 

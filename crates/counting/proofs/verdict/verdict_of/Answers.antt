@@ -4,7 +4,6 @@ use Prim.Native.Nat.{◌*◌}
 use native.Mathlib.Omega.{arith}
 use lib.Seq.{length-take-le}
 use Rattle.monomial.specs.Monomial.{width}
-use Rattle.monomial.proofs.Members.{no_length}
 use Rattle.monomial.proofs.order.Laws.{mono_order}
 use Rattle.wiring.specs.Sockets.{can_build}
 use Rattle.wiring.specs.Poly.{plain}

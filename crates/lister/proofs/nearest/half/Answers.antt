@@ -1,10 +1,10 @@
 -- `half` meets its contract: the loop fills the result place by place (`Filling`). Assumes nothing.
-use mathlib.Core.Path.{◌≡◌, refl, sym, ◌∙◌}
+use mathlib.Core.Path.{◌≡◌, sym, ◌∙◌}
 use Prim.Native.Nat.{ℕ, ◌/◌}
 use native.Mathlib.Omega.{arith}
 use lib.ListN.{length, length-map}
 use Rattle.monomial.specs.Monomial.{width}
-use Rattle.monomial.proofs.Loops.{filling_start, filling_next, filling_end}
+use Rattle.monomial.proofs.Loops.{filling_next}
 use Rattle.monomial.proofs.Members.{map_at}
 use borrow.Author.Rules.{rules}
 use Rattle.lister.proofs.nearest.half.Goals as goal

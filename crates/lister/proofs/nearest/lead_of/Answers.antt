@@ -2,7 +2,6 @@
 use mathlib.Core.Path.{◌≡◌, sym, ap, ◌∙◌}
 use lib.ListN.{length}
 use Rattle.monomial.specs.Monomial.{one, width}
-use Rattle.monomial.proofs.Tests.{is→T}
 use Rattle.lister.proofs.nearest.Laws.{lead_one, lead_own, lead_other}
 use borrow.Author.Rules.{rules}
 use Rattle.lister.proofs.nearest.lead_of.Goals as goal

@@ -10,7 +10,7 @@ use Rattle.monomial.proofs.Tests.{is→T, is→n_t}
 use Rattle.wiring.specs.Signals.{signals_at}
 use Rattle.lister.specs.Cheap.{cheap, Holds}
 use Rattle.lister.specs.Nearest.{CheapFrom, NotBehind}
-use Rattle.lister.proofs.nearest.Laws.{nearing_by, nearing_take, nearer_out, nearer_not}
+use Rattle.lister.proofs.nearest.Laws.{nearing_by, nearing_take, nearer_out}
 use Rattle.lister.proofs.nearest.nearer.Goals as goal
 use Rattle.lister.proofs.nearest.nearer.Goals.{After-is_of}
 

@@ -9,7 +9,7 @@ use Rattle.wiring.specs.Signals.{signals_at, tabled}
 use Rattle.wiring.proofs.signals.Laws.{signals_length}
 use Rattle.wiring.proofs.signals.Tables.{tabled_length}
 use Rattle.lister.specs.Nearest.{root_of, asked}
-use Rattle.lister.proofs.nearest.Laws.{lead_divides, lead_leads, nearing_start, nearing_end}
+use Rattle.lister.proofs.nearest.Laws.{lead_divides, lead_leads, nearing_end}
 use Rattle.lister.proofs.nearest.nearest.Goals as goal
 
 -- what is tried is the first of a pair
