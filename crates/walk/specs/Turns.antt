@@ -14,6 +14,7 @@ use Rattle.wiring.specs.Terms.{records, system, CleanTerms}
 use Rattle.wiring.specs.Claims.{base}
 use Rattle.counting.specs.Verdict.{list_bytes}
 use Rattle.counting.specs.declared.verdict.Verdict.{Verdict}
+use Rattle.counting.specs.declared.verdict.Verdict.TheVariants as verdict
 use Rattle.walk.specs.declared.children.Tried.{Tried}
 use Rattle.walk.specs.declared.walk.State.{State}
 use Rattle.walk.specs.declared.walk.Turn.{Turn}
@@ -103,10 +104,10 @@ module _ (r : Rules) (n : ℕ) (terms : List ℕ) (level : ℕ) (set : List ℕ)
     pub is : m ≡ chosen first others
 
   -- it is found, it goes no further, or it goes on
-  pub record Weighed (v : Verdict) : Type 0 where
-    pub finds : v.found ≡ true → gaps ≡ []
-    pub shuts : v.found ≡ false → v.split ≡ false → (some gaps ≡ true) × (ends r n level (tabled set) gaps ≡ true)
-    pub splits : v.found ≡ false → v.split ≡ true → GoesOn v.m.e
+  abbrev pub Weighed : Verdict → Type 0
+  Weighed verdict.Found = gaps ≡ []
+  Weighed verdict.Closed = (some gaps ≡ true) × (ends r n level (tabled set) gaps ≡ true)
+  Weighed (verdict.Split m) = GoesOn m.e
 
 -- ---- what taking the step of an opening tells
 module _ (r : Rules) (n : ℕ) (terms : List ℕ) (level limit : ℕ) (set : List ℕ) (st : State) (out₀ : List ℕ) where

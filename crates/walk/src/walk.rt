@@ -69,11 +69,10 @@ fn judge(terms: &[u8], list: &mut [u8], f: Frame, set: &[u8]) -> Verdict
 {
     let len = set.len() / WIDTH;
     if f.level <= len {
-        return Verdict {
-            found: !quadratic::is_unmet(terms, f.panel.n, set, f.cancels),
-            split: false,
-            m: Monomial::ONE,
-        };
+        if quadratic::is_unmet(terms, f.panel.n, set, f.cancels) {
+            return Verdict::Closed;
+        }
+        return Verdict::Found;
     }
     verdict::verdict_of(terms, list, f.panel, set, f.cancels, f.level - len)
 }
@@ -102,20 +101,22 @@ fn take_step(
         steps: taken + 1,
         count: st.count,
     };
-    let o = judge(terms, list, f, set);
-    if o.found {
-        return Opened {
+    match judge(terms, list, f, set) {
+        Verdict::Found => Opened {
             turn: found(out, set, next),
             split: false,
             m: Monomial::ONE,
-        };
-    }
-    let split = o.split;
-    let m = o.m;
-    Opened {
-        turn: Turn::Going(next),
-        split,
-        m,
+        },
+        Verdict::Closed => Opened {
+            turn: Turn::Going(next),
+            split: false,
+            m: Monomial::ONE,
+        },
+        Verdict::Split(m) => Opened {
+            turn: Turn::Going(next),
+            split: true,
+            m,
+        },
     }
 }
 
@@ -192,12 +193,12 @@ fn pairs(
     let mut at = passes::start(m);
     loop {
         let p = passes::find(f.panel.n, set, m, all, at);
-        if !p.some {
+        let Some(held) = p.held else {
             if all {
                 return Turn::Going(cur);
             }
             return pass_by(f.limit, cur, passes::left(m, p.at.listed));
-        }
+        };
         let taken = cur.steps;
         if f.limit <= taken {
             return Turn::Spent;
@@ -208,7 +209,7 @@ fn pairs(
             count: seen,
         };
         let a = p.at.a;
-        let t = children::offer(f.level, f.panel, set, &mut child, a, m.over(a), p.held);
+        let t = children::offer(f.level, f.panel, set, &mut child, a, m.over(a), held);
         if t.go {
             // Made anew for the call: handed on as it came, it would lie twice in the frame of each opening.
             let below = Frame {

@@ -12,7 +12,7 @@ use Rattle.monomial.specs.Lists.{any, gather}
 use Rattle.monomial.specs.Monomial.{Mono, one, width}
 use Rattle.monomial.specs.Order.{same}
 use Rattle.monomial.specs.Claims.{◌∈◌, ◌⊆◌, Different, Rearranged}
-use Rattle.monomial.proofs.Tests.{is→T, is→n_t, is_not}
+use Rattle.monomial.proofs.Tests.{is→T, is→n_t}
 use Rattle.monomial.proofs.Members.{there, append_sub, append_turned, gather_in, gather_out}
 use Rattle.monomial.proofs.Counting.{at_in}
 use Rattle.monomial.proofs.Rearranged.{rearranged_in, rearranged_out, rearranged_length}
@@ -32,8 +32,7 @@ use Rattle.wiring.proofs.signals.Tables.{tabled_none, tabled_length, tabled_more
 use Rattle.wiring.proofs.quadratic.Laws.{nonsquares_in, nonsquares_out, nonsquares_asc}
 use Rattle.wiring.proofs.quadratic.Records.{outside, passing, offering, offered_in, offered_sub, passing_sub, passing_unmet, met, met_all, meets_none, meets_one}
 use Rattle.wiring.proofs.choice.Laws.{picked}
-use Rattle.counting.specs.declared.gathering.Gathered.{Gathered}
-use Rattle.counting.specs.Gathering.{Lent, Holds, Exceeds, Notes, Lists, Gathers}
+use Rattle.counting.specs.Gathering.{Lent, Holds, Exceeds, Lists}
 
 -- ---- the bytes
 -- the listed monomials lie in the list
@@ -108,14 +107,6 @@ module _ {most len : ℕ} {bytes : List ℕ} (w : Lent most len bytes) (m : Mono
           inside = λ y k. append_turned old (m ∷ []) y (subst (λ (l : List Mono). y ∈ l) is k);
           all = λ y k. subst (λ (l : List Mono). y ∈ l) (sym is) (append_turned (m ∷ []) old y k);
         }
-
--- ---- what is answered
-module _ {l : List Mono} {most : ℕ} {bytes : List ℕ} (g : Gathered) where
-  pub notes_all : g.over ≡ false → Holds l most g.len bytes → Notes l most g bytes
-  notes_all o h = record { all = λ e. h; more = λ e. absurd (is_not g.over e o) }
-
-  pub notes_more : g.over ≡ true → Exceeds l most → Notes l most g bytes
-  notes_more o x = record { all = λ e. absurd (is_not g.over o e); more = λ e. x }
 
 -- ---- monomials more on top of what the list held
 module _ {met : List Mono} {most len : ℕ} {bytes : List ℕ} (h : Holds met most len bytes) (new : List Mono) where
@@ -218,22 +209,18 @@ module _ (v : List Mono) (d : Mono → Poly Mono) where
       gathering_next len' now k = collecting_down unmet_of v c i (one width) h (λ m b. rw here (holds_over b (unmet_of z) len' now k))
 
       -- or one of them is too many
-      pub gathering_over : (g : Gathered) (now : List ℕ) → g.over ≡ true → Exceeds (unmet_of z ++ listed len bytes) most → Gathers most ns g now
-      gathering_over g now o x =
-          record {
-            all = λ e. absurd (is_not g.over o e);
-            more = λ e.
-                let y : Exceeds ns most = exceeds_over c.holds (unmet_of z) ns own (λ m k. gathered_in m (collecting_behind unmet_of v j m k)) x in
-                let long : length y.some ≤ length ns = different_length y.some ns y.different y.inside in
-                omega (arith, y.many);
-          }
+      pub gathering_over : Exceeds (unmet_of z ++ listed len bytes) most → most < length ns
+      gathering_over x =
+          let y : Exceeds ns most = exceeds_over c.holds (unmet_of z) ns own (λ m k. gathered_in m (collecting_behind unmet_of v j m k)) x in
+          let long : length y.some ≤ length ns = different_length y.some ns y.different y.inside in
+          omega (arith, y.many)
         where
           own : unmet_of z ⊆ ns
           own m k = nonsquares_in plain mono_order v d z m (subst (λ (x : Mono). x ∈ v) here (at_in v i (one width) (omega (arith, c.within)))) k
 
   module _ {most len : ℕ} {bytes : List ℕ} (c : Gathering most len bytes 0) where
-    pub gathering_ends : width * most ≤ length bytes → Gathers most ns (record { len = len; over = false }) bytes
-    gathering_ends r = record { all = λ t. lists; more = λ t. absurd (is→T false t) }
+    pub gathering_ends : width * most ≤ length bytes → Lists ns most len bytes
+    gathering_ends r = record { few = held.few; many = sym (rearranged_length ns (listed len bytes) are ∙ lent_length (holds_lent held r)); are = are }
       where
         held : Holds ns most len bytes
         held = holds_members most len bytes (gather unmet_of v) ns gathered_in gathered_out (collecting_whole unmet_of v c)
@@ -242,9 +229,6 @@ module _ (v : List Mono) (d : Mono → Poly Mono) where
         are =
             different_rearranged ns (listed len bytes) (ascending_different mono_order ns (nonsquares_asc plain mono_order v d)) held.different
             held.all held.inside
-
-        lists : Lists ns most len bytes
-        lists = record { few = held.few; many = sym (rearranged_length ns (listed len bytes) are ∙ lent_length (holds_lent held r)); are = are }
 
 -- ---- the cheapest of the listed nonsquares is the one that is split
 pub picked_of : (l r : List Mono) (p : Option Monomial) → Rearranged l r → Best cheaper r p → Picked l p

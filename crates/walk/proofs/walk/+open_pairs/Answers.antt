@@ -6,6 +6,7 @@ use Prim.Native.Nat.{ℕ, ◌+◌, ◌*◌, ◌-◌, ◌/◌, ◌<◌, ◌≤◌
 use native.Mathlib.Omega.{arith}
 use borrow.Author.Rules.{rules}
 use borrow.Author.Tests.{not-true, not-false}
+use Rattle.std.specs.Prelude.{None, Some}
 use lib.Dec.{ltb}
 use Rattle.std.proofs.lemmas.Bool.{lt-ltb, le-ltb}
 use lib.ListN.{length}
@@ -17,6 +18,7 @@ use Rattle.wiring.specs.Panel.{set_bytes}
 use Rattle.wiring.specs.Signals.{tabled, listed, signals_at}
 use Rattle.wiring.specs.Terms.{records, system}
 use Rattle.wiring.proofs.signals.Tables.{tabled_length}
+use Rattle.lister.specs.declared.cheap.Held.{Held}
 use Rattle.lister.specs.Cheap.{cheap_first, Holds}
 use Rattle.lister.specs.Passes.{Standing, Picked, kind, list_from, put_off}
 use Rattle.lister.proofs.passes.Laws.{standing_start, listed_first, kinds_count, picked_member}
@@ -93,7 +95,7 @@ module _ (t : ℕ) (k : pairs-After-find-p t) where
   abbrev Runs : List Pair → Type 0
   Runs ps =
       Running (kit_rules k.args.f.panel) k.args.f.panel.n k.args.terms.now k.args.f.level k.args.f.limit k.args.set.now gap
-      k.args.st k.args.out.now ps k.loop-child.cur k.loop-child.out
+      k.args.st k.args.out.now ps k.loop-held.cur k.loop-held.out
 
   -- the pair in hand, and what is left behind it
   abbrev held : Pair
@@ -102,22 +104,22 @@ module _ (t : ℕ) (k : pairs-After-find-p t) where
   abbrev later : List Pair
   later = list_from v gap all k.find-p.result.at.rest (next gap k.find-p.result.at.a.e)
 
-  module _ (some : k.find-p.result.some ≡ true) where
+  module _ (known : Held) (some : k.find-p.result.held ≡ Some known) where
     seen_runs : Runs (held ∷ (later ++ put_off v gap all))
-    seen_runs = subst (λ (ps : List Pair). Runs (ps ++ put_off v gap all)) (k.find-p.ensures.lists some) k.loop-child.invariant.0
+    seen_runs = subst (λ (ps : List Pair). Runs (ps ++ put_off v gap all)) (rw some at k.find-p.ensures.lists) k.loop-held.invariant.0
 
   -- none is in hand: only what is put off is left
-  seen_end : k.find-p.result.some ≡ false → Runs (put_off v gap all)
-  seen_end e = subst (λ (ps : List Pair). Runs (ps ++ put_off v gap all)) (k.find-p.ensures.none e) k.loop-child.invariant.0
+  seen_end : k.find-p.result.held ≡ None → Runs (put_off v gap all)
+  seen_end e = subst (λ (ps : List Pair). Runs (ps ++ put_off v gap all)) (rw e at k.find-p.ensures.none) k.loop-held.invariant.0
 
 -- ---- the place where a child was offered
 module _ (t : ℕ) (c : pairs-After-offer-t t) where
   -- the state and the buffer before the turn, the pair in hand, and the child
   abbrev reached : State
-  reached = c.loop-child.cur
+  reached = c.loop-held.cur
 
   abbrev sheet : List ℕ
-  sheet = c.loop-child.out
+  sheet = c.loop-held.out
 
   abbrev in_hand : Pair
   in_hand = split c.args.m.e c.find-p.result.at.a.e
@@ -125,14 +127,11 @@ module _ (t : ℕ) (c : pairs-After-offer-t t) where
   abbrev offspring : List Mono
   offspring = child c.args.f.panel.n (tabled c.args.set.now) in_hand
 
-  offered_some : c.find-p.result.some ≡ true
-  offered_some = not-false c.find-p.result.some c.if-not-p.false
-
-  offered_picked : Picked (signals_at c.args.f.panel.n c.args.set.now) c.args.m.e c.find-p.result
-  offered_picked = c.find-p.ensures.picked offered_some
+  offered_picked : Picked (signals_at c.args.f.panel.n c.args.set.now) c.args.m.e c.find-p.result.at c.in-Some.held
+  offered_picked = rw c.in-Some.is at c.find-p.ensures.picked
 
   offered_member : in_hand ∈ pairs c.args.m.e
-  offered_member = picked_member (signals_at c.args.f.panel.n c.args.set.now) c.args.m.e c.find-p.result offered_picked
+  offered_member = picked_member (signals_at c.args.f.panel.n c.args.set.now) c.args.m.e c.find-p.result.at c.in-Some.held offered_picked
 
   -- whether it is opened
   abbrev test : Bool
@@ -143,7 +142,7 @@ module _ (t : ℕ) (c : pairs-After-offer-t t) where
   nursery = c.offer-t.new.next
 
   nursery_long : length nursery ≡ set_bytes
-  nursery_long = c.offer-t.auto.next ∙ c.loop-child.invariant.1.1.1.1
+  nursery_long = c.offer-t.auto.next ∙ c.loop-held.invariant.1.1.1.1
 
   offered_child : Child test offspring c.offer-t.result nursery
   offered_child =
@@ -192,11 +191,11 @@ module _ (t : ℕ) (c : pairs-After-offer-t t) where
     offered_told turn turn' out' e f =
         let a = c.args in
         told_as (kit_rules a.f.panel) a.f.panel.n a.terms.now a.f.level a.f.limit (reached.steps + 1) reached.count c.offer-t.result.len offspring _ a.out.now sheet out' turn turn'
-        (offered_child.is go) offered_long c.loop-child.invariant.0.long e f
+        (offered_child.is go) offered_long c.loop-held.invariant.0.long e f
 
 -- ---- the loop begins before the first pair
-pub pairs-loop-child-init : goal.pairs-loop-child-init
-pairs-loop-child-init t c =
+pub pairs-loop-held-init : goal.pairs-loop-held-init
+pairs-loop-held-init t c =
     let a = c.args in
     let u = signals_at a.f.panel.n a.set.now in
     let m = a.m.e in
@@ -212,53 +211,55 @@ pub pairs-find-p-requires : goal.pairs-find-p-requires
 pairs-find-p-requires t c =
     let a = c.args in
     let proper = gap_proper a.f.panel.n a.terms.now a.f.level a.set.now a.m.e a.st.count a.out.now c.requires.0 c.requires.1.0 in
-    (c.requires.0.opening.few, (proper, (c.loop-child.invariant.1.0, c.loop-child.invariant.1.1.0)))
+    (c.requires.0.opening.few, (proper, (c.loop-held.invariant.1.0, c.loop-held.invariant.1.1.0)))
 
 -- ---- its end: all pairs were listed, or the rest is passed by
 pub pairs-returns-then-all : goal.pairs-returns-then-all
 pairs-returns-then-all t c =
     let k = (goal.at.pairs-returns-then-all t c).After-find-p in
     let a = c.args in
-    running_end (kit_rules a.f.panel) a.f.panel.n a.terms.now a.f.level a.f.limit a.set.now a.m.e a.st a.out.now (subst (Runs t k) (ap (put_off (v t k) (gap t k)) (lt-ltb _ _ c.if-all.true)) (seen_end t k (not-true _ c.if-not-p.true)))
+    running_end (kit_rules a.f.panel) a.f.panel.n a.terms.now a.f.level a.f.limit a.set.now a.m.e a.st a.out.now (subst (Runs t k) (ap (put_off (v t k) (gap t k)) (lt-ltb _ _ c.if-all.true)) (seen_end t k c.in_default.is))
 
 pub pairs-left-requires : goal.pairs-left-requires
 pairs-left-requires t c =
     let k = (goal.at.pairs-left-requires t c).After-find-p in
-    omega (arith, c.find-p.ensures.over (le-ltb _ _ c.if-all.false) (not-true _ c.if-not-p.true), kinds_count (v t k) (gap t k))
+    omega (arith, rw c.in_default.is at (c.find-p.ensures.over (le-ltb _ _ c.if-all.false)), kinds_count (v t k) (gap t k))
 
-pub pairs-returns-then-not-p : goal.pairs-returns-then-not-p
-pairs-returns-then-not-p t c =
-    let k = (goal.at.pairs-returns-then-not-p t c).After-find-p in
+pub pairs-returns-in_default : goal.pairs-returns-in_default
+pairs-returns-in_default t c =
+    let k = (goal.at.pairs-returns-in_default t c).After-find-p in
     let a = c.args in
     let few : all t k ≡ false = le-ltb _ _ c.if-all.false in
-    let over : c.find-p.result.some ≡ false = not-true _ c.if-not-p.true in
+    let over : c.find-p.result.held ≡ None = c.in_default.is in
     let tight : a.f.level ≤ length (tabled a.set.now) + 1 =
     omega (arith, c.if-all.false, tabled_length a.set.now) in
     let shut = rest_shut a.f.panel.n a.terms.now a.f.level a.set.now a.m.e a.st.count a.out.now c.requires.0 c.requires.1.0 tight (kit_rules a.f.panel) in
-    let counted : c.left.result ≡ length (kind (v t k) (gap t k) true) = omega (arith, c.left.ensures, c.find-p.ensures.over few over, kinds_count (v t k) (gap t k)) in
-    running_by (kit_rules a.f.panel) a.f.panel.n a.terms.now a.f.level a.f.limit a.set.now a.m.e a.st a.out.now (kind (v t k) (gap t k) true) c.loop-child.cur c.loop-child.out
+    let counted : c.left.result ≡ length (kind (v t k) (gap t k) true) = omega (arith, c.left.ensures, rw over at (c.find-p.ensures.over few), kinds_count (v t k) (gap t k)) in
+    running_by (kit_rules a.f.panel) a.f.panel.n a.terms.now a.f.level a.f.limit a.set.now a.m.e a.st a.out.now (kind (v t k) (gap t k) true) c.loop-held.cur c.loop-held.out
     (subst (Runs t k) (ap (put_off (v t k) (gap t k)) few) (seen_end t k over)) shut c.pass_by.result
-    (subst (λ (n : ℕ). PassedBy a.f.limit c.loop-child.cur n c.pass_by.result) counted c.pass_by.ensures)
+    (subst (λ (n : ℕ). PassedBy a.f.limit c.loop-held.cur n c.pass_by.result) counted c.pass_by.ensures)
 
 -- ---- a turn
 pub pairs-returns-then-f-taken : goal.pairs-returns-then-f-taken
 pairs-returns-then-f-taken t c =
     let k = (goal.at.pairs-returns-then-f-taken t c).After-find-p in
     let a = c.args in
-    running_spent (kit_rules a.f.panel) a.f.panel.n a.terms.now a.f.level a.f.limit a.set.now a.m.e a.st a.out.now (seen_runs t k (not-false _ c.if-not-p.false)) (omega (arith, c.if-f-taken.true))
+    running_spent (kit_rules a.f.panel) a.f.panel.n a.terms.now a.f.level a.f.limit a.set.now a.m.e a.st a.out.now (seen_runs t k c.in-Some.held c.in-Some.is) (omega (arith, c.if-f-taken.true))
 
 pub pairs-slice_bounds-offer-end : goal.pairs-slice_bounds-offer-end
-pairs-slice_bounds-offer-end t c = sym c.loop-child.invariant.1.1.1.1
+pairs-slice_bounds-offer-end t c = sym c.loop-held.invariant.1.1.1.1
 
 pub pairs-over-requires : goal.pairs-over-requires
-pairs-over-requires t c = (c.find-p.ensures.picked (not-false _ c.if-not-p.false)).divisor
+pairs-over-requires t c =
+    let picked : Picked (signals_at c.args.f.panel.n c.args.set.now) c.args.m.e c.find-p.result.at c.in-Some.held = rw c.in-Some.is at c.find-p.ensures.picked in
+    picked.divisor
 
 pub pairs-offer-t-requires : goal.pairs-offer-t-requires
 pairs-offer-t-requires t c =
     let p = c.requires.0.opening in
-    let picked = c.find-p.ensures.picked (not-false _ c.if-not-p.false) in (
-      record { whole = p.whole; within = p.within; low = p.low; room = omega (arith, c.loop-child.invariant.1.1.1.1); ascending = p.walked.recorded.ascending },
-      subst (λ (b : Mono). Holds (signals_at c.args.f.panel.n c.args.set.now) (c.find-p.result.at.a.e, b) c.find-p.result.held) (sym c.over.ensures) picked.held,
+    let picked : Picked (signals_at c.args.f.panel.n c.args.set.now) c.args.m.e c.find-p.result.at c.in-Some.held = rw c.in-Some.is at c.find-p.ensures.picked in (
+      record { whole = p.whole; within = p.within; low = p.low; room = omega (arith, c.loop-held.invariant.1.1.1.1); ascending = p.walked.recorded.ascending },
+      subst (λ (b : Mono). Holds (signals_at c.args.f.panel.n c.args.set.now) (c.find-p.result.at.a.e, b) c.in-Some.held) (sym c.over.ensures) picked.held,
     )
 
 pub pairs-overflow_mul-child : goal.pairs-overflow_mul-child
@@ -281,7 +282,7 @@ pairs-slice_bounds-open-end t c =
 pub pairs-open-requires : goal.pairs-open-requires
 pairs-open-requires t c =
     let o = (goal.at.pairs-open-requires t c).After-offer-t in
-    let turn = c.loop-child in
+    let turn = c.loop-held in
     let a = c.args in
     let go = c.if-t.true in
     let showing = running_showing (kit_rules a.f.panel) a.f.panel.n a.terms.now a.f.level a.f.limit a.set.now a.m.e a.st a.out.now _ turn.cur turn.out turn.invariant.0 c.requires.0.showing in
@@ -297,7 +298,7 @@ pairs-returns-in-Spent t c =
     let k = (goal.at.pairs-returns-in-Spent t c).After-find-p in
     let a = c.args in
     let go = c.if-t.true in
-    running_child_spent (kit_rules a.f.panel) a.f.panel.n a.terms.now a.f.level a.f.limit a.set.now a.m.e a.st a.out.now (seen_runs t k (offered_some t o)) c.offer-t.result.len (offered_more t o go) c.requires.1.0.below
+    running_child_spent (kit_rules a.f.panel) a.f.panel.n a.terms.now a.f.level a.f.limit a.set.now a.m.e a.st a.out.now (seen_runs t k c.in-Some.held c.in-Some.is) c.offer-t.result.len (offered_more t o go) c.requires.1.0.below
     (offered_low t o) (offered_opens t o ∙ go) c.«open».new.out (offered_told t o go c.«open».result Spent c.«open».new.out c.in-Spent.is c.«open».ensures)
 
 pub pairs-returns-in-Full : goal.pairs-returns-in-Full
@@ -306,22 +307,22 @@ pairs-returns-in-Full t c =
     let k = (goal.at.pairs-returns-in-Full t c).After-find-p in
     let a = c.args in
     let go = c.if-t.true in
-    running_child_full (kit_rules a.f.panel) a.f.panel.n a.terms.now a.f.level a.f.limit a.set.now a.m.e a.st a.out.now (seen_runs t k (offered_some t o)) c.offer-t.result.len (offered_more t o go) c.requires.1.0.below
+    running_child_full (kit_rules a.f.panel) a.f.panel.n a.terms.now a.f.level a.f.limit a.set.now a.m.e a.st a.out.now (seen_runs t k c.in-Some.held c.in-Some.is) c.offer-t.result.len (offered_more t o go) c.requires.1.0.below
     (offered_low t o) (offered_opens t o ∙ go) c.in-Full.s c.«open».new.out (offered_told t o go c.«open».result (Full c.in-Full.s) c.«open».new.out c.in-Full.is c.«open».ensures)
 
 -- ---- the place behind the pair
-pub pairs-loop-child-smaller : goal.pairs-loop-child-smaller
-pairs-loop-child-smaller t c =
-    let o = (goal.at.pairs-loop-child-smaller t c).After-offer-t in
-    rw (c.behind-at.ensures.0, c.behind-at.ensures.1.0) (omega (arith, ap length (c.find-p.ensures.lists (offered_some t o))))
+pub pairs-loop-held-smaller : goal.pairs-loop-held-smaller
+pairs-loop-held-smaller t c =
+    let o = (goal.at.pairs-loop-held-smaller t c).After-offer-t in
+    rw (c.behind-at.ensures.0, c.behind-at.ensures.1.0) (omega (arith, ap length (rw c.in-Some.is at c.find-p.ensures.lists)))
 
-pub pairs-loop-child-preserved : goal.pairs-loop-child-preserved
-pairs-loop-child-preserved t c =
-    let o = (goal.at.pairs-loop-child-preserved t c).After-offer-t in
-    let k = (goal.at.pairs-loop-child-preserved t c).After-find-p in
+pub pairs-loop-held-preserved : goal.pairs-loop-held-preserved
+pairs-loop-held-preserved t c =
+    let o = (goal.at.pairs-loop-held-preserved t c).After-offer-t in
+    let k = (goal.at.pairs-loop-held-preserved t c).After-find-p in
     let a = c.args in
     let r = c.offer-t.result in
-    let runs = seen_runs t k (offered_some t o) in
+    let runs = seen_runs t k c.in-Some.held c.in-Some.is in
     let standing = (offered_picked t o).behind in
     let cheap = c.find-p.ensures.cheap_only in
     elim c.if-t.branch [
@@ -331,11 +332,11 @@ pairs-loop-child-preserved t c =
           rw (c.behind-at.ensures.0, c.behind-at.ensures.1.0, c.behind-at.ensures.1.1, w.out-is, w.list-is, w.cur-is) (
             running_going (kit_rules a.f.panel) a.f.panel.n a.terms.now a.f.level a.f.limit a.set.now a.m.e a.st a.out.now runs
                 r.len (offered_more t o go) c.requires.1.0.below (offered_low t o) (offered_opens t o ∙ go) w.in-Going.s w.«open».new.out w.«open».auto.out told,
-            (standing, (cheap, (w.«open».auto.list ∙ c.loop-child.invariant.1.1.1.0, nursery_long t o))),
+            (standing, (cheap, (w.«open».auto.list ∙ c.loop-held.invariant.1.1.1.0, nursery_long t o))),
           )
       | pairs-else-t w ↦
           rw (c.behind-at.ensures.0, c.behind-at.ensures.1.0, c.behind-at.ensures.1.1, w.out-is, w.list-is, w.cur-is) (
             running_shut (kit_rules a.f.panel) a.f.panel.n a.terms.now a.f.level a.f.limit a.set.now a.m.e a.st a.out.now runs _ refl refl (offered_low t o) (offered_opens t o ∙ w.if-t.false),
-            (standing, (cheap, (c.loop-child.invariant.1.1.1.0, nursery_long t o))),
+            (standing, (cheap, (c.loop-held.invariant.1.1.1.0, nursery_long t o))),
           )
     ]

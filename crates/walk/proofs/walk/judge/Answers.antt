@@ -1,6 +1,5 @@
 -- `judge` meets its contract: the set is judged at its level or below it. Assumes nothing.
-use mathlib.Core.Path.{refl, sym, ap, subst}
-use mathlib.Core.Bool.{not}
+use mathlib.Core.Path.{sym, ◌∙◌, subst}
 use Prim.Native.Nat.{ℕ, ◌-◌, ◌<◌}
 use native.Mathlib.Omega.{arith}
 use lib.ListN.{length}
@@ -13,7 +12,7 @@ use Rattle.wiring.specs.Terms.{records, system}
 use Rattle.wiring.proofs.signals.Tables.{tabled_length}
 use Rattle.counting.specs.Verdict.{Weighing, Judged}
 use Rattle.walk.proofs.walk.Laws.{signals_fit}
-use Rattle.walk.proofs.walk.Judging.{weighed_last, weighing, weighed_below}
+use Rattle.walk.proofs.walk.Judging.{weighed_last, weighed_met, weighing, weighed_below}
 use Rattle.walk.proofs.walk.judge.Goals as goal
 
 pub is_unmet-requires : goal.is_unmet-requires
@@ -21,10 +20,15 @@ is_unmet-requires c =
     let p = c.requires.0 in
     (p.clean, (p.few, (signals_fit c.args.f.panel.n c.args.set.now p.walked, c.requires.1.summed)))
 
+pub returns-then-is_unmet : goal.returns-then-is_unmet
+returns-then-is_unmet c =
+    let a = c.args in
+    weighed_last a.f.panel a.terms.now a.f.level a.set.now c.requires.0 (sym c.is_unmet.ensures ∙ c.if-is_unmet.true) (omega (arith, tabled_length a.set.now, c.if-f-len.true))
+
 pub returns-then-f-len : goal.returns-then-f-len
 returns-then-f-len c =
     let a = c.args in
-    weighed_last a.f.panel a.terms.now a.f.level a.set.now c.requires.0 _ refl (ap not c.is_unmet.ensures) (omega (arith, tabled_length a.set.now, c.if-f-len.true))
+    weighed_met a.f.panel a.terms.now a.f.level a.set.now c.requires.0 (sym c.is_unmet.ensures ∙ c.if-is_unmet.false)
 
 pub verdict_of-requires : goal.verdict_of-requires
 verdict_of-requires c =

@@ -9,7 +9,7 @@ use Rattle.wiring.specs.Terms.{records, system}
 use Rattle.walk.specs.Walk.{kit_rules}
 use Rattle.walk.specs.Turns.{Tells}
 use Rattle.walk.proofs.walk.Laws.{open_spent}
-use Rattle.walk.proofs.walk.Judging.{found_runs, lost_steps}
+use Rattle.walk.proofs.walk.Judging.{found_runs, closed_steps}
 use Rattle.walk.proofs.walk.take_step.Goals as goal
 
 pub returns-then-f-taken : goal.returns-then-f-taken
@@ -18,8 +18,8 @@ returns-then-f-taken c =
     let a = c.args in
     open_spent (kit_rules a.f.panel) a.f.panel.n (system (records a.terms.now)) a.f.level a.f.limit (length a.out.now / set_bytes) a.st.steps finds (tabled a.set.now) d p (omega arith)
 
-pub judge-o-requires : goal.judge-o-requires
-judge-o-requires c =
+pub judge-requires : goal.judge-requires
+judge-requires c =
     (c.requires.0.opening, c.requires.1)
 
 pub found-requires : goal.found-requires
@@ -27,16 +27,14 @@ found-requires c =
     let p = c.requires.0 in
     record { lies = record { whole = p.opening.whole; recorded = p.opening.walked.recorded }; showing = p.showing }
 
-pub returns-then-o : goal.returns-then-o
-returns-then-o c =
+pub returns-in-Found : goal.returns-in-Found
+returns-in-Found c =
     λ d finds p sh.
     let a = c.args in
-    let j = c.judge-o in
-    let told = found_runs (kit_rules a.f.panel) a.f.panel.n a.terms.now a.f.level a.f.limit a.set.now a.st a.out.now _ j.ensures (omega (arith, c.if-f-taken.false)) c.if-o.true d finds p in
+    let told = found_runs (kit_rules a.f.panel) a.f.panel.n a.terms.now a.f.level a.f.limit a.set.now a.st a.out.now (omega arith) c.in-Found.ensures d finds p in
     subst (Tells c.found.result c.found.new.out) (sym told) (c.found.ensures finds sh)
 
-pub returns : goal.returns
-returns c =
+pub returns-in-Closed : goal.returns-in-Closed
+returns-in-Closed c =
     let a = c.args in
-    let j = c.judge-o in
-    lost_steps (kit_rules a.f.panel) a.f.panel.n a.terms.now a.f.level a.f.limit a.set.now a.st a.out.now _ j.ensures (omega arith) c.if-o.false _ refl refl
+    closed_steps (kit_rules a.f.panel) a.f.panel.n a.terms.now a.f.level a.f.limit a.set.now a.st a.out.now (omega arith) _ refl refl c.in-Closed.ensures
