@@ -49,8 +49,7 @@ fn join(out: &mut [u8], count: usize, set: Set)
     ensures { (l : Finds) → count ≡ length l → Begun l out.old → Begun (l ++ (monomials_of set ∷ [])) out.new }
 {
     if count < out.len() / SET_BYTES {
-        let r = sets::record_of(set);
-        buffer::put(out, SET_BYTES * count, &r.record);
+        buffer::put(out, SET_BYTES * count, &sets::record_of(set));
     }
 }
 

@@ -1,5 +1,5 @@
 -- The finds in the lent buffer: ascending, each once, then zeros. Assumes nothing.
-use Rattle.std.specs.Prelude.{◌≡◌, List, ◌++◌, ℕ, ◌*◌, ◌-◌, ◌≤◌, length, replicate}
+use Rattle.std.specs.Prelude.{◌≡◌, List, ◌++◌, ℕ, ◌*◌, ◌-◌, ◌≤◌, length, replicate, Option, Some, None}
 use Rattle.monomial.specs.Monomial.{Mono, one, width}
 use Rattle.monomial.specs.Order.{before, before_set}
 use Rattle.monomial.specs.Claims.{Ascending, ◌∈◌}
@@ -7,8 +7,6 @@ use Rattle.wiring.specs.Panel.{cards, set_bytes}
 use Rattle.wiring.specs.Signals.{tabled}
 use Rattle.walk.specs.Walk.{Finds, Run, ended, full}
 use Rattle.walk.specs.Plan.{sets_bytes}
-use Rattle.walk.specs.declared.listing.Kept.{Kept}
-use Rattle.walk.specs.declared.listing.Kept.TheVariants.{Held, NoRoom}
 
 -- a set that has a record: no more monomials than there are cards, strictly ascending, of the panel's width, none of them 1
 pub record Recorded (s : List Mono) : Type 0 where
@@ -31,6 +29,6 @@ pub record Shown (finds : Finds) (count : ℕ) (out : List ℕ) : Type 0 where
   pub recorded : (s : List Mono) → s ∈ finds → Recorded s
 
 -- what keeping a find comes to, at `taken` steps
-abbrev pub KeptAs : Kept → ℕ → List ℕ → Run → Type 0
-KeptAs (Held count) taken out r = (finds : Finds) × Shown finds count out × (r ≡ ended taken finds)
-KeptAs NoRoom taken out r = r ≡ full taken
+abbrev pub KeptAs : Option ℕ → ℕ → List ℕ → Run → Type 0
+KeptAs (Some count) taken out r = (finds : Finds) × Shown finds count out × (r ≡ ended taken finds)
+KeptAs None taken out r = r ≡ full taken

@@ -11,13 +11,6 @@ ghost use Rattle.walk.specs.Listing.{Lies, Shown, KeptAs};
 
 use wiring::panel::SET_BYTES;
 
-// What keeping a find comes to: the new count, or no room.
-#[derive(Clone, Copy)]
-pub enum Kept {
-    Held(usize),
-    NoRoom,
-}
-
 // The byte at i of the record of a set: behind the bytes of its monomials there are zeros. So no record need be made of it.
 fn byte_at(set: &[u8], i: usize) -> u8
     ensures { result ≡ get_or set.now i 0 }
@@ -118,20 +111,20 @@ fn put(out: &mut [u8], at: usize, set: &[u8])
     }
 }
 
-// Keeps a found set: listed already, or in its place, or no room.
-pub(crate) fn keep(out: &mut [u8], count: usize, set: &[u8]) -> Kept
+// Keeps a found set, listed already or in its place, and gives the new count; none where there is no room.
+pub(crate) fn keep(out: &mut [u8], count: usize, set: &[u8]) -> Option<usize>
     requires { Lies set.now × (set_bytes * count ≤ length out.old) }
     ensures { (finds : Finds) (taken : ℕ) → Shown finds count out.old →
         KeptAs result taken out.new (kept (length out.old / set_bytes) (tabled set.now) taken finds) }
 {
     if is_listed(out, count, set) {
-        return Kept::Held(count);
+        return Some(count);
     }
     if out.len() / SET_BYTES <= count {
-        return Kept::NoRoom;
+        return None;
     }
     let at = SET_BYTES * place_of(out, count, set);
     move_up(out, at, SET_BYTES * count);
     put(out, at, set);
-    Kept::Held(count + 1)
+    Some(count + 1)
 }

@@ -24,7 +24,7 @@ use Rattle.wiring.proofs.sets.Exact.{record_length}
 use Rattle.walk.specs.Walk.{Finds, kept}
 use Rattle.walk.specs.Plan.{sets_bytes}
 use Rattle.walk.specs.Listing.{Recorded, Shown, KeptAs}
-use Rattle.walk.specs.declared.listing.Kept.TheVariants.{Held, NoRoom}
+use Rattle.std.specs.Prelude.{Some, None}
 use Rattle.walk.proofs.listing.Laws.{gather_more}
 use Rattle.walk.proofs.listing.Records.{record_before, record_same}
 
@@ -108,15 +108,15 @@ module _ {finds : Finds} {count : ℕ} {out : List ℕ} (s : Shown finds count o
 
   -- ---- keeping a set
   module _ (x : List Mono) (taken room : ℕ) where
-    pub keeps_old : any (same_set x) finds ≡ true → KeptAs (Held count) taken out (kept room x taken finds)
+    pub keeps_old : any (same_set x) finds ≡ true → KeptAs (Some count) taken out (kept room x taken finds)
     unfolding kept
     keeps_old e = (finds, s, rw e)
 
-    pub keeps_none : any (same_set x) finds ≡ false → room ≤ count → KeptAs NoRoom taken out (kept room x taken finds)
+    pub keeps_none : any (same_set x) finds ≡ false → room ≤ count → KeptAs None taken out (kept room x taken finds)
     unfolding kept
     keeps_none e h = rw (e, le-leb room (length finds) (omega (arith, s.counted)))
 
     pub keeps_new : any (same_set x) finds ≡ false → count < room → (out' : List ℕ) → Shown (insert_by same_set before_set x finds) (count + 1) out'
-        → KeptAs (Held (count + 1)) taken out' (kept room x taken finds)
+        → KeptAs (Some (count + 1)) taken out' (kept room x taken finds)
     unfolding kept
     keeps_new e h out' t = (insert_by same_set before_set x finds, t, rw (e, lt-leb room (length finds) (omega (arith, s.counted))))

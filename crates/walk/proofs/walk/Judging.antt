@@ -27,10 +27,10 @@ use Rattle.counting.specs.Verdict.{Weighing, Split, Judged}
 use Rattle.counting.specs.declared.verdict.Verdict.{Verdict}
 use Rattle.counting.proofs.verdict.Laws.{closes_some}
 use Rattle.walk.specs.declared.walk.State.{State}
-use Rattle.walk.specs.declared.walk.Turn.TheVariants.{Going}
+use Rattle.std.specs.Prelude.{Ok}
 use Rattle.walk.specs.Walk.{Finds, Rules, kit_rules, ends, opened, Run, ended, run, kept}
 use Rattle.walk.specs.Listing.{Shown}
-use Rattle.walk.specs.Turns.{Openable, GoesOn, Weighed, SteppedBy, Stepped}
+use Rattle.walk.specs.Turns.{Openable, GoesOn, Weighed, NothingFollows, PairsFollow}
 use Rattle.walk.proofs.Rules.{goes_on, at_its_level, closed_ends}
 use Rattle.walk.proofs.walk.Laws.{signals_fit, open_none, open_stops}
 
@@ -98,15 +98,13 @@ module _ (r : Rules) (n : ℕ) (terms : List ℕ) (level limit : ℕ) (set : Lis
 
   -- not found: it goes no further, or its pairs follow
   module _ (lost : v.found ≡ false) (next : State) (one_more : next.steps ≡ st.steps + 1) (as_many : next.count ≡ st.count) where
-    went : (b : Bool) → v.split ≡ b → SteppedBy r n terms level limit set st out₀ b (record { turn = Going next; split = v.split; m = v.m }) out₀
-    went false s =
-        λ d finds p sh. record {
-          finds = finds;
-          shown = subst (λ (c : ℕ). Shown finds c out₀) (sym as_many) sh;
-          is = open_stops r n (system (records terms)) level limit (length out₀ / set_bytes) st.steps finds (tabled set) d p taken (w.shuts lost s).0 (w.shuts lost s).1
-              ∙ ap (λ (k : ℕ). ended k finds) (sym one_more);
-        }
-    went true s = record { taken = taken; goes = w.splits lost s; kept = refl }
+    pub shut_steps : v.split ≡ false → NothingFollows r n terms level limit set st out₀ (Ok next) out₀
+    shut_steps s = λ d finds p sh. record {
+      finds = finds;
+      shown = subst (λ (c : ℕ). Shown finds c out₀) (sym as_many) sh;
+      is = open_stops r n (system (records terms)) level limit (length out₀ / set_bytes) st.steps finds (tabled set) d p taken (w.shuts lost s).0 (w.shuts lost s).1
+          ∙ ap (λ (k : ℕ). ended k finds) (sym one_more);
+    }
 
-    pub lost_steps : Stepped r n terms level limit set st out₀ (record { turn = Going next; split = v.split; m = v.m }) out₀
-    lost_steps = went v.split refl
+    pub split_steps : v.split ≡ true → PairsFollow r n terms level limit set st out₀ v.m.e next out₀
+    split_steps s = record { taken = taken; goes = w.splits lost s; steps = one_more; count = as_many; kept = refl }
