@@ -12,7 +12,7 @@ use Rattle.walk.proofs.walk.found.Goals as goal
 pub keep-requires : goal.keep-requires
 keep-requires c =
     let p = c.requires in
-    (p.lies, p.showing.shown.room)
+    record { lies = p.lies; room = p.showing.shown.room }
 
 pub shape_of-out-in-Some : goal.shape_of-out-in-Some
 shape_of-out-in-Some c =
