@@ -22,16 +22,15 @@ fn put_in(s: &mut [u8], len: usize, m: Monomial)
     ensures { Ascending before (listed len s.old) → any (same m.e) (listed len s.old) ≡ false →
         listed (len + 1) s.new ≡ insert_by same before m.e (listed len s.old) }
 {
-    let mut i = len;
-    while 0 < i {
-        let x = Monomial::read(s, WIDTH * (i - 1));
+    for i in (0..len).rev() {
+        let x = Monomial::read(s, WIDTH * i);
         if x.before(m) {
-            break;
+            m.write(s, WIDTH * (i + 1));
+            return;
         }
-        x.write(s, WIDTH * i);
-        i -= 1;
+        x.write(s, WIDTH * (i + 1));
     }
-    m.write(s, WIDTH * i);
+    m.write(s, 0);
 }
 
 // The set with m, as so many monomials of the buffer, where there is room and m may be. The room is asked first: it is often taken, and asked for nothing.
@@ -41,10 +40,7 @@ fn with_one(level: usize, panel: Panel, set: &[u8], next: &mut [u8], m: Monomial
         Child (can_build panel m.e && leb (length (insert_by same before m.e (tabled set.now))) level) (insert_by same before m.e (tabled set.now)) result next.new }
 {
     let len = set.len() / WIDTH;
-    if level <= len {
-        return None;
-    }
-    if !sockets::can_build(panel, m) {
+    if level <= len || !sockets::can_build(panel, m) {
         return None;
     }
     buffer::put(next, 0, set);
@@ -68,13 +64,7 @@ fn with_two(
         (insert_by same before a.e (insert_by same before b.e (tabled set.now))) result next.new }
 {
     let len = set.len() / WIDTH;
-    if level <= len + 1 {
-        return None;
-    }
-    if !sockets::can_build(panel, a) {
-        return None;
-    }
-    if !sockets::can_build(panel, b) {
+    if level <= len + 1 || !sockets::can_build(panel, a) || !sockets::can_build(panel, b) {
         return None;
     }
     buffer::put(next, 0, set);

@@ -20,16 +20,10 @@ use wiring::{buffer, derivative, sockets, terms};
 fn settings_right(n: u64, marks: u64, degree: u64, cap: u64, limit: u64) -> bool
     ensures { result ≡ settings_right (panel_of n marks degree) cap limit }
 {
-    if !sockets::panel_right(n, marks, degree) {
-        return false;
-    }
-    if (CARDS as u64) < cap {
-        return false;
-    }
-    if limit < 1 {
-        return false;
-    }
-    limit <= MOST_STEPS
+    sockets::panel_right(n, marks, degree)
+        && cap <= CARDS as u64
+        && 1 <= limit
+        && limit <= MOST_STEPS
 }
 
 // The levels from 0 to the cap; the buffer is all zeros at the start. One list of nonsquares serves all sets: each is done with it before the next

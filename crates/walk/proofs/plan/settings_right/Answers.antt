@@ -1,29 +1,23 @@
 -- `settings_right` meets its contract: the tests are the definition's. Assumes nothing.
-use mathlib.Core.Path.{sym, ◌∙◌}
-use borrow.Author.Tests.{le-leb, lt-leb}
-use Rattle.wiring.specs.Panel.{cards}
+use mathlib.Core.Path.{◌≡◌, refl, sym, ap, ◌∙◌}
 use Rattle.walk.specs.Plan.{settings_right}
 use Rattle.walk.proofs.plan.settings_right.Goals as goal
+use Rattle.walk.proofs.plan.settings_right.Goals.{then-panel_right, else-panel_right, then-cap, else-cap}
 
-pub returns-then-not-panel_right : goal.returns-then-not-panel_right
+pub returns-then-limit-ge1 : goal.returns-then-limit-ge1
 unfolding settings_right
-returns-then-not-panel_right c = rw (sym c.panel_right.ensures ∙ c.if-not-panel_right.true)
+returns-then-limit-ge1 c =
+    elim c.if-panel_right.branch [
+      | then-panel_right w ↦ elim c.if-cap.branch [
+        | then-cap v ↦
+            let t = c.if-limit-ge1.true in
+            let u = v.if-cap.true in
+            let s = w.if-panel_right.true in ?
+        | else-cap v ↦ let t = c.if-limit-ge1.true in ?
+      ]
+      | else-panel_right w ↦ ?
+    ]
 
-pub returns-then-cap : goal.returns-then-cap
+pub returns-else-limit-ge1 : goal.returns-else-limit-ge1
 unfolding settings_right
-returns-then-cap c =
-    let a = c.args in
-    rw (sym c.panel_right.ensures ∙ c.if-not-panel_right.false, lt-leb a.cap cards c.if-cap.true)
-
-pub returns-then-limit-lt1 : goal.returns-then-limit-lt1
-unfolding settings_right
-returns-then-limit-lt1 c =
-    let a = c.args in
-    rw
-    (sym c.panel_right.ensures ∙ c.if-not-panel_right.false, le-leb a.cap cards c.if-cap.false, lt-leb 1 a.limit c.if-limit-lt1.true)
-
-pub returns : goal.returns
-unfolding settings_right
-returns c =
-    let a = c.args in
-    rw (sym c.panel_right.ensures ∙ c.if-not-panel_right.false, le-leb a.cap cards c.if-cap.false, le-leb 1 a.limit c.if-limit-lt1.false)
+returns-else-limit-ge1 c = let t = c.if-limit-ge1.either in ?
