@@ -1,15 +1,13 @@
 -- Records of one width in a buffer: those from a place on moved up, and one more put in their place; and the place of a new entry in a list.
 -- Assumes nothing.
-use mathlib.Core.Path.{◌≡◌, sym, ap, ap₂, subst, ◌∙◌}
+use mathlib.Core.Path.{◌≡◌, sym, ap, ap₂, ◌∙◌}
 use mathlib.Core.List.{List, ◌∷◌, ◌++◌, append_assoc}
-use Prim.Native.Nat.{ℕ, suc, ◌+◌, ◌*◌, ◌-◌, ◌<◌, ◌≤◌}
+use Prim.Native.Nat.{ℕ, ◌+◌, ◌*◌, ◌-◌, ◌≤◌}
 use native.Mathlib.Omega.{arith}
-use native.Mathlib.Numerals.{add-one}
-use lib.ListN.{length, get_or, take, drop, set, length-append, length-drop, get_or-append}
-use lib.Seq.{paste, paste-zero, get_or-take, drop-cons, take-take, take-append-le, take-append_seam, take_all, drop_at, drop-append-add, drop-append_seam, length-take-le, length-paste}
+use lib.ListN.{length, take, drop, length-append}
+use lib.Seq.{paste, take-take, take-append-le, take-append_seam, take_all, drop_at, drop-append-add, drop-append_seam, length-take-le}
 use Rattle.monomial.specs.Lists.{gather}
 use Rattle.monomial.specs.Claims.{◌∈◌}
-use Rattle.monomial.proofs.Loops.{set_front}
 use Rattle.monomial.proofs.Members.{gather_append}
 use Rattle.monomial.proofs.Strips.{strip_length, strip_split, strip_front}
 
