@@ -55,11 +55,9 @@ fn judge(panel: Panel, terms: &[u8], text: &[u8]) -> Heard
 {
     let known = known_to(panel);
     let names = names::names_of(known, text);
-    let formed = sets::set_of(panel, names);
-    if !formed.good {
+    let Some(set) = sets::set_of(panel, names) else {
         return refused(Reply::BadSet);
-    }
-    let set = formed.record;
+    };
     let v = signals::signals_of(panel.n, names);
     match lines::judge_lines(known, terms, v, text) {
         Verdict::Whole => Heard {

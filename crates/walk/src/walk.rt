@@ -7,7 +7,6 @@ ghost use Rattle.walk.specs.Walk.{Finds, kit_rules, opened, tried_all, run, kept
 ghost use Rattle.walk.specs.Listing.{Shown};
 ghost use Rattle.walk.specs.Turns.{Tells, Openable, Ready, Means, Splits, Found, Weighed, Stepped, PassedBy};
 
-use super::listing::Kept;
 use super::{children, listing};
 use counting::verdict;
 use counting::verdict::Verdict;
@@ -33,32 +32,29 @@ pub struct State {
     pub count: usize,
 }
 
-// How a turn ends: the walk goes on, the next step would pass the limit, or a find had no room after so many steps.
+// Why the walk stops short of its end: the next step would pass the limit, or a find had no room after so many steps.
 #[derive(Clone, Copy)]
-pub enum Turn {
-    Going(State),
+pub enum Stop {
     Spent,
     Full(u64),
 }
 
-// What opening a set comes to: its turn, and where split is true the nonsquare whose pairs are to be run.
+// What opening a set comes to where the walk goes on: its state, and the nonsquare whose pairs are to be run, where there is one.
 #[derive(Clone, Copy)]
 pub struct Opened {
-    pub turn: Turn,
-    pub split: bool,
-    pub m: Monomial,
+    pub state: State,
+    pub split: Option<Monomial>,
 }
 
 // A found set, once its step is taken.
-fn found(out: &mut [u8], set: &[u8], st: State) -> Turn
+fn found(out: &mut [u8], set: &[u8], st: State) -> Result<State, Stop>
     requires { Found set.now st.count out.old }
     ensures { (finds : Finds) → Shown finds st.count out.old →
         Tells result out.new (kept (length out.old / set_bytes) (tabled set.now) st.steps finds) }
 {
-    let steps = st.steps;
     match listing::keep(out, st.count, set) {
-        Kept::Held(count) => Turn::Going(State { steps, count }),
-        Kept::NoRoom => Turn::Full(steps),
+        Some(count) => Ok(State { count, ..st }),
+        None => Err(Stop::Full(st.steps)),
     }
 }
 
@@ -85,38 +81,31 @@ fn take_step(
     f: Frame,
     set: &[u8],
     st: State,
-) -> Opened
+) -> Result<Opened, Stop>
     requires { Ready f.panel.n terms.now f.level set.now st.count out.old × Means f.cancels terms.now list.old }
     ensures { Stepped (kit_rules f.panel) f.panel.n terms.now f.level f.limit set.now st out.old result out.new }
 {
     let taken = st.steps;
     if f.limit <= taken {
-        return Opened {
-            turn: Turn::Spent,
-            split: false,
-            m: Monomial::ONE,
-        };
+        return Err(Stop::Spent);
     }
     let next = State {
         steps: taken + 1,
-        count: st.count,
+        ..st
     };
     match judge(terms, list, f, set) {
-        Verdict::Found => Opened {
-            turn: found(out, set, next),
-            split: false,
-            m: Monomial::ONE,
-        },
-        Verdict::Closed => Opened {
-            turn: Turn::Going(next),
-            split: false,
-            m: Monomial::ONE,
-        },
-        Verdict::Split(m) => Opened {
-            turn: Turn::Going(next),
-            split: true,
-            m,
-        },
+        Verdict::Found => {
+            let state = found(out, set, next)?;
+            Ok(Opened { state, split: None })
+        }
+        Verdict::Closed => Ok(Opened {
+            state: next,
+            split: None,
+        }),
+        Verdict::Split(m) => Ok(Opened {
+            state: next,
+            split: Some(m),
+        }),
     }
 }
 
@@ -129,42 +118,32 @@ pub(crate) fn open(
     f: Frame,
     set: &[u8],
     st: State,
-) -> Turn
+) -> Result<State, Stop>
     requires { Ready f.panel.n terms.now f.level set.now st.count out.old × Means f.cancels terms.now list.old }
     ensures { (d : ℕ) (finds : Finds) → f.level - length (tabled set.now) < d → Shown finds st.count out.old →
         Tells result out.new
         (run f.limit (length out.old / set_bytes) (opened (kit_rules f.panel) f.panel.n (system (records terms.now)) f.level d (tabled set.now)) st.steps finds) }
 {
-    let o = take_step(terms, out, list, f, set, st);
-    if !o.split {
-        return o.turn;
+    let o = take_step(terms, out, list, f, set, st)?;
+    match o.split {
+        Some(m) => pairs(terms, out, list, f, set, m, o.state),
+        None => Ok(o.state),
     }
-    let m = o.m;
-    let next = State {
-        steps: st.steps + 1,
-        count: st.count,
-    };
-    pairs(terms, out, list, f, set, m, next)
 }
 
 // Pairs that open nothing: one step each, and nothing else is done.
-fn pass_by(limit: u64, st: State, pairs: u64) -> Turn
+fn pass_by(limit: u64, st: State, pairs: u64) -> Result<State, Stop>
     ensures { PassedBy limit st pairs result }
 {
-    let steps = st.steps;
-    let count = st.count;
     if pairs < 1 {
-        return Turn::Going(State { steps, count });
+        return Ok(st);
     }
-    if limit < pairs {
-        return Turn::Spent;
+    if limit < pairs || limit - pairs < st.steps {
+        return Err(Stop::Spent);
     }
-    if limit - pairs < steps {
-        return Turn::Spent;
-    }
-    Turn::Going(State {
-        steps: steps + pairs,
-        count,
+    Ok(State {
+        steps: st.steps + pairs,
+        ..st
     })
 }
 
@@ -179,7 +158,7 @@ fn pairs(
     set: &[u8],
     m: Monomial,
     st: State,
-) -> Turn
+) -> Result<State, Stop>
     requires { Ready f.panel.n terms.now f.level set.now st.count out.old × (Splits f.panel.n terms.now f.level set.now m.e × Means f.cancels terms.now list.old) }
     ensures { (d : ℕ) (finds : Finds) → f.level - length (tabled set.now) ≤ d → Shown finds st.count out.old →
         Tells result out.new
@@ -195,22 +174,24 @@ fn pairs(
         let p = passes::find(f.panel.n, set, m, all, at);
         let Some(held) = p.held else {
             if all {
-                return Turn::Going(cur);
+                return Ok(cur);
             }
             return pass_by(f.limit, cur, passes::left(m, p.at.listed));
         };
-        let taken = cur.steps;
-        if f.limit <= taken {
-            return Turn::Spent;
+        if f.limit <= cur.steps {
+            return Err(Stop::Spent);
         }
-        let seen = cur.count;
-        cur = State {
-            steps: taken + 1,
-            count: seen,
-        };
+        cur.steps += 1;
         let a = p.at.a;
-        let t = children::offer(f.level, f.panel, set, &mut child, a, m.over(a), held);
-        if t.go {
+        if let Some(len) = children::offer(
+            f.level,
+            f.panel,
+            set,
+            &mut child,
+            a,
+            m.over(a),
+            held,
+        ) {
             // Made anew for the call: handed on as it came, it would lie twice in the frame of each opening.
             let below = Frame {
                 panel: Panel {
@@ -222,17 +203,7 @@ fn pairs(
                 limit: f.limit,
                 cancels: f.cancels,
             };
-            match open(terms, out, list, below, &child[..WIDTH * t.len], cur) {
-                Turn::Going(s) => {
-                    cur = s;
-                }
-                Turn::Spent => {
-                    return Turn::Spent;
-                }
-                Turn::Full(s) => {
-                    return Turn::Full(s);
-                }
-            }
+            cur = open(terms, out, list, below, &child[..WIDTH * len], cur)?;
         }
         at = passes::behind(m, p.at);
     }

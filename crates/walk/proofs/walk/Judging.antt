@@ -26,7 +26,7 @@ use Rattle.counting.specs.declared.verdict.Verdict.{Verdict}
 use Rattle.counting.specs.declared.verdict.Verdict.TheVariants as verdict
 use Rattle.counting.proofs.verdict.Laws.{closes_some}
 use Rattle.walk.specs.declared.walk.State.{State}
-use Rattle.walk.specs.declared.walk.Turn.TheVariants.{Going}
+use Rattle.std.specs.Prelude.{Ok}
 use Rattle.walk.specs.Walk.{Finds, Rules, kit_rules, ends, opened, Run, ended, run, kept}
 use Rattle.walk.specs.Listing.{Shown}
 use Rattle.walk.specs.Turns.{Openable, GoesOn, Weighed, NothingFollows, PairsFollow}
@@ -90,7 +90,7 @@ module _ (r : Rules) (n : ℕ) (terms : List ℕ) (level limit : ℕ) (set : Lis
 
   -- not found: it goes no further, or its pairs follow
   module _ (next : State) (one_more : next.steps ≡ st.steps + 1) (as_many : next.count ≡ st.count) where
-    pub closed_steps : Weighed r n terms level set verdict.Closed → NothingFollows r n terms level limit set st out₀ (Going next) out₀
+    pub closed_steps : Weighed r n terms level set verdict.Closed → NothingFollows r n terms level limit set st out₀ (Ok next) out₀
     closed_steps w =
         λ d finds p sh. record {
           finds = finds;
@@ -99,5 +99,5 @@ module _ (r : Rules) (n : ℕ) (terms : List ℕ) (level limit : ℕ) (set : Lis
               ∙ ap (λ (k : ℕ). ended k finds) (sym one_more);
         }
 
-  pub split_steps : (m : Mono) → GoesOn r n terms level set m → PairsFollow r n terms level limit set st out₀ m out₀
-  split_steps m w = record { taken = taken; goes = w; kept = refl }
+    pub split_steps : (m : Mono) → GoesOn r n terms level set m → PairsFollow r n terms level limit set st out₀ m next out₀
+    split_steps m w = record { taken = taken; goes = w; steps = one_more; count = as_many; kept = refl }

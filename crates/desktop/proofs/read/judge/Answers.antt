@@ -4,7 +4,6 @@ use mathlib.Core.List.{List, map}
 use Prim.Native.Nat.{ℕ}
 use native.Mathlib.Omega.{arith}
 use borrow.Author.Rules.{rules}
-use borrow.Author.Tests.{not-true, not-false}
 use lib.ListN.{length}
 use Rattle.monomial.specs.Monomial.{Mono}
 use Rattle.wiring.specs.Panel.{cards}
@@ -27,15 +26,14 @@ names_of-names-requires c =
     let q = c.requires.0 in
     rw c.known_to-known.ensures (fair_known c.args.panel q.low q.high, (q.high, refl))
 
-pub returns-then-not-formed : goal.returns-then-not-formed
-returns-then-not-formed c =
+pub returns-in_default : goal.returns-in_default
+returns-in_default c =
     let a = c.args in
     let known = c.known_to-known in
     let found = c.names_of-names in
-    let formed = c.set_of-formed in
     let held = found.ensures.0 ∙ ap (λ (k : Known). map capped (names k a.text.now)) known.ensures in
-    let right = sym (names_right a.panel a.terms.now a.text.now c.requires.0 c.requires.1 found.result held) ∙ sym formed.ensures.right in
-    c.refused.ensures ∙ judged_bad a.panel (system (records a.terms.now)) a.text.now (right ∙ not-true _ c.if-not-formed.true)
+    let right = sym (names_right a.panel a.terms.now a.text.now c.requires.0 c.requires.1 found.result held) in
+    c.refused.ensures ∙ judged_bad a.panel (system (records a.terms.now)) a.text.now (right ∙ c.in_default.ensures)
 
 pub judge_lines-requires : goal.judge_lines-requires
 judge_lines-requires c =
@@ -43,10 +41,9 @@ judge_lines-requires c =
     let a = c.args in
     let known = c.known_to-known in
     let found = c.names_of-names in
-    let formed = c.set_of-formed in
     let held = found.ensures.0 ∙ ap (λ (k : Known). map capped (names k a.text.now)) known.ensures in
     let long = sym (front_length found.result.len found.result.m (omega (arith, found.ensures.1))) in
-    names_judging a.panel a.terms.now a.text.now c.requires.0 c.requires.1 found.result held (sym formed.ensures.right ∙ not-false _ c.if-not-formed.false)
+    names_judging a.panel a.terms.now a.text.now c.requires.0 c.requires.1 found.result held c.in-Some.ensures.0
     known.result known.ensures long found.ensures.1 c.signals_of-v.result c.signals_of-v.ensures.0 c.signals_of-v.ensures.1
 
 pub returns-in-Whole : goal.returns-in-Whole
@@ -55,23 +52,20 @@ returns-in-Whole c =
     let a = c.args in
     let known = c.known_to-known in
     let found = c.names_of-names in
-    let formed = c.set_of-formed in
     let held = found.ensures.0 ∙ ap (λ (k : Known). map capped (names k a.text.now)) known.ensures in
-    let right = sym (names_right a.panel a.terms.now a.text.now c.requires.0 c.requires.1 found.result held) ∙ sym formed.ensures.right in
+    let right = sym (names_right a.panel a.terms.now a.text.now c.requires.0 c.requires.1 found.result held) in
     let long = sym (front_length found.result.len found.result.m (omega (arith, found.ensures.1))) in
-    let good = not-false _ c.if-not-formed.false in
-    let own = names_held a.panel a.terms.now a.text.now c.requires.0 c.requires.1 found.result held (sym formed.ensures.right ∙ good) in
+    let own = names_held a.panel a.terms.now a.text.now c.requires.0 c.requires.1 found.result held c.in-Some.ensures.0 in
     let whole = sym c.in-Whole.is ∙ c.judge_lines.ensures ∙ ap (λ (k : Known). lines_said k (system (records a.terms.now)) a.text.now) known.ensures in
-    ap₂ (λ (i : ℕ) (r : List ℕ). outcome (Done i 0 0) r) (long ∙ ap length own) (formed.ensures.holds good ∙ ap (λ (l : List Mono). set_record (arranged l)) own)
-    ∙ judged_lines a.panel (system (records a.terms.now)) a.text.now (right ∙ good) Whole whole
+    ap₂ (λ (i : ℕ) (r : List ℕ). outcome (Done i 0 0) r) (long ∙ ap length own) (c.in-Some.ensures.1 ∙ ap (λ (l : List Mono). set_record (arranged l)) own)
+    ∙ judged_lines a.panel (system (records a.terms.now)) a.text.now (right ∙ c.in-Some.ensures.0) Whole whole
 
 pub returns-in-Broken : goal.returns-in-Broken
 returns-in-Broken c =
     let a = c.args in
     let known = c.known_to-known in
     let found = c.names_of-names in
-    let formed = c.set_of-formed in
     let held = found.ensures.0 ∙ ap (λ (k : Known). map capped (names k a.text.now)) known.ensures in
-    let right = sym (names_right a.panel a.terms.now a.text.now c.requires.0 c.requires.1 found.result held) ∙ sym formed.ensures.right in
+    let right = sym (names_right a.panel a.terms.now a.text.now c.requires.0 c.requires.1 found.result held) in
     let broken = sym c.in-Broken.is ∙ c.judge_lines.ensures ∙ ap (λ (k : Known). lines_said k (system (records a.terms.now)) a.text.now) known.ensures in
-    c.refused-in-Broken.ensures ∙ judged_lines a.panel (system (records a.terms.now)) a.text.now (right ∙ not-false _ c.if-not-formed.false) (Broken c.in-Broken.place) broken
+    c.refused-in-Broken.ensures ∙ judged_lines a.panel (system (records a.terms.now)) a.text.now (right ∙ c.in-Some.ensures.0) (Broken c.in-Broken.place) broken

@@ -1,6 +1,10 @@
 -- `offer` meets its contract: what is to be added is told by what V holds of the pair, and the child is the set with just that. Assumes nothing.
-use mathlib.Core.Path.{refl, sym, ◌∙◌}
+use mathlib.Core.Path.{sym, ◌∙◌}
 use borrow.Author.Tests.{not-true, not-false}
+use Prim.Native.Nat.{◌/◌}
+use lib.ListN.{length}
+use Rattle.std.specs.Prelude.{Some}
+use Rattle.monomial.specs.Monomial.{width}
 use Rattle.wiring.specs.Signals.{tabled}
 use Rattle.walk.specs.Walk.{kit_rules}
 use Rattle.walk.proofs.children.Offers.{same_child, made_own, opens_none, opens_second, opens_first, opens_both}
@@ -15,8 +19,8 @@ returns-then-held-2 c =
     let has = sym c.requires.1.second ∙ c.if-held-2.true in
     let met = sym c.requires.1.first ∙ c.if-held.true in
     let up = c.requires.0.ascending in
-    same_child (opens_none a.panel.n s a.a.e a.b.e (kit_rules a.panel) a.level up c.requires.0.within has met)
-    (child_none a.panel.n s a.a.e a.b.e up has met) (made_own a.set.now c.requires.0.whole _ _ c.put.ensures _ refl refl)
+    same_child (Some (length a.set.now / width)) c.put.new.out (opens_none a.panel.n s a.a.e a.b.e (kit_rules a.panel) a.level up c.requires.0.within has met)
+    (child_none a.panel.n s a.a.e a.b.e up has met) (made_own a.set.now c.requires.0.whole _ _ c.put.ensures)
 
 pub returns-then-not-held : goal.returns-then-not-held
 returns-then-not-held c =
@@ -24,7 +28,7 @@ returns-then-not-held c =
     let s = tabled a.set.now in
     let lacks = sym c.requires.1.second ∙ not-true _ c.if-not-held.true in
     let unmet = sym c.requires.1.first ∙ c.if-held.false in
-    same_child (opens_both a.panel.n s a.a.e a.b.e (kit_rules a.panel) a.level lacks unmet)
+    same_child c.with_two.result c.with_two.new.next (opens_both a.panel.n s a.a.e a.b.e (kit_rules a.panel) a.level lacks unmet)
     (child_both a.panel.n s a.a.e a.b.e lacks unmet)
     (c.with_two.ensures (set_lacks a.panel.n s a.a.e a.b.e a.b.e lacks) (both_lack a.panel.n s a.a.e a.b.e unmet))
 
@@ -38,14 +42,14 @@ returns c =
           let lacks = sym c.requires.1.second ∙ w.if-held-2.false in
           let met = sym c.requires.1.first ∙ w.if-held.true in
           let told = rw w.m-is at c.with_one.ensures in
-          same_child (opens_second a.panel.n s a.a.e a.b.e (kit_rules a.panel) a.level up lacks met)
+          same_child c.with_one.result c.with_one.new.next (opens_second a.panel.n s a.a.e a.b.e (kit_rules a.panel) a.level up lacks met)
           (child_second a.panel.n s a.a.e a.b.e up lacks met)
           (told (set_lacks a.panel.n s a.a.e a.b.e a.b.e lacks))
       | else-held+else-not-held w ↦
           let has = sym c.requires.1.second ∙ not-false _ w.if-not-held.false in
           let unmet = sym c.requires.1.first ∙ w.if-held.false in
           let told = rw w.m-is at c.with_one.ensures in
-          same_child (opens_first a.panel.n s a.a.e a.b.e (kit_rules a.panel) a.level has unmet)
+          same_child c.with_one.result c.with_one.new.next (opens_first a.panel.n s a.a.e a.b.e (kit_rules a.panel) a.level has unmet)
           (child_first a.panel.n s a.a.e a.b.e has unmet)
           (told (first_lacks a.panel.n s a.a.e a.b.e unmet))
     ]
