@@ -84,7 +84,8 @@ pub(crate) fn offer(
     b: Monomial,
     held: Held,
 ) -> Option<usize>
-    requires { Growing level set.now next.old × Holds (signals_at panel.n set.now) (a.e, b.e) held }
+    requires growing { Growing level set.now next.old }
+    requires holds { Holds (signals_at panel.n set.now) (a.e, b.e) held }
     ensures { Child (opens (kit_rules panel) panel.n level (tabled set.now) (a.e, b.e)) (child panel.n (tabled set.now) (a.e, b.e)) result next.new }
 {
     let mut m = b;

@@ -16,18 +16,18 @@ pub returns-then-held-2 : goal.returns-then-held-2
 returns-then-held-2 c =
     let a = c.args in
     let s = tabled a.set.now in
-    let has = sym c.requires.1.second ∙ c.if-held-2.true in
-    let met = sym c.requires.1.first ∙ c.if-held.true in
-    let up = c.requires.0.ascending in
-    same_child (Some (length a.set.now / width)) c.put.new.out (opens_none a.panel.n s a.a.e a.b.e (kit_rules a.panel) a.level up c.requires.0.within has met)
-    (child_none a.panel.n s a.a.e a.b.e up has met) (made_own a.set.now c.requires.0.whole _ _ c.put.ensures)
+    let has = sym c.requires.holds.second ∙ c.if-held-2.true in
+    let met = sym c.requires.holds.first ∙ c.if-held.true in
+    let up = c.requires.growing.ascending in
+    same_child (Some (length a.set.now / width)) c.put.new.out (opens_none a.panel.n s a.a.e a.b.e (kit_rules a.panel) a.level up c.requires.growing.within has met)
+    (child_none a.panel.n s a.a.e a.b.e up has met) (made_own a.set.now c.requires.growing.whole _ _ c.put.ensures)
 
 pub returns-then-not-held : goal.returns-then-not-held
 returns-then-not-held c =
     let a = c.args in
     let s = tabled a.set.now in
-    let lacks = sym c.requires.1.second ∙ not-true _ c.if-not-held.true in
-    let unmet = sym c.requires.1.first ∙ c.if-held.false in
+    let lacks = sym c.requires.holds.second ∙ not-true _ c.if-not-held.true in
+    let unmet = sym c.requires.holds.first ∙ c.if-held.false in
     same_child c.with_two.result c.with_two.new.next (opens_both a.panel.n s a.a.e a.b.e (kit_rules a.panel) a.level lacks unmet)
     (child_both a.panel.n s a.a.e a.b.e lacks unmet)
     (c.with_two.ensures (set_lacks a.panel.n s a.a.e a.b.e a.b.e lacks) (both_lack a.panel.n s a.a.e a.b.e unmet))
@@ -36,18 +36,18 @@ pub returns : goal.returns
 returns c =
     let a = c.args in
     let s = tabled a.set.now in
-    let up = c.requires.0.ascending in
+    let up = c.requires.growing.ascending in
     elim c.if-held.branch [
       | then-held+else-held-2 w ↦
-          let lacks = sym c.requires.1.second ∙ w.if-held-2.false in
-          let met = sym c.requires.1.first ∙ w.if-held.true in
+          let lacks = sym c.requires.holds.second ∙ w.if-held-2.false in
+          let met = sym c.requires.holds.first ∙ w.if-held.true in
           let told = rw w.m-is at c.with_one.ensures in
           same_child c.with_one.result c.with_one.new.next (opens_second a.panel.n s a.a.e a.b.e (kit_rules a.panel) a.level up lacks met)
           (child_second a.panel.n s a.a.e a.b.e up lacks met)
           (told (set_lacks a.panel.n s a.a.e a.b.e a.b.e lacks))
       | else-held+else-not-held w ↦
-          let has = sym c.requires.1.second ∙ not-false _ w.if-not-held.false in
-          let unmet = sym c.requires.1.first ∙ w.if-held.false in
+          let has = sym c.requires.holds.second ∙ not-false _ w.if-not-held.false in
+          let unmet = sym c.requires.holds.first ∙ w.if-held.false in
           let told = rw w.m-is at c.with_one.ensures in
           same_child c.with_one.result c.with_one.new.next (opens_first a.panel.n s a.a.e a.b.e (kit_rules a.panel) a.level has unmet)
           (child_first a.panel.n s a.a.e a.b.e has unmet)
