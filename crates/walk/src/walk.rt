@@ -201,14 +201,8 @@ fn pairs(
         ) {
             // Made anew for the call: handed on as it came, it would lie twice in the frame of each opening.
             let below = Frame {
-                panel: Panel {
-                    n: f.panel.n,
-                    marks: f.panel.marks,
-                    degree: f.panel.degree,
-                },
-                level: f.level,
-                limit: f.limit,
-                cancels: f.cancels,
+                panel: Panel { ..f.panel },
+                ..f
             };
             cur = open(terms, out, list, below, &child[..WIDTH * len], cur)?;
         }
