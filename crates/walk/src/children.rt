@@ -84,20 +84,18 @@ pub(crate) fn offer(
     b: Monomial,
     held: Held,
 ) -> Option<usize>
-    requires { Growing level set.now next.old × Holds (signals_at panel.n set.now) (a.e, b.e) held }
+    requires growing { Growing level set.now next.old }
+    requires holds { Holds (signals_at panel.n set.now) (a.e, b.e) held }
     ensures { Child (opens (kit_rules panel) panel.n level (tabled set.now) (a.e, b.e)) (child panel.n (tabled set.now) (a.e, b.e)) result next.new }
 {
-    let mut m = b;
-    if held.first {
-        if held.second {
+    let m = match (held.first, held.second) {
+        (true, true) => {
             buffer::put(next, 0, set);
             return Some(set.len() / WIDTH);
         }
-    } else {
-        if !held.second {
-            return with_two(level, panel, set, next, a, b);
-        }
-        m = a;
-    }
+        (false, false) => return with_two(level, panel, set, next, a, b),
+        (true, false) => b,
+        (false, true) => a,
+    };
     with_one(level, panel, set, next, m)
 }

@@ -28,7 +28,10 @@ fn settings_right(n: u64, marks: u64, degree: u64, cap: u64, limit: u64) -> bool
 // The levels from 0 to the cap; the buffer is all zeros at the start. One list of nonsquares serves all sets: each is done with it before the next
 // is opened.
 fn climb(terms: &[u8], out: &mut [u8], panel: Panel, cap: usize, limit: u64) -> Reply
-    requires { (panel.n ≤ width) × ((cap ≤ cards) × (CleanTerms terms.now × (out.old ≡ replicate (length out.old) 0))) }
+    requires few { panel.n ≤ width }
+    requires capped { cap ≤ cards }
+    requires clean { CleanTerms terms.now }
+    requires blank { out.old ≡ replicate (length out.old) 0 }
     ensures { outcome result out.new ≡ said (plan (kit_rules panel) panel.n (system (records terms.now)) limit (length out.old / set_bytes) cap) (length out.old) }
 {
     let cancels = derivative::may_cancel(terms);

@@ -60,7 +60,8 @@ fn found(out: &mut [u8], set: &[u8], st: State) -> Result<State, Stop>
 
 // Whether a set is found, and else whether it goes on and with which nonsquare. At its level it only may be found: nothing is counted there.
 fn judge(terms: &[u8], list: &mut [u8], f: Frame, set: &[u8]) -> Verdict
-    requires { Openable f.panel.n terms.now f.level set.now × Means f.cancels terms.now list.old }
+    requires openable { Openable f.panel.n terms.now f.level set.now }
+    requires means { Means f.cancels terms.now list.old }
     ensures { Weighed (kit_rules f.panel) f.panel.n terms.now f.level set.now result }
 {
     let len = set.len() / WIDTH;
@@ -82,7 +83,8 @@ fn take_step(
     set: &[u8],
     st: State,
 ) -> Result<Opened, Stop>
-    requires { Ready f.panel.n terms.now f.level set.now st.count out.old × Means f.cancels terms.now list.old }
+    requires ready { Ready f.panel.n terms.now f.level set.now st.count out.old }
+    requires means { Means f.cancels terms.now list.old }
     ensures { Stepped (kit_rules f.panel) f.panel.n terms.now f.level f.limit set.now st out.old result out.new }
 {
     let taken = st.steps;
@@ -119,7 +121,8 @@ pub(crate) fn open(
     set: &[u8],
     st: State,
 ) -> Result<State, Stop>
-    requires { Ready f.panel.n terms.now f.level set.now st.count out.old × Means f.cancels terms.now list.old }
+    requires ready { Ready f.panel.n terms.now f.level set.now st.count out.old }
+    requires means { Means f.cancels terms.now list.old }
     ensures { (d : ℕ) (finds : Finds) → f.level - length (tabled set.now) < d → Shown finds st.count out.old →
         Tells result out.new
         (run f.limit (length out.old / set_bytes) (opened (kit_rules f.panel) f.panel.n (system (records terms.now)) f.level d (tabled set.now)) st.steps finds) }
@@ -159,7 +162,9 @@ fn pairs(
     m: Monomial,
     st: State,
 ) -> Result<State, Stop>
-    requires { Ready f.panel.n terms.now f.level set.now st.count out.old × (Splits f.panel.n terms.now f.level set.now m.e × Means f.cancels terms.now list.old) }
+    requires ready { Ready f.panel.n terms.now f.level set.now st.count out.old }
+    requires splits { Splits f.panel.n terms.now f.level set.now m.e }
+    requires means { Means f.cancels terms.now list.old }
     ensures { (d : ℕ) (finds : Finds) → f.level - length (tabled set.now) ≤ d → Shown finds st.count out.old →
         Tells result out.new
         (run f.limit (length out.old / set_bytes)
@@ -194,14 +199,8 @@ fn pairs(
         ) {
             // Made anew for the call: handed on as it came, it would lie twice in the frame of each opening.
             let below = Frame {
-                panel: Panel {
-                    n: f.panel.n,
-                    marks: f.panel.marks,
-                    degree: f.panel.degree,
-                },
-                level: f.level,
-                limit: f.limit,
-                cancels: f.cancels,
+                panel: Panel { ..f.panel },
+                ..f
             };
             cur = open(terms, out, list, below, &child[..WIDTH * len], cur)?;
         }

@@ -12,12 +12,12 @@ use Rattle.walk.proofs.walk.Runner.{empty_openable}
 use Rattle.walk.proofs.plan.climb.Goals as goal
 
 pub may_cancel-cancels-requires : goal.may_cancel-cancels-requires
-may_cancel-cancels-requires c = c.requires.1.1.0
+may_cancel-cancels-requires c = c.requires.clean
 
 pub loop-k-init : goal.loop-k-init
 loop-k-init c =
     let a = c.args in
-    (climb_start (kit_rules a.panel) a.panel.n (system (records a.terms.now)) a.limit a.cap (length a.out.now) a.out.now refl c.requires.1.1.1 (omega arith), refl)
+    (climb_start (kit_rules a.panel) a.panel.n (system (records a.terms.now)) a.limit a.cap (length a.out.now) a.out.now refl c.requires.blank (omega arith), refl)
 
 pub slice_bounds-open-end : goal.slice_bounds-open-end
 slice_bounds-open-end c = sym c.loop-k.invariant.1
@@ -25,13 +25,14 @@ slice_bounds-open-end c = sym c.loop-k.invariant.1
 pub open-requires : goal.open-requires
 open-requires c =
     let p = c.requires in
-    let k = c.loop-k in (
-      record {
-        opening = empty_openable c.args.panel.n c.args.terms.now k.k (omega (arith, p.1.0, c.loop-k-test.true)) p.0 p.1.1.0;
+    let k = c.loop-k in
+    record {
+      ready = record {
+        opening = empty_openable c.args.panel.n c.args.terms.now k.k (omega (arith, p.capped, c.loop-k-test.true)) p.few p.clean;
         showing = record { finds = []; shown = shown_none k.out k.invariant.0.blank };
-      },
-      record { summed = c.may_cancel-cancels.ensures; roomy = omega (arith, k.invariant.1) },
-    )
+      };
+      means = record { summed = c.may_cancel-cancels.ensures; roomy = omega (arith, k.invariant.1) };
+    }
 
 pub returns-then-s-gt0 : goal.returns-then-s-gt0
 returns-then-s-gt0 c =

@@ -26,7 +26,12 @@ climb-requires c =
     ∙ c.if-not-settings_right.false in
     let clean = settings_clean (panel_of a.n a.marks a.degree) a.cap a.limit right a.terms.now (sym c.fault_of.ensures ∙ c.in-Ok.is) in
     let zeros = zeros_long (length a.out.now) blank.new.out blank.auto.out blank.ensures in
-    (settings_few (panel_of a.n a.marks a.degree) a.cap a.limit right, (settings_low (panel_of a.n a.marks a.degree) a.cap a.limit right, (clean, zeros)))
+    record {
+      few = settings_few (panel_of a.n a.marks a.degree) a.cap a.limit right;
+      capped = settings_low (panel_of a.n a.marks a.degree) a.cap a.limit right;
+      clean = clean;
+      blank = zeros;
+    }
 
 pub returns-in-Ok : goal.returns-in-Ok
 returns-in-Ok c =

@@ -43,8 +43,8 @@ open-pairs-requires t c =
     let step : 2 * (a.f.level - length (tabled a.set.now)) < t = omega (arith, c.decreases) in (
       step,
       (
-        split_ready r a.f.panel.n a.terms.now a.f.level a.f.limit a.set.now a.st a.out.now c.requires.0 _ _ _ sp,
-        (split_member r a.f.panel.n a.terms.now a.f.level a.f.limit a.set.now a.st a.out.now c.requires.0 _ _ _ sp, means_kept _ _ _ _ c.take_step.auto.list c.requires.1),
+        split_ready r a.f.panel.n a.terms.now a.f.level a.f.limit a.set.now a.st a.out.now c.requires.ready _ _ _ sp,
+        (split_member r a.f.panel.n a.terms.now a.f.level a.f.limit a.set.now a.st a.out.now c.requires.ready _ _ _ sp, means_kept _ _ _ _ c.take_step.auto.list c.requires.means),
       ),
     )
 
@@ -54,7 +54,7 @@ open-returns-in-Some t c =
     let a = c.args in
     let r = kit_rules a.f.panel in
     let sp = pairs_follow r a.f.panel.n a.terms.now a.f.level a.f.limit a.set.now a.st a.out.now c.in_ok-o.o c.in-Some.m c.take_step.new.out c.in-Some.is c.in_ok-o.ensures in
-    split_tells r a.f.panel.n a.terms.now a.f.level a.f.limit a.set.now a.st a.out.now c.requires.0 _ _ _ sp c.pairs.result c.pairs.new.out c.pairs.ensures d finds h sh
+    split_tells r a.f.panel.n a.terms.now a.f.level a.f.limit a.set.now a.st a.out.now c.requires.ready _ _ _ sp c.pairs.result c.pairs.new.out c.pairs.ensures d finds h sh
 
 -- ---- the pair runner: the place where the next pair was looked for
 module _ (t : ℕ) (k : pairs-After-find-p t) where
@@ -144,19 +144,19 @@ module _ (t : ℕ) (c : pairs-After-offer t) where
     offered_more : length (tabled c.args.set.now) < len
     offered_more =
         let a = c.args in
-        child_more a.f.panel.n a.terms.now a.f.level a.set.now a.m.e a.st.count a.out.now c.requires.0 c.requires.1.0
+        child_more a.f.panel.n a.terms.now a.f.level a.set.now a.m.e a.st.count a.out.now c.requires.ready c.requires.splits
         in_hand offered_member (kit_rules a.f.panel) len nursery offered_born
 
     offered_within : len ≤ c.args.f.level
     offered_within =
         let a = c.args in
-        child_within a.f.panel.n a.terms.now a.f.level a.set.now a.m.e a.st.count a.out.now c.requires.0 c.requires.1.0
+        child_within a.f.panel.n a.terms.now a.f.level a.set.now a.m.e a.st.count a.out.now c.requires.ready c.requires.splits
         in_hand offered_member (kit_rules a.f.panel) len nursery offered_born
 
     offered_long : length (listed len nursery) ≡ len
     offered_long =
         let a = c.args in
-        child_long a.f.panel.n a.terms.now a.f.level a.set.now a.m.e a.st.count a.out.now c.requires.0 c.requires.1.0
+        child_long a.f.panel.n a.terms.now a.f.level a.set.now a.m.e a.st.count a.out.now c.requires.ready c.requires.splits
         in_hand offered_member (kit_rules a.f.panel) len nursery offered_born
 
     -- what the opener told of it, by its size
@@ -182,7 +182,7 @@ pairs-loop-held-init t c =
     let m = a.m.e in
     let b = ltb (length a.set.now / width + 1) a.f.level in
     let at = c.start-at.ensures in
-    let wide = gap_wide a.f.panel.n a.terms.now a.f.level a.set.now m a.st.count a.out.now c.requires.0 c.requires.1.0 in
+    let wide = gap_wide a.f.panel.n a.terms.now a.f.level a.set.now m a.st.count a.out.now c.requires.ready c.requires.splits in
     let one_first : one width ≡ one (length m) = ap one (sym wide) in
     let order : list_from u m b c.start-at.result.rest c.start-at.result.a.e ++ put_off u m b ≡ cheap_first u m = rw (at.cheap, at.first) (listed_first u m b (one width) one_first) in
     let standing : Standing u m c.start-at.result.rest c.start-at.result.a.e c.start-at.result.listed = rw (at.cheap, at.first, at.none) (standing_start u m false (one width) one_first) in
@@ -191,8 +191,8 @@ pairs-loop-held-init t c =
 pub pairs-find-p-requires : goal.pairs-find-p-requires
 pairs-find-p-requires t c =
     let a = c.args in
-    let proper = gap_proper a.f.panel.n a.terms.now a.f.level a.set.now a.m.e a.st.count a.out.now c.requires.0 c.requires.1.0 in
-    (c.requires.0.opening.few, (proper, (c.loop-held.invariant.1.0, c.loop-held.invariant.1.1.0)))
+    let proper = gap_proper a.f.panel.n a.terms.now a.f.level a.set.now a.m.e a.st.count a.out.now c.requires.ready c.requires.splits in
+    (c.requires.ready.opening.few, (proper, (c.loop-held.invariant.1.0, c.loop-held.invariant.1.1.0)))
 
 -- ---- its end: all pairs were listed, or the rest is passed by
 pub pairs-returns-then-all : goal.pairs-returns-then-all
@@ -214,7 +214,7 @@ pairs-returns-in_default t c =
     let over : c.find-p.result.held ≡ None = c.in_default.is in
     let tight : a.f.level ≤ length (tabled a.set.now) + 1 =
     omega (arith, c.if-all.false, tabled_length a.set.now) in
-    let shut = rest_shut a.f.panel.n a.terms.now a.f.level a.set.now a.m.e a.st.count a.out.now c.requires.0 c.requires.1.0 tight (kit_rules a.f.panel) in
+    let shut = rest_shut a.f.panel.n a.terms.now a.f.level a.set.now a.m.e a.st.count a.out.now c.requires.ready c.requires.splits tight (kit_rules a.f.panel) in
     let counted : c.left.result ≡ length (kind (v t k) (gap t k) true) = omega (arith, c.left.ensures, rw over at (c.find-p.ensures.over few), kinds_count (v t k) (gap t k)) in
     running_by (kit_rules a.f.panel) a.f.panel.n a.terms.now a.f.level a.f.limit a.set.now a.m.e a.st a.out.now (kind (v t k) (gap t k) true) c.loop-held.cur c.loop-held.out
     (subst (Runs t k) (ap (put_off (v t k) (gap t k)) few) (seen_end t k over)) shut c.pass_by.result
@@ -237,28 +237,29 @@ pairs-over-requires t c =
 
 pub pairs-offer-requires : goal.pairs-offer-requires
 pairs-offer-requires t c =
-    let p = c.requires.0.opening in
-    let picked : Picked (signals_at c.args.f.panel.n c.args.set.now) c.args.m.e c.find-p.result.at c.in-Some.held = rw c.in-Some.is at c.find-p.ensures.picked in (
-      record { whole = p.whole; within = p.within; low = p.low; room = omega (arith, c.loop-held.invariant.1.1.1.1); ascending = p.walked.recorded.ascending },
-      subst (λ (b : Mono). Holds (signals_at c.args.f.panel.n c.args.set.now) (c.find-p.result.at.a.e, b) c.in-Some.held) (sym c.over.ensures) picked.held,
-    )
+    let p = c.requires.ready.opening in
+    let picked : Picked (signals_at c.args.f.panel.n c.args.set.now) c.args.m.e c.find-p.result.at c.in-Some.held = rw c.in-Some.is at c.find-p.ensures.picked in
+    record {
+      growing = record { whole = p.whole; within = p.within; low = p.low; room = omega (arith, c.loop-held.invariant.1.1.1.1); ascending = p.walked.recorded.ascending };
+      holds = subst (λ (b : Mono). Holds (signals_at c.args.f.panel.n c.args.set.now) (c.find-p.result.at.a.e, b) c.in-Some.held) (sym c.over.ensures) picked.held;
+    }
 
 pub pairs-overflow_mul-child : goal.pairs-overflow_mul-child
 pairs-overflow_mul-child t c =
     let few = offered_within t (goal.at.pairs-overflow_mul-child t c).After-offer _ c.in-Some-offer.is in
-    let low = c.requires.0.opening.low in
+    let low = c.requires.ready.opening.low in
     search (rules, few, low)
 
 pub pairs-slice_bounds-child-end : goal.pairs-slice_bounds-child-end
 pairs-slice_bounds-child-end t c =
     let o = (goal.at.pairs-slice_bounds-child-end t c).After-offer in
-    omega (arith, offered_within t o _ c.in-Some-offer.is, nursery_long t o, c.requires.0.opening.low)
+    omega (arith, offered_within t o _ c.in-Some-offer.is, nursery_long t o, c.requires.ready.opening.low)
 
 pub pairs-slice_bounds-open-end : goal.pairs-slice_bounds-open-end
 pairs-slice_bounds-open-end t c =
     let o = (goal.at.pairs-slice_bounds-open-end t c).After-offer in
     sym (length-take-le (width * c.in-Some-offer.len) c.offer.new.next
-    (omega (arith, offered_within t o _ c.in-Some-offer.is, nursery_long t o, c.requires.0.opening.low)))
+    (omega (arith, offered_within t o _ c.in-Some-offer.is, nursery_long t o, c.requires.ready.opening.low)))
 
 pub pairs-open-requires : goal.pairs-open-requires
 pairs-open-requires t c =
@@ -266,12 +267,12 @@ pairs-open-requires t c =
     let turn = c.loop-held in
     let a = c.args in
     let is = c.in-Some-offer.is in
-    let showing = running_showing (kit_rules a.f.panel) a.f.panel.n a.terms.now a.f.level a.f.limit a.set.now a.m.e a.st a.out.now _ turn.cur turn.out turn.invariant.0 c.requires.0.showing in
-    let ready = child_ready a.f.panel.n a.terms.now a.f.level a.set.now a.m.e a.st.count a.out.now c.requires.0 c.requires.1.0
+    let showing = running_showing (kit_rules a.f.panel) a.f.panel.n a.terms.now a.f.level a.f.limit a.set.now a.m.e a.st a.out.now _ turn.cur turn.out turn.invariant.0 c.requires.ready.showing in
+    let ready = child_ready a.f.panel.n a.terms.now a.f.level a.set.now a.m.e a.st.count a.out.now c.requires.ready c.requires.splits
     (in_hand t o) (offered_member t o) (kit_rules a.f.panel) c.in-Some-offer.len (nursery t o) (offered_born t o _ is) (omega (arith, nursery_long t o)) turn.cur.count turn.out showing in
     let step : 2 * (a.f.level - length (listed c.in-Some-offer.len (nursery t o))) + 1 < t =
     omega (arith, c.decreases, offered_more t o _ is, offered_within t o _ is, offered_long t o _ is) in
-    (step, (ready, means_kept _ _ _ _ turn.invariant.1.1.1.0 c.requires.1.1))
+    (step, (ready, means_kept _ _ _ _ turn.invariant.1.1.1.0 c.requires.means))
 
 pub pairs-returns-in_err-cur : goal.pairs-returns-in_err-cur
 pairs-returns-in_err-cur t c =
@@ -279,7 +280,7 @@ pairs-returns-in_err-cur t c =
     let k = (goal.at.pairs-returns-in_err-cur t c).After-find-p in
     let a = c.args in
     let is = c.in-Some-offer.is in
-    let stops = running_child_stops (kit_rules a.f.panel) a.f.panel.n a.terms.now a.f.level a.f.limit a.set.now a.m.e a.st a.out.now (seen_runs t k c.in-Some.held c.in-Some.is) c.in-Some-offer.len (offered_more t o _ is) c.requires.1.0.below
+    let stops = running_child_stops (kit_rules a.f.panel) a.f.panel.n a.terms.now a.f.level a.f.limit a.set.now a.m.e a.st a.out.now (seen_runs t k c.in-Some.held c.in-Some.is) c.in-Some-offer.len (offered_more t o _ is) c.requires.splits.below
     (offered_low t o) (offered_born t o _ is).0 c.in_err-cur.field-0.0 c.«open».new.out (offered_told t o _ is (Err c.in_err-cur.field-0.0) c.«open».new.out c.in_err-cur.ensures) in
     let p = err_from_is_err_and c.from_residual.result c.from_residual.ensures.1 in
     rw (p.1, p.2) stops
@@ -304,7 +305,7 @@ pairs-loop-held-preserved t c =
           let told = offered_told t o _ is (Ok w.in_ok-cur.cur) w.«open».new.out w.in_ok-cur.ensures in
           rw (c.behind-at.ensures.0, c.behind-at.ensures.1.0, c.behind-at.ensures.1.1, w.out-is, w.list-is, w.cur-is) (
             running_going (kit_rules a.f.panel) a.f.panel.n a.terms.now a.f.level a.f.limit a.set.now a.m.e a.st a.out.now runs
-                w.in-Some-offer.len (offered_more t o _ is) c.requires.1.0.below (offered_low t o) (offered_born t o _ is).0 w.in_ok-cur.cur w.«open».new.out w.«open».auto.out told,
+                w.in-Some-offer.len (offered_more t o _ is) c.requires.splits.below (offered_low t o) (offered_born t o _ is).0 w.in_ok-cur.cur w.«open».new.out w.«open».auto.out told,
             (standing, (cheap, (w.«open».auto.list ∙ c.loop-held.invariant.1.1.1.0, nursery_long t o))),
           )
       | pairs-in_default-offer w ↦

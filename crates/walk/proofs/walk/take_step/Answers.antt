@@ -24,11 +24,11 @@ returns-then-f-taken c =
 
 pub judge-requires : goal.judge-requires
 judge-requires c =
-    (c.requires.0.opening, c.requires.1)
+    record { openable = c.requires.ready.opening; means = c.requires.means }
 
 pub found-requires : goal.found-requires
 found-requires c =
-    let p = c.requires.0 in
+    let p = c.requires.ready in
     record { lies = record { whole = p.opening.whole; recorded = p.opening.walked.recorded }; showing = p.showing }
 
 pub returns-in_ok-state-in-Found : goal.returns-in_ok-state-in-Found
