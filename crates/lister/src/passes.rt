@@ -139,10 +139,14 @@ pub fn find(n: usize, set: &[u8], m: Monomial, all: bool, from: Place) -> Hand
     requires { (n ≤ width) × (Proper m.e × (Standing (signals_at n set.now) m.e from.rest from.a.e from.listed × (all ≡ false → from.rest ≡ false))) }
     ensures { Found (signals_at n set.now) m.e all from.rest from.a.e result }
 {
-    let h = pass(n, set, m, from);
-    // Of most small nonsquares all pairs are cheap.
-    if h.held.is_some() || from.rest || !all || left(m, h.at.listed) < 1 {
-        return h;
+    let mut at = from;
+    // A loop: of two calls the pass would be a function by itself, and each pair would take longer.
+    loop {
+        let h = pass(n, set, m, at);
+        // Of most small nonsquares all pairs are cheap.
+        if h.held.is_some() || at.rest || !all || left(m, h.at.listed) < 1 {
+            return h;
+        }
+        at = rest_of(at);
     }
-    pass(n, set, m, rest_of(from))
 }
