@@ -16,7 +16,6 @@ use reader::Verdict;
 use roster::roster as sets;
 use wiring::panel::{CARDS, Panel, SET_BYTES};
 use wiring::reply::Reply;
-use wiring::terms::Fault;
 use wiring::{signals, sockets, terms};
 
 // The most bytes that a text may have.
@@ -106,8 +105,7 @@ pub fn read_listing(n: u64, marks: u64, degree: u64, terms: &[u8], text: &[u8]) 
         degree,
     };
     match terms::fault_of(panel, terms) {
-        Fault::Clean => read_text(panel, terms, text),
-        Fault::Wrong(place) => refused(Reply::Term { place }),
-        Fault::Repeated(place) => refused(Reply::Twice { place }),
+        Ok(()) => read_text(panel, terms, text),
+        Err(fault) => refused(Reply::from(fault)),
     }
 }

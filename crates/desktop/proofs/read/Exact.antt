@@ -1,5 +1,6 @@
 -- Exactly when each reply of reading is given, for all numbers n, all records and all texts, and the set record that it leaves. The cases are all, and no two
 -- replies meet the promise. Assumes nothing.
+use Rattle.std.specs.Prelude.{Ok, Err, Result, ⊤}
 use mathlib.Core.Path.{◌≡◌, refl, sym, ap, ap₂, ◌∙◌, subst}
 use mathlib.Core.Logic.{inl, inr, ⊎_elim, ◌↔◌}
 use mathlib.Core.Bool.{Bool, true, false}
@@ -27,7 +28,7 @@ use Rattle.wiring.specs.declared.panel.Panel.{Panel}
 use Rattle.wiring.specs.declared.reply.Reply.{Reply}
 use Rattle.wiring.specs.declared.reply.Reply.TheVariants.{Done, Setting, Length, Term, Twice, Nothing, Full, Spent, BadSet, NotQuadratic, Unreadable, FalseLine}
 use Rattle.wiring.specs.declared.terms.Fault.{Fault}
-use Rattle.wiring.specs.declared.terms.Fault.TheVariants.{Clean, Wrong, Repeated}
+use Rattle.wiring.specs.declared.terms.Fault.TheVariants.{Wrong, Repeated}
 use Rattle.wiring.proofs.reply.Laws.{same_reply}
 use Rattle.wiring.proofs.signals.Laws.{signals_length}
 use Rattle.wiring.proofs.sockets.Slopes.{slope_is}
@@ -141,13 +142,13 @@ module _ (panel : Panel) (terms text : List ℕ) where
         rw (first.0, first.1) (ap Broken b.place)
 
   -- ---- what holds is said
-  faulty : Ranged panel → Sizes terms text → (f : Fault) → fault panel (records terms) ≡ f
+  faulty : Ranged panel → Sizes terms text → (f : Result ⊤ Fault) → fault panel (records terms) ≡ f
       → read_listing panel terms text ≡ unless_fault refusal f (unless_broken Unreadable (said (listing k) text) (judged panel fs text))
   faulty r s f e = sym (said_rest panel terms text (panel-in panel r) ((length_exact terms).1 s.measured) s.short f (sym e))
 
   prepared_reads : Prepared panel terms text → (x : Verdict) → said (listing k) text ≡ x → read_listing panel terms text ≡ unless_broken Unreadable x (judged panel fs text)
   prepared_reads w x e =
-      faulty w.ranged w.sizes Clean ((clean_exact panel (records terms) beyond).1 w.flawless) ∙ ap (λ (y : Verdict). unless_broken Unreadable y (judged panel fs text)) e
+      faulty w.ranged w.sizes (Ok tt) ((clean_exact panel (records terms) beyond).1 w.flawless) ∙ ap (λ (y : Verdict). unless_broken Unreadable y (judged panel fs text)) e
 
   readable_judged : Prepared panel terms text → Readable (listing k) text → read_listing panel terms text ≡ judged panel fs text
   readable_judged w r = prepared_reads w Whole ((whole_exact (listing k) text).1 r)
@@ -174,8 +175,8 @@ module _ (panel : Panel) (terms text : List ℕ) where
   says : (r : Reply) → ReadSays panel terms text r → read_listing panel terms text ≡ outcome r (read_leaves panel text r)
   says Setting h = sym (said_setting panel terms text (n_t→is (panel_right panel) (λ t. h (panel_out panel t))))
   says Length h = ⊎_elim (unmeasured h.0) (overlong h.0) h.1
-  says (Term p) h = faulty h.0 h.1 (Wrong p) ((wrong_exact panel (records terms) beyond p).1 h.2)
-  says (Twice p) h = faulty h.0 h.1 (Repeated p) ((repeated_exact panel (records terms) beyond p).1 h.2)
+  says (Term p) h = faulty h.0 h.1 (Err (Wrong p)) ((wrong_exact panel (records terms) beyond p).1 h.2)
+  says (Twice p) h = faulty h.0 h.1 (Err (Repeated p)) ((repeated_exact panel (records terms) beyond p).1 h.2)
   says (Unreadable p) h =
       let r = h.0.ranged in
       prepared_reads h.0 (Broken p) ((broken k (fair_known panel r.low r.high) text p).1 (h.1, h.2))
@@ -232,10 +233,10 @@ module _ (panel : Panel) (terms text : List ℕ) where
       let b = (broken k (fair_known panel r.low r.high) text p).0 e in
       record { reply = Unreadable p; holds = (w, b.0, b.1) }
 
-  told_fault : Ranged panel → Sizes terms text → (f : Fault) → fault panel (records terms) ≡ f → Told
-  told_fault r s (Wrong p) e = record { reply = Term p; holds = (r, s, (wrong_exact panel (records terms) beyond p).0 e) }
-  told_fault r s (Repeated p) e = record { reply = Twice p; holds = (r, s, (repeated_exact panel (records terms) beyond p).0 e) }
-  told_fault r s Clean e =
+  told_fault : Ranged panel → Sizes terms text → (f : Result ⊤ Fault) → fault panel (records terms) ≡ f → Told
+  told_fault r s (Err (Wrong p)) e = record { reply = Term p; holds = (r, s, (wrong_exact panel (records terms) beyond p).0 e) }
+  told_fault r s (Err (Repeated p)) e = record { reply = Twice p; holds = (r, s, (repeated_exact panel (records terms) beyond p).0 e) }
+  told_fault r s (Ok _) e =
       told_text (record { ranged = r; sizes = s; flawless = (clean_exact panel (records terms) beyond).0 e }) (said (listing k) text) refl
 
   told_sizes : Ranged panel → Told
