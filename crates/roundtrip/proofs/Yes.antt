@@ -1,4 +1,5 @@
 -- A typed listing is said yes to: its names form the set whose record was given, and each of its lines is true. Assumes nothing.
+use Rattle.std.specs.Prelude.{Ok}
 use mathlib.Core.Path.{◌≡◌, sym, ap, ◌∙◌, subst}
 use mathlib.Core.Bool.{Bool, true, false}
 use mathlib.Core.List.{List, [], map}
@@ -24,7 +25,6 @@ use Rattle.wiring.specs.Sets.{set_of, set_record}
 use Rattle.wiring.specs.Claims.{beyond, list_in, signals_in, row_of, Row, QuadraticIn}
 use Rattle.wiring.specs.declared.panel.Panel.{Panel}
 use Rattle.wiring.specs.declared.reply.Reply.TheVariants.{Done}
-use Rattle.wiring.specs.declared.terms.Fault.TheVariants.{Clean}
 use Rattle.wiring.proofs.terms.Exact.{length_exact, clean_exact}
 use Rattle.wiring.proofs.sets.Exact.{right_record}
 use Rattle.wiring.proofs.answers.Limits.{well_right}
@@ -116,6 +116,6 @@ module _ (panel : Panel) (terms set : List ℕ) (given : QuadraticIn panel terms
   unfolding read_listing
   reads_back fits =
       let w = given.formed in
-      let clean : fault panel (records terms) ≡ Clean = (clean_exact panel (records terms) beyond).1 w.flawless in
+      let clean : fault panel (records terms) ≡ Ok tt = (clean_exact panel (records terms) beyond).1 w.flawless in
       let whole : said (listing k) t ≡ Whole = (whole_exact (listing k) t).1 (typed_readable panel terms set given) in
       rw (panel-in panel w.ranged, (length_exact terms).1 w.lengths.measured, le-leb (length t) most_text fits, clean, whole) judged_yes
