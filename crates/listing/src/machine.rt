@@ -1,7 +1,7 @@
 // A machine that reads a listing byte by byte. It stops at the first byte behind which no readable listing goes on.
-ghost use Rattle.std.specs.Prelude.{◌≡◌, ◌+◌, ◌≤◌, ◌<◌, length};
+ghost use Rattle.std.specs.Prelude.{◌≡◌, ◌+◌, ◌≤◌, ◌<◌, length, slice_get, unwrap_or, IfSome};
 ghost use Rattle.reader.specs.Said.{said};
-ghost use Rattle.listing.specs.Lines.{left_of, letter_of, digit_of};
+ghost use Rattle.listing.specs.Lines.{lefts, left_of, letter_of, digit_of};
 ghost use Rattle.listing.specs.Machine.{to, one, span, ended, spell, named, line_from, begin_name, begin_term, behind, in_coefficient, begin_line, eat_at, eat, start};
 ghost use Rattle.listing.specs.Held.{Fair, Held, InLine, Stands};
 ghost use Rattle.listing.specs.Readable.{alive, ends, listing};
@@ -148,28 +148,40 @@ fn named(s: State) -> Reading
     })
 }
 
-// The signal whose derivative is told on a line, from 0; 0 behind the last.
-pub fn left_of(known: Known, names: u64, line: u64) -> u64
-    requires { (known.n ≤ 9) × (names ≤ 9) }
-    ensures { (result ≡ left_of known names line) × (result ≤ known.n + names) }
+// The signal whose derivative is told on a line, from 0; none behind the last.
+pub fn left_of(known: Known, names: u64, line: u64) -> Option<u64>
+    requires few { known.n ≤ 9 }
+    requires low { names ≤ 9 }
+    ensures told { result ≡ slice_get (lefts known names) line }
+    ensures number { unwrap_or result 0 ≡ left_of known names line }
+    ensures within { IfSome result (λ signal. (1 ≤ signal) × (signal ≤ known.n + names)) }
 {
     let mut marks = known.marks;
-    let mut i: u64 = 1;
     let mut more = line;
-    while i <= known.n {
+    for i in 1..known.n + 1 {
         if marks % 2 == 0 {
             if more == 0 {
-                return i;
+                return Some(i);
             }
             more -= 1;
         }
-        marks = marks / 2;
-        i += 1;
+        marks /= 2;
     }
     if more < names {
-        return i + more;
+        Some(known.n + 1 + more)
+    } else {
+        None
     }
-    0
+}
+
+// The signal of the line that a state is in, and 0 where its line is none of the listing's, which the clause of `eat` leaves open.
+fn signal_of(known: Known, s: State) -> u64
+    requires few { known.n ≤ 9 }
+    requires low { s.names ≤ 9 }
+    ensures number { result ≡ left_of known s.names s.line }
+    ensures within { result ≤ known.n + s.names }
+{
+    left_of(known, s.names, s.line).unwrap_or(0)
 }
 
 #[tactic(auto, unfolding(crate::specs::Lines::letter_of))]
@@ -197,15 +209,15 @@ fn line_from(known: Known, names: u64, line: u64) -> Reading
     requires { (known.n ≤ 9) × (names ≤ 9) }
     ensures { result ≡ line_from known names line }
 {
-    if left_of(known, names, line) == 0 {
-        return Reading::Ended;
+    match left_of(known, names, line) {
+        None => Reading::Ended,
+        Some(_) => Reading::At(State {
+            at: Place::Line,
+            names,
+            line,
+            number: 0,
+        }),
     }
-    Reading::At(State {
-        at: Place::Line,
-        names,
-        line,
-        number: 0,
-    })
 }
 
 // A name begins, at p for a variable's digit and at q for a new name's.
@@ -321,7 +333,7 @@ fn eat_at(known: Known, x: u8, s: State) -> Reading
         Place::Line => {
             one(
                 x,
-                letter_of(known, left_of(known, s.names, s.line)),
+                letter_of(known, signal_of(known, s)),
                 s,
                 Place::Left,
                 dead,
@@ -330,7 +342,7 @@ fn eat_at(known: Known, x: u8, s: State) -> Reading
         Place::Left => {
             one(
                 x,
-                digit_of(known, left_of(known, s.names, s.line)),
+                digit_of(known, signal_of(known, s)),
                 s,
                 Place::Prime,
                 dead,
