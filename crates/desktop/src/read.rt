@@ -12,7 +12,6 @@ ghost use Rattle.desktop.specs.Read.{known_to, refusal, unless_broken, judged, r
 use super::{lines, names};
 use listing::machine;
 use listing::machine::Known;
-use reader::Verdict;
 use roster::roster as sets;
 use wiring::panel::{CARDS, Panel, SET_BYTES};
 use wiring::reply::Reply;
@@ -63,7 +62,7 @@ fn judge(panel: Panel, terms: &[u8], text: &[u8]) -> Heard
     let set = formed.record;
     let v = signals::signals_of(panel.n, names);
     match lines::judge_lines(known, terms, v, text) {
-        Verdict::Whole => Heard {
+        Ok(()) => Heard {
             reply: Reply::Done {
                 order: names.len as u64,
                 count: 0,
@@ -71,7 +70,9 @@ fn judge(panel: Panel, terms: &[u8], text: &[u8]) -> Heard
             },
             set,
         },
-        Verdict::Broken(place) => refused(Reply::FalseLine { place }),
+        Err(broken) => refused(Reply::FalseLine {
+            place: broken.place,
+        }),
     }
 }
 
@@ -82,8 +83,10 @@ fn read_text(panel: Panel, terms: &[u8], text: &[u8]) -> Heard
         ≡ unless_broken Unreadable (said (listing (known_to panel)) text.now) (judged panel (system (records terms.now)) text.now) }
 {
     match machine::read(known_to(panel), text) {
-        Verdict::Whole => judge(panel, terms, text),
-        Verdict::Broken(place) => refused(Reply::Unreadable { place }),
+        Ok(()) => judge(panel, terms, text),
+        Err(broken) => refused(Reply::Unreadable {
+            place: broken.place,
+        }),
     }
 }
 

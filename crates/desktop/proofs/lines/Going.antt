@@ -21,7 +21,7 @@ use Rattle.wiring.specs.Terms.{records, system}
 use Rattle.wiring.proofs.signals.Laws.{signals_length}
 use Rattle.wiring.specs.declared.signals.Signals.{Signals}
 use Rattle.reader.specs.Reader.{run, heard, noted}
-use Rattle.reader.specs.declared.Verdict.TheVariants.{Whole, Broken}
+use Rattle.reader.specs.Said.{whole, broken}
 use Rattle.reader.proofs.Loop.{noting_ends}
 use Rattle.reader.proofs.Places.{run_dead}
 use Rattle.listing.specs.Counted.{Counts, InLines}
@@ -178,6 +178,9 @@ module _ (known : Known) (terms : List ℕ) (v : Signals) (text : List ℕ) (j :
             ⊎_elim (λ z. absurd (omega (arith, ends_counts σ c))) (λ l. rw (a.counted, ← ap length all_named) l)
             (line_here known (length a.notes.whole) (length a.told.lines) g x a.follows.counts in-lines)
 
+        pub going_there : (c' : ℕ) → c' ≡ count → line < length (lefts known c')
+        going_there c' n = rw n going_here
+
         pub going_low : line < known.n + count
         going_low = omega (arith, going_here, lefts_length known count)
 
@@ -249,7 +252,7 @@ module _ (known : Known) (terms : List ℕ) (v : Signals) (text : List ℕ) (j :
             let longer = length-append (told σ a.told).lines m.rest in
             rw m.is (omega (arith, longer), get_or-append (told σ a.told).lines m.rest [] k o)
 
-        pub going_false : line_true (signals_of v) fs (left_of known count line) so_far ≡ false → Broken (count + 3 + line) ≡ lines_said known fs text
+        pub going_false : line_true (signals_of v) fs (left_of known count line) so_far ≡ false → broken (count + 3 + line) ≡ lines_said known fs text
         unfolding lines_said false_line
         going_false off =
             let here = all_lines line (omega (arith, a.counted, lines_longer)) in
@@ -303,7 +306,7 @@ module _ (known : Known) (terms : List ℕ) (v : Signals) (text : List ℕ) (j :
       unfolding line_tests
       long = pointwise_length (line_true (signals width known.n (names known text)) fs) (lefts known count) (lines known text) one_each
 
-      pub going_ends : Whole ≡ lines_said known fs text
+      pub going_ends : whole ≡ lines_said known fs text
       unfolding lines_said
       going_ends = rw (all_on (line_tests known fs text) each)
         where
