@@ -32,12 +32,6 @@ use Rattle.listing.specs.declared.machine.Known.{Known}
 use Rattle.grammar.specs.Grammar.{Factor, Names, none, alone, square, both, Term, signal_text, names_text, body_text, exponent_text, factor_text, first_text, next_text, right_text, line_text}
 use Rattle.typed.specs.Typed.{power_of, factor_at, factors_of, names_of, written_of, negative_of, term_of, terms_of, sign_text, term_text, wire_at, wires_in}
 
--- ---- the digit of a signal is a byte
-pub digit_small : (k : Known) (s : ℕ) → s ≤ 18 → digit_of k s < 256
-unfolding digit_of
-digit_small k s h =
-    cond_cases (λ x. x < 256) (leb s k.n) (nought + s) (nought + (s - (k.n + 1))) (λ t. omega arith) (λ u. omega arith)
-
 -- ---- the product of two signals
 module _ (a b : ℕ) where
   pub names_none : a ≡ 0 → b ≡ 0 → names_of a b ≡ none
