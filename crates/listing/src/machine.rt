@@ -9,6 +9,7 @@ ghost use Rattle.listing.specs.Readable.{alive, ends, listing};
 use reader::Broken;
 
 // What is asked of the reader: how many variables, which of them are signals (bit i - 1 marks xi), how many new names there may be.
+// No ghost field says that it is fair: it is made of any settings, before they are found to be in range.
 #[derive(Clone, Copy)]
 pub struct Known {
     pub n: u64,
@@ -69,6 +70,7 @@ pub struct State {
     pub number: u64,
 }
 
+// Three states of one machine and no Option of two: the dead stay dead (`Reader` of specs says so of every state), and at each step one match reads all three.
 #[derive(Clone, Copy)]
 pub enum Reading {
     // no readable listing goes on so
@@ -206,7 +208,8 @@ pub fn digit_of(known: Known, signal: u64) -> u8
 // The line of this number begins, unless there is none.
 #[tactic(auto, unfolding(crate::specs::Machine::line_from))]
 fn line_from(known: Known, names: u64, line: u64) -> Reading
-    requires { (known.n ≤ 9) × (names ≤ 9) }
+    requires few { known.n ≤ 9 }
+    requires low { names ≤ 9 }
     ensures { result ≡ line_from known names line }
 {
     match left_of(known, names, line) {
@@ -250,7 +253,9 @@ fn begin_term(x: u8, s: State) -> Reading
 // A term is whole: a sign and the next term, or the line's end.
 #[tactic(auto, unfolding(crate::specs::Machine::behind))]
 fn behind(known: Known, x: u8, s: State) -> Reading
-    requires { (known.n ≤ 9) × ((s.names ≤ 9) × InLine known s) }
+    requires few { known.n ≤ 9 }
+    requires low { s.names ≤ 9 }
+    requires in_line { InLine known s }
     ensures { result ≡ behind known x s }
 {
     one(
@@ -265,7 +270,10 @@ fn behind(known: Known, x: u8, s: State) -> Reading
 // One more digit of the coefficient, or what stands behind it.
 #[tactic(auto, unfolding(crate::specs::Machine::in_coefficient))]
 fn in_coefficient(known: Known, x: u8, s: State) -> Reading
-    requires { (known.n ≤ 9) × ((s.names ≤ 9) × (InLine known s × (s.number ≤ 1000000000))) }
+    requires few { known.n ≤ 9 }
+    requires low { s.names ≤ 9 }
+    requires in_line { InLine known s }
+    requires limited { s.number ≤ 1000000000 }
     ensures { result ≡ in_coefficient known x s }
 {
     let other = one(x, b'*', s, Place::First, behind(known, x, s));
@@ -286,7 +294,8 @@ fn in_coefficient(known: Known, x: u8, s: State) -> Reading
 // A line of the first part begins, or the blank line ends that part.
 #[tactic(auto, unfolding(crate::specs::Machine::begin_line))]
 fn begin_line(known: Known, x: u8, s: State) -> Reading
-    requires { (known.n ≤ 9) × (s.names ≤ 9) }
+    requires few { known.n ≤ 9 }
+    requires low { s.names ≤ 9 }
     ensures { result ≡ begin_line known x s }
 {
     let blank = line_from(known, s.names, 0);
@@ -299,7 +308,8 @@ fn begin_line(known: Known, x: u8, s: State) -> Reading
 // What the byte x leads to.
 #[tactic(auto, unfolding(crate::specs::Machine::eat_at))]
 fn eat_at(known: Known, x: u8, s: State) -> Reading
-    requires { Fair known × Held known s }
+    requires fair { Fair known }
+    requires holds { Held known s }
     ensures { result ≡ eat_at known x s s.at }
 {
     let dead = Reading::Dead;
@@ -382,7 +392,8 @@ fn eat_at(known: Known, x: u8, s: State) -> Reading
 // What a byte leads to; behind the end there is nothing more to read.
 #[tactic(auto, unfolding(crate::specs::Machine::eat))]
 pub fn eat(known: Known, g: Reading, x: u8) -> Reading
-    requires { Fair known × Stands known g }
+    requires fair { Fair known }
+    requires stands { Stands known g }
     ensures { result ≡ eat known g x }
 {
     match g {

@@ -99,7 +99,8 @@ fn term_said(x: u8) -> Saying
 // What the byte x says in a line.
 #[tactic(auto, unfolding(crate::specs::Saying::saying_at))]
 fn say_at(known: Known, x: u8, s: State) -> Saying
-    requires { Fair known × Held known s }
+    requires fair { Fair known }
+    requires holds { Held known s }
     ensures { result ≡ saying_at known x s s.at }
 {
     match s.at {
@@ -127,7 +128,8 @@ fn say_at(known: Known, x: u8, s: State) -> Saying
 // What a byte says; behind the end, and where nothing readable goes on, nothing.
 #[tactic(auto, unfolding(crate::specs::Saying::saying))]
 pub fn say(known: Known, g: Reading, x: u8) -> Saying
-    requires { Fair known × Stands known g }
+    requires fair { Fair known }
+    requires stands { Stands known g }
     ensures { result ≡ saying known g x }
 {
     match g {

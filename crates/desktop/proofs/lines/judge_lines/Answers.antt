@@ -33,7 +33,7 @@ loop-x-init c = λ j.
 pub say-said-requires : goal.say-said-requires
 say-said-requires c =
     let p = c.requires in
-    (p.fair, (c.loop-x.invariant p).follows.stands)
+    record { fair = p.fair; stands = (c.loop-x.invariant p).follows.stands }
 
 pub add_ended-totals-requires : goal.add_ended-totals-requires
 add_ended-totals-requires c =
@@ -99,7 +99,7 @@ overflow_add-line c =
 pub eat-g-requires : goal.eat-g-requires
 eat-g-requires c =
     let p = c.requires in
-    (p.fair, (c.loop-x.invariant p).follows.stands)
+    record { fair = p.fair; stands = (c.loop-x.invariant p).follows.stands }
 
 pub loop-x-preserved : goal.loop-x-preserved
 loop-x-preserved c = λ p.

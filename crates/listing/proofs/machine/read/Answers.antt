@@ -14,7 +14,7 @@ pub loop-i-init : goal.loop-i-init
 loop-i-init c = rw c.begin-g.ensures (starts _, running_start (listing _) _)
 
 pub eat-g-requires : goal.eat-g-requires
-eat-g-requires c = (c.requires, c.loop-i.invariant.0)
+eat-g-requires c = record { fair = c.requires; stands = c.loop-i.invariant.0 }
 
 pub returns-then-not-alive : goal.returns-then-not-alive
 returns-then-not-alive c =
