@@ -2,7 +2,7 @@
 -- Assumes nothing.
 use Rattle.std.specs.Prelude.{Bool, cond, ◌&&◌, List, ℕ, ◌≤◌, leb, length, Ok, Err}
 use Rattle.monomial.specs.Monomial.{Mono, width}
-use Rattle.wiring.specs.Panel.{cards, set_bytes}
+use Rattle.wiring.specs.Panel.{set_bytes}
 use Rattle.wiring.specs.Sockets.{panel_right}
 use Rattle.wiring.specs.Reply.{Outcome, outcome, refused}
 use Rattle.wiring.specs.Poly.{Poly}
@@ -13,15 +13,11 @@ use Rattle.wiring.specs.declared.panel.Panel.{Panel}
 use Rattle.wiring.specs.declared.reply.Reply.{Reply}
 use Rattle.wiring.specs.declared.reply.Reply.TheVariants.{Done, Setting, Length, BadSet, Unreadable, FalseLine}
 use Rattle.reader.specs.Said.{Verdict, said}
+pub use Rattle.listing.specs.Known.{known_to}
 use Rattle.listing.specs.Meaning.{names}
 use Rattle.listing.specs.Readable.{listing}
-use Rattle.listing.specs.declared.machine.Known.{Known}
 use Rattle.roster.specs.Roster.{forms_set, arranged}
 use Rattle.desktop.specs.Lines.{most_text, lines_said}
-
--- what the panel makes known to the reader of its listings
-abbrev pub known_to : Panel → Known
-known_to panel = record { n = panel.n; marks = panel.marks; cards = cards }
 
 -- a refusal, with a set of zeros; a test that holds lets the checks go on
 abbrev pub refusal : Reply → Outcome

@@ -80,12 +80,7 @@ fn add_ended(v: Signals, totals: Sums, t: Telling, said: Saying) -> Sums
 }
 
 // The first line of a readable text that is false, by its number in the text.
-pub(crate) fn judge_lines(
-    known: Known,
-    terms: &[u8],
-    v: Signals,
-    text: &[u8],
-) -> Result<(), Broken>
+pub(crate) fn judge_lines(known: Known, terms: &[u8], v: Signals, text: &[u8]) -> Result<(), Broken>
     requires { Judging known terms.now v text.now }
     ensures { result ≡ lines_said known (system (records terms.now)) text.now }
 {

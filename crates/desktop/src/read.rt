@@ -13,7 +13,7 @@ use super::{lines, names};
 use listing::machine;
 use listing::machine::Known;
 use roster::roster as sets;
-use wiring::panel::{CARDS, Panel, SET_BYTES};
+use wiring::panel::{Panel, SET_BYTES};
 use wiring::reply::Reply;
 use wiring::terms::Fault;
 use wiring::{signals, sockets, terms};
@@ -37,23 +37,12 @@ fn refused(reply: Reply) -> Heard
     }
 }
 
-// What the panel makes known to the reader of its listings.
-fn known_to(panel: Panel) -> Known
-    ensures { result ≡ known_to panel }
-{
-    Known {
-        n: panel.n as u64,
-        marks: panel.marks,
-        cards: CARDS as u64,
-    }
-}
-
 // Judges a readable text: its names are to form a set, and its lines to be true.
 fn judge(panel: Panel, terms: &[u8], text: &[u8]) -> Heard
     requires { Reading panel terms.now text.now × Readable (listing (known_to panel)) text.now }
     ensures { outcome result.reply result.set ≡ judged panel (system (records terms.now)) text.now }
 {
-    let known = known_to(panel);
+    let known = Known::from(panel);
     let names = names::names_of(known, text);
     let formed = sets::set_of(panel, names);
     if !formed.good {
@@ -82,7 +71,7 @@ fn read_text(panel: Panel, terms: &[u8], text: &[u8]) -> Heard
     ensures { outcome result.reply result.set
         ≡ unless_broken Unreadable (said (listing (known_to panel)) text.now) (judged panel (system (records terms.now)) text.now) }
 {
-    match machine::read(known_to(panel), text) {
+    match machine::read(Known::from(panel), text) {
         Ok(()) => judge(panel, terms, text),
         Err(broken) => refused(Reply::Unreadable {
             place: broken.place,

@@ -1,12 +1,14 @@
 // A machine that reads a listing byte by byte. It stops at the first byte behind which no readable listing goes on.
 ghost use Rattle.std.specs.Prelude.{◌≡◌, ◌+◌, ◌≤◌, ◌<◌, length, slice_get, unwrap_or, IfSome};
 ghost use Rattle.reader.specs.Said.{said};
+ghost use Rattle.listing.specs.Known.{known_to};
 ghost use Rattle.listing.specs.Lines.{lefts, left_of, letter_of, digit_of};
 ghost use Rattle.listing.specs.Machine.{to, one, span, ended, spell, named, line_from, begin_name, begin_term, behind, in_coefficient, begin_line, eat_at, eat, start};
 ghost use Rattle.listing.specs.Held.{Fair, Held, InLine, Stands};
 ghost use Rattle.listing.specs.Readable.{alive, ends, listing};
 
 use reader::Broken;
+use wiring::panel::{CARDS, Panel};
 
 // What is asked of the reader: how many variables, which of them are signals (bit i - 1 marks xi), how many new names there may be.
 // No ghost field says that it is fair: it is made of any settings, before they are found to be in range.
@@ -15,6 +17,19 @@ pub struct Known {
     pub n: u64,
     pub marks: u64,
     pub cards: u64,
+}
+
+// What the panel makes known to the reader of its listings.
+impl From<Panel> for Known {
+    ghost from_gives = { λ panel known. known ≡ known_to panel };
+
+    fn from(panel: Panel) -> Known {
+        Known {
+            n: panel.n as u64,
+            marks: panel.marks,
+            cards: CARDS as u64,
+        }
+    }
 }
 
 // Where in a line the next byte stands.

@@ -4,16 +4,13 @@ use mathlib.Core.Bool.{Bool, true, false, not}
 use mathlib.Core.List.{List, [], ◌∷◌, ◌++◌}
 use Prim.Native.Nat.{ℕ, zero, suc, ◌<◌}
 use native.Mathlib.Omega.{arith}
-use denote.Enum.Declared.{tag_of}
-use types.Run.{OneOf, miss}
 use lib.ListN.{length, get_or}
 use Rattle.monomial.specs.Lists.{all, place}
 use Rattle.listing.specs.Counted.{line_ends}
 use Rattle.listing.specs.Meaning.{term, told}
 use Rattle.listing.specs.declared.saying.Saying.{Saying}
 use Rattle.listing.specs.declared.saying.Saying.TheVariants.{Silence, Variable, Raised, Digit, NameEnds, Minus, Number, Name, Again, TermEnds, LineEnds, ZeroLine}
-use Rattle.listing.specs.contracts.saying.Saying as kinds
-use Rattle.desktop.specs.Lines.{Notes, Says, product_of, ends_term, ends_line, with_term}
+use Rattle.desktop.specs.Lines.{Notes, Says, product_of, ends_line, with_term}
 use Rattle.desktop.specs.declared.lines.Telling.{Telling}
 
 pub ends_counts : (σ : Saying) → ends_line σ ≡ true → line_ends σ ≡ 1

@@ -4,15 +4,9 @@ use mathlib.Core.List.{List, [], ◌∷◌}
 use Prim.Native.Nat.{ℕ}
 use denote.Enum.Declared.{tag_of}
 use types.Run.{OneOf, miss}
-use Rattle.listing.specs.Saying.{saying_at}
-use Rattle.listing.specs.declared.machine.Known.{Known}
-use Rattle.listing.specs.declared.machine.State.{State}
-use Rattle.listing.specs.declared.machine.Place.{Place}
-use Rattle.listing.specs.declared.machine.Place.TheVariants.{Heading, Names, NewName, Equals, Factor, Power, Star, Exponent, Digits, Next, Line, Left, Prime, Right, Zero, Term, Coefficient, First, X1, W1, One, Times, Square, X2, W2, Two, Sign, Gap}
 use Rattle.listing.specs.declared.saying.Saying.{Saying}
 use Rattle.listing.specs.declared.saying.Saying.TheVariants.{Silence, Variable, Raised, Digit, NameEnds, Minus, Number, Name, Again, TermEnds, LineEnds, ZeroLine}
 use Rattle.listing.specs.Meaning.{Naming, named, Telling, told}
-use Rattle.listing.specs.contracts.machine.Place.{the_type}
 use Rattle.listing.specs.contracts.saying.Saying as kinds
 
 -- the tags of the sayings that are of no name

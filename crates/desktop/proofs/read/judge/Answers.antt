@@ -26,12 +26,12 @@ use Rattle.desktop.proofs.read.judge.Goals as goal
 pub names_of-names-requires : goal.names_of-names-requires
 names_of-names-requires c =
     let q = c.requires.0 in
-    rw c.known_to-known.ensures (fair_known c.args.panel q.low q.high, (q.high, refl))
+    rw c.from-known.ensures (fair_known c.args.panel q.low q.high, (q.high, refl))
 
 pub returns-then-not-formed : goal.returns-then-not-formed
 returns-then-not-formed c =
     let a = c.args in
-    let known = c.known_to-known in
+    let known = c.from-known in
     let found = c.names_of-names in
     let formed = c.set_of-formed in
     let held = found.ensures.0 ∙ ap (λ (k : Known). map capped (names k a.text.now)) known.ensures in
@@ -42,7 +42,7 @@ pub judge_lines-requires : goal.judge_lines-requires
 judge_lines-requires c =
     let room : length c.names_of-names.result.m ≡ cards = search (rules, array_length) in
     let a = c.args in
-    let known = c.known_to-known in
+    let known = c.from-known in
     let found = c.names_of-names in
     let formed = c.set_of-formed in
     let held = found.ensures.0 ∙ ap (λ (k : Known). map capped (names k a.text.now)) known.ensures in
@@ -54,7 +54,7 @@ pub returns-in-Ok : goal.returns-in-Ok
 returns-in-Ok c =
     let room : length c.names_of-names.result.m ≡ cards = search (rules, array_length) in
     let a = c.args in
-    let known = c.known_to-known in
+    let known = c.from-known in
     let found = c.names_of-names in
     let formed = c.set_of-formed in
     let held = found.ensures.0 ∙ ap (λ (k : Known). map capped (names k a.text.now)) known.ensures in
@@ -69,7 +69,7 @@ returns-in-Ok c =
 pub returns-in-Err : goal.returns-in-Err
 returns-in-Err c =
     let a = c.args in
-    let known = c.known_to-known in
+    let known = c.from-known in
     let found = c.names_of-names in
     let formed = c.set_of-formed in
     let held = found.ensures.0 ∙ ap (λ (k : Known). map capped (names k a.text.now)) known.ensures in

@@ -7,7 +7,6 @@ use Rattle.reader.proofs.Exact.{said_dead, said_end}
 use Rattle.listing.proofs.Keeps.{keeps, starts}
 use Rattle.listing.proofs.Places.{lively}
 use Rattle.listing.specs.Readable.{alive, listing}
-use Rattle.listing.specs.Machine.{eat}
 use Rattle.listing.proofs.machine.read.Goals as goal
 
 pub loop-i-init : goal.loop-i-init

@@ -4,8 +4,8 @@ use native.Mathlib.Omega.{arith}
 use borrow.Author.Rules.{rules}
 use lib.IntN.{ℤ, ◌-ℤ◌}
 use lib.ListN.{length}
-use mir.Syntax.{w32, w64}
-use mir.Val.{SFits, to_z, of_z}
+use mir.Syntax.{w64}
+use mir.Val.{SFits}
 use Rattle.monomial.specs.Monomial.{width}
 use Rattle.wiring.specs.Coefficient.{is_zero}
 use Rattle.wiring.proofs.Ints.{size_fits}

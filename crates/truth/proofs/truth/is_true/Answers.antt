@@ -1,5 +1,5 @@
 -- `is_true` meets its contract: the loop tests row after row (`Rows`), and what no row has is asked last (`decided_end`). Assumes nothing.
-use mathlib.Core.Path.{◌≡◌, refl}
+use mathlib.Core.Path.{◌≡◌}
 use Prim.Native.Nat.{◌<◌, ◌≤◌}
 use native.Mathlib.Omega.{arith}
 use borrow.Author.Rules.{rules}

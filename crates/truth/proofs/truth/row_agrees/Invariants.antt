@@ -1,5 +1,4 @@
 -- `row_agrees` meets its contract: the loop tests the signals from a on (`CheckingFrom`). Assumes nothing.
-use mathlib.Core.Path.{◌≡◌}
 use mathlib.Core.Bool.{Bool}
 use mathlib.Core.List.{List}
 use Prim.Native.Nat.{ℕ}
