@@ -15,6 +15,7 @@ use truth::truth::Sums;
 use wiring::signals::Signals;
 
 // Of the term that is read its sign, its coefficient (0 where none is written) and its signals.
+// The coefficient is no Option: `signed` of the listing's meaning holds 0 itself to be none.
 #[derive(Clone, Copy)]
 pub struct Telling {
     pub negative: bool,

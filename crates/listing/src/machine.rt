@@ -85,7 +85,7 @@ pub struct State {
     pub number: u64,
 }
 
-// Three states of one machine and no Option of two: the dead stay dead (`Reader` of specs says so of every state), and at each step one match reads all three.
+// No Option of two states: the machine has a dead state, and stays in it (`Reader` and `Lively` of reader's specs).
 #[derive(Clone, Copy)]
 pub enum Reading {
     // no readable listing goes on so

@@ -108,13 +108,16 @@ module _ (known : Known) (terms : List ℕ) (v : Signals) (text : List ℕ) (j :
 
   module _ {g : Reading} {t : Telling} {sums : Sums} {line i : ℕ} (a : Going g t sums line i) where
     -- ---- the text is read on
-    module _ (h : i < length text) (x : ℕ) (e : x ≡ get_or text i 0) where
+    module _ (h : i < length text) where
+      abbrev x : ℕ
+      x = get_or text i 0
+
       abbrev σ : Saying
       σ = saying known g x
 
       reads_on : ends (run (listing known) (eat known g x) (drop (i + 1) text)) ≡ true
       unfolding run
-      reads_on = rw (e, add-one i) (rw (drop-cons text i 0 h) at a.reads)
+      reads_on = rw (add-one i) (rw (drop-cons text i 0 h) at a.reads)
 
       awake : alive (eat known g x) ≡ true
       awake = go (test (alive (eat known g x)))
@@ -162,7 +165,7 @@ module _ (known : Known) (terms : List ℕ) (v : Signals) (text : List ℕ) (j :
         going_ended b e = ap ends_line (sym heard_so) ∙ sym e
 
       next : Following known text (eat known g x) (i + 1) (named σ a.notes) (told σ a.told)
-      next = following_next known text a.follows j.few h x e
+      next = following_next known text a.follows j.few h x refl
 
       -- ---- where a line ends
       module _ (c : ends_line σ ≡ true) where

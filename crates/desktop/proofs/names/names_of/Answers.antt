@@ -1,5 +1,4 @@
 -- `names_of` meets its contract: the loop's invariant is `Hearing`. Assumes nothing.
-use mathlib.Core.Path.{refl}
 use native.Mathlib.Omega.{arith}
 use Rattle.desktop.proofs.names.Laws.{empty_holds}
 use Rattle.desktop.proofs.names.Hearing.{hearing_start, hearing_ready, hearing_next, hearing_ends}
@@ -20,7 +19,7 @@ eat-g-requires c = let k = c.loop-x in record { fair = c.requires.0; stands = k.
 pub loop-x-preserved : goal.loop-x-preserved
 loop-x-preserved c = let k = c.loop-x in
     let heard = c.say.ensures in
-    rw c.eat-g.ensures (hearing_next _ _ k.invariant c.requires.1.0 (omega arith) _ refl _ (λ q h. rw (← heard) (c.note-k.ensures q h)))
+    rw c.eat-g.ensures (hearing_next _ _ k.invariant c.requires.1.0 (omega arith) _ (λ q h. rw (← heard) (c.note-k.ensures q h)))
 
 pub returns : goal.returns
 returns c = let k = c.loop-x in (hearing_ends _ _ k.invariant (omega arith), rw k.invariant.holds.size (omega (arith, k.invariant.follows.few, c.requires.1.1)))
