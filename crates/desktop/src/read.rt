@@ -22,6 +22,7 @@ use wiring::{signals, sockets, terms};
 pub const MOST_TEXT: usize = 4096;
 
 // What is said of a listing, and the record of its set: zeros after a refusal.
+// The set stands beside the reply and no Result holds it: the clause of `read_listing` gives every byte of it, after a refusal too.
 #[derive(Clone, Copy)]
 pub struct Heard {
     pub reply: Reply,
