@@ -12,9 +12,8 @@ ghost use Rattle.desktop.specs.Read.{known_to, refusal, unless_broken, judged, r
 use super::{lines, names};
 use listing::machine;
 use listing::machine::Known;
-use reader::Verdict;
 use roster::roster as sets;
-use wiring::panel::{CARDS, Panel, SET_BYTES};
+use wiring::panel::{Panel, SET_BYTES};
 use wiring::reply::Reply;
 use wiring::{signals, sockets, terms};
 
@@ -22,6 +21,7 @@ use wiring::{signals, sockets, terms};
 pub const MOST_TEXT: usize = 4096;
 
 // What is said of a listing, and the record of its set: zeros after a refusal.
+// The set stands beside the reply and no Result holds it: the clause of `read_listing` gives every byte of it, after a refusal too.
 #[derive(Clone, Copy)]
 pub struct Heard {
     pub reply: Reply,
@@ -37,30 +37,19 @@ fn refused(reply: Reply) -> Heard
     }
 }
 
-// What the panel makes known to the reader of its listings.
-fn known_to(panel: Panel) -> Known
-    ensures { result ≡ known_to panel }
-{
-    Known {
-        n: panel.n as u64,
-        marks: panel.marks,
-        cards: CARDS as u64,
-    }
-}
-
 // Judges a readable text: its names are to form a set, and its lines to be true.
 fn judge(panel: Panel, terms: &[u8], text: &[u8]) -> Heard
     requires { Reading panel terms.now text.now × Readable (listing (known_to panel)) text.now }
     ensures { outcome result.reply result.set ≡ judged panel (system (records terms.now)) text.now }
 {
-    let known = known_to(panel);
+    let known = Known::from(panel);
     let names = names::names_of(known, text);
     let Some(set) = sets::set_of(panel, names) else {
         return refused(Reply::BadSet);
     };
     let v = signals::signals_of(panel.n, names);
     match lines::judge_lines(known, terms, v, text) {
-        Verdict::Whole => Heard {
+        Ok(()) => Heard {
             reply: Reply::Done {
                 order: names.len as u64,
                 count: 0,
@@ -68,7 +57,9 @@ fn judge(panel: Panel, terms: &[u8], text: &[u8]) -> Heard
             },
             set,
         },
-        Verdict::Broken(place) => refused(Reply::FalseLine { place }),
+        Err(broken) => refused(Reply::FalseLine {
+            place: broken.place,
+        }),
     }
 }
 
@@ -78,9 +69,11 @@ fn read_text(panel: Panel, terms: &[u8], text: &[u8]) -> Heard
     ensures { outcome result.reply result.set
         ≡ unless_broken Unreadable (said (listing (known_to panel)) text.now) (judged panel (system (records terms.now)) text.now) }
 {
-    match machine::read(known_to(panel), text) {
-        Verdict::Whole => judge(panel, terms, text),
-        Verdict::Broken(place) => refused(Reply::Unreadable { place }),
+    match machine::read(Known::from(panel), text) {
+        Ok(()) => judge(panel, terms, text),
+        Err(broken) => refused(Reply::Unreadable {
+            place: broken.place,
+        }),
     }
 }
 

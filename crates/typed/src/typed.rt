@@ -23,8 +23,8 @@ fn put_signal(known: Known, s: u64, line: &mut [u8], at: usize) -> usize
     requires { (s ≤ 18) × (at + 2 ≤ length line.old) }
     ensures { Added (signal_text known s) at result line.old line.new }
 {
-    let letter = machine::letter_of(known, s) as u8;
-    let digit = machine::digit_of(known, s) as u8;
+    let letter = machine::letter_of(known, s);
+    let digit = machine::digit_of(known, s);
     text::put_text(&[letter, digit], line, at)
 }
 
@@ -221,9 +221,8 @@ pub fn line_at(
     if i == size {
         return text::put_text(b"\n", line, 0);
     }
-    let l = machine::left_of(known, size as u64, (i - size - 1) as u64);
-    if l == 0 {
-        return 0;
+    match machine::left_of(known, size as u64, (i - size - 1) as u64) {
+        Some(l) => derivative_line(known, l, wires, count, line),
+        None => 0,
     }
-    derivative_line(known, l, wires, count, line)
 }

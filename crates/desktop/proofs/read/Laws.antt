@@ -33,8 +33,7 @@ use Rattle.wiring.proofs.signals.Laws.{signals_fitting}
 use Rattle.wiring.proofs.terms.Laws.{clean_for}
 use Rattle.wiring.proofs.answers.Exact.{panel_out}
 use Rattle.reader.specs.Reader.{Readable}
-use Rattle.reader.specs.Said.{said}
-use Rattle.reader.specs.declared.Verdict.{Verdict}
+use Rattle.reader.specs.Said.{Verdict, said}
 use Rattle.listing.specs.Held.{Fair}
 use Rattle.listing.specs.Meaning.{names}
 use Rattle.listing.specs.Readable.{listing}

@@ -2,11 +2,11 @@
 use mathlib.Core.Path.{◌≡◌, refl, sym, ap, ◌∙◌}
 use mathlib.Core.Bool.{Bool, true, false, cond}
 use mathlib.Core.List.{List, [], ◌∷◌, ◌++◌, map, append-nil, append_assoc, map-append, map-id}
-use Prim.Native.Nat.{ℕ, zero, suc, ◌+◌, ◌*◌, ◌-◌, ◌≤◌, ◌<◌}
+use Prim.Native.Nat.{ℕ, zero, suc, ◌+◌, ◌*◌, ◌≤◌, ◌<◌}
 use native.Mathlib.Omega.{arith}
 use native.Mathlib.Numerals.{add-one}
 use borrow.Author.Tests.{eq-eqb, ne_eqb, eqb-true, leb-false}
-use lib.Dec.{T, eqb, leb}
+use lib.Dec.{T, eqb}
 use lib.IntN.{ℤ, pos, negsuc}
 use lib.Signed.{le_z}
 use lib.ListN.{length, take, drop, get_or, length-append, length-map}
@@ -27,16 +27,9 @@ use Rattle.lines.specs.Text.{decimal, joined, lead, Added, Stands}
 use Rattle.lines.proofs.text.Laws.{adds, adds_nothing, shown}
 use Rattle.reader.specs.Bytes.{newline, blank, minus, nought}
 use Rattle.listing.specs.Bytes.{star, plus, prime}
-use Rattle.listing.specs.Lines.{digit_of}
 use Rattle.listing.specs.declared.machine.Known.{Known}
 use Rattle.grammar.specs.Grammar.{Factor, Names, none, alone, square, both, Term, signal_text, names_text, body_text, exponent_text, factor_text, first_text, next_text, right_text, line_text}
 use Rattle.typed.specs.Typed.{power_of, factor_at, factors_of, names_of, written_of, negative_of, term_of, terms_of, sign_text, term_text, wire_at, wires_in}
-
--- ---- the digit of a signal is a byte
-pub digit_small : (k : Known) (s : ℕ) → s ≤ 18 → digit_of k s < 256
-unfolding digit_of
-digit_small k s h =
-    cond_cases (λ x. x < 256) (leb s k.n) (nought + s) (nought + (s - (k.n + 1))) (λ t. omega arith) (λ u. omega arith)
 
 -- ---- the product of two signals
 module _ (a b : ℕ) where

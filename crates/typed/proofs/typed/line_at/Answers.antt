@@ -1,5 +1,5 @@
 -- `line_at` meets its contract: by its number the heading, a name's line, the blank line, a derivative's line, or none. Assumes nothing.
-use mathlib.Core.Path.{◌≡◌, sym, ◌∙◌}
+use mathlib.Core.Path.{◌≡◌, sym, ◌∙◌, refl}
 use mathlib.Core.List.{[]}
 use Prim.Native.Nat.{suc, ◌+◌, ◌-◌, ◌<◌}
 use native.Mathlib.Omega.{arith}
@@ -38,26 +38,28 @@ returns-then-i-size-2 c =
     let whole = rw (blank_next q.known s ws q.j c.if-j-eq0.false last) at c.put_text-then-i-size-2.ensures in
     (shown whole, whole)
 
-pub returns-then-l-eq0 : goal.returns-then-l-eq0
-returns-then-l-eq0 c =
+pub returns-in-Some : goal.returns-in-Some
+returns-in-Some c =
     let q = c.args in
     let s = take q.size (places q.set.now) in
     let ws = wires_in q.count q.wires.now in
     let i = q.j - 1 - q.size - 1 in
     let long : length s ≡ q.size = used_length q.set.now q.size c.requires.1.0 in
     let at : q.j - 1 ≡ length s + suc i = omega (arith, c.if-i-size.false, c.if-i-size-2.false) in
-    let l = c.left_of-l.result in
-    let is : l ≡ left_of q.known (length s) i = rw long c.left_of-l.ensures.0 in
-    rw (← none_next q.known s ws q.j i l c.if-j-eq0.false at is c.if-l-eq0.true) (stands_nothing _)
+    let l = c.in-Some.l in
+    let number : l ≡ left_of q.known q.size i = rw c.in-Some.is at c.left_of.ensures.number in
+    let is : l ≡ left_of q.known (length s) i = rw long number in
+    let within = rw c.in-Some.is at c.left_of.ensures.within in
+    rw (derivative_next q.known s ws q.j i l c.if-j-eq0.false at is (λ z. omega (arith, within.0))) at c.derivative_line.ensures
 
-pub returns : goal.returns
-returns c =
+pub returns-in-None : goal.returns-in-None
+returns-in-None c =
     let q = c.args in
     let s = take q.size (places q.set.now) in
     let ws = wires_in q.count q.wires.now in
     let i = q.j - 1 - q.size - 1 in
     let long : length s ≡ q.size = used_length q.set.now q.size c.requires.1.0 in
     let at : q.j - 1 ≡ length s + suc i = omega (arith, c.if-i-size.false, c.if-i-size-2.false) in
-    let l = c.left_of-l.result in
-    let is : l ≡ left_of q.known (length s) i = rw long c.left_of-l.ensures.0 in
-    rw (derivative_next q.known s ws q.j i l c.if-j-eq0.false at is c.if-l-eq0.false) at c.derivative_line.ensures
+    let number : 0 ≡ left_of q.known q.size i = rw c.in-None.is at c.left_of.ensures.number in
+    let is : 0 ≡ left_of q.known (length s) i = rw long number in
+    rw (← none_next q.known s ws q.j i 0 c.if-j-eq0.false at is refl) (stands_nothing _)
