@@ -1,6 +1,6 @@
 -- Lines that are told by their numbers: none of them is empty, so that none is told exactly behind the last; and who writes
 -- line 0, 1, .. and stops at the first that is none has written all of them and nothing else. Assumes nothing.
-use Rattle.std.proofs.Common.{◌≡◌, ℕ, zero, suc, ◌<◌, ◌≤◌, Bool, true, false, leb, ◌↔◌, List, [], ◌∷◌, ◌++◌, map, length, get_or, sym, ap, ◌∙◌, arith, ext_get_or, leb-false, leb-true}
+use Rattle.std.proofs.Common.{◌≡◌, ℕ, zero, suc, ◌<◌, ◌≤◌, Bool, true, false, leb, ◌↔◌, List, [], ◌∷◌, ◌++◌, map, length, get_or, IsTrue, sym, refl, ap, ◌∙◌, arith, ext_get_or, leb-false, leb-true}
 use lib.ListN.{length-map, get_or-eq_default}
 use Rattle.monomial.specs.Lists.{below}
 use Rattle.monomial.proofs.Tests.{Tested, passed, failed, test}
@@ -80,3 +80,10 @@ module _ (lines : List (List ℕ)) (text : ℕ → List ℕ) (there : ℕ → Bo
   lines_written =
       map_same text (λ k. get_or lines k []) (below stop) (λ k h. let low : k < stop = below_out stop k h in (told k (omega arith)).0)
       ∙ rw all_told (all_lines lines)
+
+-- whether there is a line is said by its number
+pub told_yes : {k n : ℕ} → k < n → IsTrue true ↔ (k < n)
+told_yes h = (λ _. h, λ _. refl)
+
+pub told_no : {k n : ℕ} → n ≤ k → IsTrue false ↔ (k < n)
+told_no h = (λ e. cc, λ j. absurd (omega arith))
