@@ -1,9 +1,9 @@
-// The lines of an answer: the five numbers of a reply, a set by its record, a wiring record. Each takes the place of what the
-// line held before.
+// The lines of an answer: the five numbers of a reply, a set by its record, a wiring record. A line that is made takes the place
+// of what was there before.
 ghost use Rattle.std.specs.Prelude.{◌≡◌, ◌+◌, ◌*◌, ◌≤◌, ◌++◌, length, take, drop};
 ghost use Rattle.monomial.specs.Monomial.{width};
 ghost use Rattle.wiring.specs.Panel.{set_bytes};
-ghost use Rattle.lines.specs.Lengths.{powers_bytes, set_text_bytes};
+ghost use Rattle.lines.specs.Lengths.{reply_bytes, powers_bytes, set_text_bytes};
 ghost use Rattle.lines.specs.Answer.{reply_line, exponents, set_text, set_line, wire_line};
 
 use super::lengths::LINE_BYTES;
@@ -13,13 +13,20 @@ use monomial::width::WIDTH;
 use wiring::coefficient;
 use wiring::panel::{CARDS, SET_BYTES, WIRE_BYTES};
 
-// Code, order, count, steps and place.
+// Code, order, count, steps and place, behind what the line holds.
+pub fn put_reply<const N: usize>(five: [u64; 5], line: &mut Line<N>)
+    requires { length line.old + reply_bytes ≤ N }
+    ensures { line.new ≡ line.old ++ reply_line five }
+{
+    line.put_joined(&five, b' ');
+    line.put_text(b"\n");
+}
+
 pub fn reply_line(five: [u64; 5], line: &mut Line<LINE_BYTES>)
     ensures { line.new ≡ reply_line five }
 {
     line.clear();
-    line.put_joined(&five, b' ');
-    line.put_text(b"\n");
+    put_reply(five, line);
 }
 
 // The six exponents at place i of a set record.
