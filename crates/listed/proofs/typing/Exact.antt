@@ -23,10 +23,7 @@ use Rattle.wiring.specs.declared.reply.Reply.{Reply}
 use Rattle.wiring.proofs.reply.Laws.{same_reply}
 use Rattle.wiring.proofs.sets.Laws.{used_length}
 use Rattle.wiring.proofs.answers.Laws.{wired_refused}
-use Rattle.lines.specs.Text.{Stands}
 use Rattle.lines.specs.Answer.{reply_line}
-use Rattle.lines.proofs.text.Laws.{stands_nothing}
-use Rattle.lines.proofs.answer.Laws.{reply_some}
 use Rattle.listing.specs.declared.machine.Known.{Known}
 use Rattle.listing.proofs.Lines.{lefts_length}
 use Rattle.grammar.specs.Grammar.{text}
@@ -35,7 +32,6 @@ use Rattle.typed.proofs.typed.Exact.{typed_text, typed_length, typed_none}
 use Rattle.desktop.specs.Read.{known_to}
 use Rattle.listed.specs.declared.typing.Typing.{Typing}
 use Rattle.listed.specs.Typing.{typing_lines, typed_lines, Ready, Types}
-use Rattle.lines.proofs.Told.{Filled, filled_first, filled_none}
 use Rattle.listed.proofs.typing.Laws.{by_done, whole_held, done_long, done_set, done_wires, typed_listing}
 
 abbrev typing : Reply → Known → List ℕ → Typing
@@ -101,36 +97,3 @@ module _ (panel : Panel) (terms set : List ℕ) where
   typing_text z =
       ap (gather (λ x. x)) (typing_done z)
       ∙ ap (λ (l : List ℕ). reply_line (in_order (wired panel terms set wires_bytes).said) ++ l) (typed_text (known_to panel) (set_of set) (list_in panel terms set))
-
--- ---- no line is empty, and there are few
-listing_filled : (k : Known) (s : List Mono) (ws : List Wire) → Filled (listing_lines k s ws)
-listing_filled k s ws j h = go (get_or (listing_lines k s ws) j []) refl
-  where
-    go : (x : List ℕ) → get_or (listing_lines k s ws) j [] ≡ x → 0 < length x
-    go [] e =
-        let told : Stands (get_or (listing_lines k s ws) j []) 0 [] [] = rw e (stands_nothing []) in
-        absurd (omega (arith, (typed_none k s ws j told).0 refl))
-    go (b ∷ x) e = omega arith
-
-module _ (t : Typing) (wires : List ℕ) where
-  pub typed_filled : Filled (typed_lines t wires)
-  unfolding typed_lines
-  typed_filled =
-      let code = (numbers t.reply).code in
-      filled_first (reply_line (in_order (numbers t.reply))) (cond (eqb code 0) (typed_listing t wires) []) (reply_some (in_order (numbers t.reply))) (go (test (eqb code 0)))
-    where
-      go : Tested (eqb (numbers t.reply).code 0) → Filled (cond (eqb (numbers t.reply).code 0) (typed_listing t wires) [])
-      go (passed e) = rw e (listing_filled t.known (take (numbers t.reply).order (places t.set)) (wires_in (numbers t.reply).count wires))
-      go (failed e) = rw e filled_none
-
-  pub typed_few : Ready t wires → length (typed_lines t wires) ≤ 3 + cards + (width + cards)
-  unfolding typed_lines
-  typed_few ready = go (test (eqb (numbers t.reply).code 0))
-    where
-      go : Tested (eqb (numbers t.reply).code 0) → suc (length (cond (eqb (numbers t.reply).code 0) (typed_listing t wires) [])) ≤ 3 + cards + (width + cards)
-      go (failed e) = rw e (omega arith)
-      go (passed e) =
-          let can = ready (eqb-true (numbers t.reply).code 0 e) in
-          let s : List Mono = take (numbers t.reply).order (places t.set) in
-          let size : length s ≡ (numbers t.reply).order = used_length t.set (numbers t.reply).order can.small in
-          rw e (omega (arith, typed_length t.known s (wires_in (numbers t.reply).count wires), lefts_length t.known (length s), can.few, can.small))
