@@ -1,4 +1,4 @@
-// Reads a listing, and then gives the lines of what is said of it one by one, in a lent line.
+// Reads a listing, and then gives the lines of what is said of it one by one.
 ghost use Rattle.std.specs.Prelude.{◌≡◌, [], ◌<◌, ◌↔◌, length, get_or, take, drop, IsTrue};
 ghost use Rattle.wiring.specs.Sockets.{panel_of};
 ghost use Rattle.wiring.specs.Reply.{outcome};

@@ -1,4 +1,4 @@
-// Types the listing of a given set: wires it once, and then gives the lines one by one, in a lent line.
+// Types the listing of a given set: wires it once, and then gives the lines one by one.
 ghost use Rattle.std.specs.Prelude.{◌≡◌, [], ◌<◌, ◌↔◌, length, get_or, IsTrue};
 ghost use Rattle.wiring.specs.Sockets.{panel_of};
 ghost use Rattle.lines.specs.Input.{set_in, terms_in};

@@ -113,7 +113,13 @@ fn put_term(known: Known, wires: &[u8], j: usize, i: usize, line: &mut Line<LIST
     let b = u64::from(wires[from + 2]);
     let c = coefficient::decode(wires, from + 4);
     put_sign(c < 0, i, line);
-    put_body(known, written(u64::from(c.unsigned_abs()), a, b), a, b, line);
+    put_body(
+        known,
+        written(u64::from(c.unsigned_abs()), a, b),
+        a,
+        b,
+        line,
+    );
 }
 
 // The right side of the line of signal l.
@@ -136,13 +142,7 @@ fn put_right(known: Known, l: u64, wires: &[u8], count: usize, line: &mut Line<L
 }
 
 // The line of the derivative of signal l.
-fn derivative_line(
-    known: Known,
-    l: u64,
-    wires: &[u8],
-    count: usize,
-    line: &mut Line<LISTED_BYTES>,
-)
+fn derivative_line(known: Known, l: u64, wires: &[u8], count: usize, line: &mut Line<LISTED_BYTES>)
     requires signal { l ≤ 18 }
     requires listed { Listed count wires.now }
     requires empty { line.old ≡ [] }

@@ -1,37 +1,32 @@
 -- What the contracts of typing say to a caller: the lines are those of the definition; two outcomes are equal; after
 -- a refusal there is the reply alone, and after code 0 the listing as well; no line is empty, and there are few. Assumes
 -- nothing.
-use mathlib.Core.Path.{◌≡◌, refl, sym, ap, ◌∙◌, subst}
+use mathlib.Core.Path.{◌≡◌, sym, ap, ◌∙◌, subst}
 use mathlib.Core.Bool.{cond}
 use mathlib.Core.List.{List, [], ◌∷◌, ◌++◌}
-use Prim.Native.Nat.{ℕ, suc, ◌+◌, ◌≤◌, ◌<◌}
-use native.Mathlib.Omega.{arith}
+use Prim.Native.Nat.{ℕ}
 use borrow.Author.Tests.{eqb-true, eq-eqb, ne_eqb}
 use lib.Dec.{eqb}
-use lib.ListN.{length, get_or, take}
+use lib.ListN.{take}
 use Rattle.monomial.specs.Lists.{gather}
-use Rattle.monomial.specs.Monomial.{Mono, width}
 use Rattle.monomial.proofs.Tests.{Tested, passed, failed, test}
-use Rattle.wiring.specs.Panel.{cards, wires_bytes}
+use Rattle.wiring.specs.Panel.{wires_bytes}
 use Rattle.wiring.specs.Sets.{places, set_of}
-use Rattle.wiring.specs.Wires.{Wire}
 use Rattle.wiring.specs.Reply.{Outcome, numbers, in_order, outcome}
 use Rattle.wiring.specs.Answers.{verdict, wired}
 use Rattle.wiring.specs.Claims.{list_in}
 use Rattle.wiring.specs.declared.panel.Panel.{Panel}
 use Rattle.wiring.specs.declared.reply.Reply.{Reply}
 use Rattle.wiring.proofs.reply.Laws.{same_reply}
-use Rattle.wiring.proofs.sets.Laws.{used_length}
 use Rattle.wiring.proofs.answers.Laws.{wired_refused}
 use Rattle.lines.specs.Answer.{reply_line}
 use Rattle.listing.specs.declared.machine.Known.{Known}
-use Rattle.listing.proofs.Lines.{lefts_length}
 use Rattle.grammar.specs.Grammar.{text}
 use Rattle.typed.specs.Typed.{tree_of, listing_lines, wires_in}
-use Rattle.typed.proofs.typed.Exact.{typed_text, typed_length, typed_none}
+use Rattle.typed.proofs.typed.Exact.{typed_text}
 use Rattle.desktop.specs.Read.{known_to}
 use Rattle.listed.specs.declared.typing.Typing.{Typing}
-use Rattle.listed.specs.Typing.{typing_lines, typed_lines, Ready, Types}
+use Rattle.listed.specs.Typing.{typing_lines, typed_lines, Types}
 use Rattle.listed.proofs.typing.Laws.{by_done, whole_held, done_long, done_set, done_wires, typed_listing}
 
 abbrev typing : Reply → Known → List ℕ → Typing

@@ -1,13 +1,12 @@
 -- What the contract of `line_of` says to a caller: none is told exactly behind the last line, and two outcomes are equal.
 -- Assumes nothing.
-use mathlib.Core.Path.{◌≡◌, ◌∙◌}
+use mathlib.Core.Path.{◌≡◌}
 use mathlib.Core.Logic.{◌↔◌}
 use mathlib.Core.Bool.{cond}
 use mathlib.Core.List.{List, [], ◌++◌}
-use Prim.Native.Nat.{ℕ, suc, ◌+◌, ◌/◌, ◌≤◌, ◌<◌, min}
-use native.Mathlib.Omega.{arith}
+use Prim.Native.Nat.{ℕ, ◌≤◌, ◌<◌}
 use lib.Dec.{eqb}
-use lib.ListN.{length, take, length-take, length-append}
+use lib.ListN.{length}
 use Rattle.monomial.proofs.Tests.{cond_cases}
 use Rattle.wiring.specs.Panel.{set_bytes, wire_bytes}
 use Rattle.wiring.specs.Reply.{in_order}
@@ -16,10 +15,8 @@ use Rattle.lines.proofs.Told.{Filled, filled_none, filled_first, filled_both, fi
 use Rattle.lines.proofs.Told as of_lines
 use Rattle.lines.proofs.text.Laws.{stands_one}
 use Rattle.lines.proofs.answer.Laws.{reply_some, wire_some, set_some}
-use Rattle.report.specs.declared.prepare.Prepared.{Prepared}
-use Rattle.report.specs.Prepare.{Results, results_in}
+use Rattle.report.specs.Prepare.{Results}
 use Rattle.report.specs.Report.{slots, set_lines, wire_lines, lines_of, line_at}
-use Rattle.report.proofs.line.Laws.{shown_sets, shown_wires, sets_length, wires_length}
 
 -- ---- the promise leaves nothing open: the text of the line
 pub line_determined : (lines : List (List ℕ)) (k : ℕ) {l m : List ℕ} → l ≡ line_at lines k → m ≡ line_at lines k → l ≡ m

@@ -1,11 +1,11 @@
 -- The pieces of a line: names, coefficients, signs, terms one behind the other, powers one behind the other. Assumes nothing.
 use mathlib.Core.Path.{◌≡◌, refl, sym, ap, ◌∙◌}
-use mathlib.Core.Bool.{Bool, true, false, cond}
+use mathlib.Core.Bool.{Bool, true, cond}
 use mathlib.Core.List.{List, [], ◌∷◌, ◌++◌, map, append-nil, append_assoc, map-append, map-id}
 use Prim.Native.Nat.{ℕ, zero, suc, ◌+◌, ◌*◌, ◌≤◌, ◌<◌}
 use native.Mathlib.Omega.{arith}
 use native.Mathlib.Numerals.{add-one}
-use borrow.Author.Tests.{eq-eqb, ne_eqb, eqb-true, le-ltb, leb-false}
+use borrow.Author.Tests.{eq-eqb, ne_eqb, eqb-true, le-ltb}
 use lib.Dec.{T, eqb, leb}
 use lib.IntN.{ℤ, pos, negsuc}
 use Rattle.std.specs.Prelude.{int_lt}
@@ -13,7 +13,7 @@ use lib.ListN.{length, take, drop, get_or, length-append, length-map}
 use lib.Seq.{take-suc, take_all, get_or-take, get_or-drop}
 use Rattle.monomial.specs.Lists.{gather, keep, below}
 use Rattle.monomial.specs.Monomial.{Mono}
-use Rattle.monomial.proofs.Tests.{T→is, is→n_t, cond_cases}
+use Rattle.monomial.proofs.Tests.{T→is, cond_cases}
 use Rattle.monomial.proofs.Members.{gather_append, keep_append}
 use Rattle.monomial.proofs.Counting.{below_length, below_at}
 use Rattle.wiring.specs.Panel.{wire_bytes}
@@ -21,10 +21,10 @@ use Rattle.wiring.specs.Coefficient.{word, signed}
 use Rattle.wiring.specs.Wires.{Wire}
 use Rattle.wiring.specs.Claims.{row_of}
 use Rattle.lines.specs.Text.{decimal, joined, lead}
-use Rattle.reader.specs.Bytes.{newline, blank, minus, nought}
-use Rattle.listing.specs.Bytes.{star, plus, prime}
+use Rattle.reader.specs.Bytes.{blank, minus, nought}
+use Rattle.listing.specs.Bytes.{star, plus}
 use Rattle.listing.specs.declared.machine.Known.{Known}
-use Rattle.grammar.specs.Grammar.{Factor, Names, none, alone, square, both, Term, signal_text, names_text, body_text, exponent_text, factor_text, first_text, next_text, right_text, line_text}
+use Rattle.grammar.specs.Grammar.{Factor, Names, none, alone, square, both, Term, names_text, body_text, exponent_text, factor_text, first_text, next_text, right_text}
 use Rattle.typed.specs.Typed.{power_of, factor_at, factors_of, names_of, written_of, negative_of, term_of, terms_of, sign_text, term_text, wire_at, wires_in}
 
 -- ---- the product of two signals
