@@ -30,15 +30,18 @@ fn recurs(list: &[u8], from: usize, n: usize, set: &[u8], q: Monomial, often: us
 {
     let len = list.len() / WIDTH;
     let mut left = often;
-    for a in from..len {
-        if left < 1 || len - a < left {
-            break;
+    let mut a = from;
+    // No `for`: it would test the end of the list besides, and planning took longer with it.
+    while 0 < left {
+        if len - a < left {
+            return false;
         }
         if is_multiple(n, set, q, Monomial::read(list, WIDTH * a)) {
             left -= 1;
         }
+        a += 1;
     }
-    left < 1
+    true
 }
 
 // Whether the quotient of the monomial at i by x may be, and is one that occurs so often, met there for the first time. The monomial at i is one of

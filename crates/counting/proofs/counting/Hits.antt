@@ -6,13 +6,12 @@ use mathlib.Core.List.{List, [], ◌∷◌, ◌++◌}
 use Prim.Native.Nat.{ℕ, suc, ◌+◌, ◌-◌, ◌<◌, ◌≤◌}
 use native.Mathlib.Omega.{arith}
 use native.Mathlib.Numerals.{add-one}
-use borrow.Author.Tests.{le-leb, lt-leb, ltb-true, ltb-false}
-use lib.Dec.{leb, ltb, leb-suc-suc}
+use borrow.Author.Tests.{le-leb, lt-leb}
+use lib.Dec.{leb, leb-suc-suc}
 use lib.ListN.{length, get_or, drop, length-append, length-drop, drop_of_length-le}
 use lib.Seq.{drop-cons}
 use Rattle.monomial.specs.Lists.{keep}
 use Rattle.monomial.specs.Monomial.{Mono}
-use Rattle.monomial.proofs.Tests.{Tested, passed, failed, test}
 use Rattle.monomial.proofs.Members.{keep_append, keep_length}
 use Rattle.counting.specs.Counting.{shares, hits, up_to}
 use Rattle.counting.proofs.UpTo.{up_to_low, up_to_high}
@@ -44,15 +43,12 @@ module _ (v : List Mono) (q : Mono) where
   recurring_start l from often h = record { within = h; says = refl }
 
   module _ {l : List Mono} {from often left a : ℕ} (s : Recurring l from often left a) where
-    -- all are met, or too few are left
-    pub recurring_over : (1 ≤ left → length l - a < left) → ltb left 1 ≡ leb often (hits v q (drop from l))
-    recurring_over h = go (test (ltb left 1))
-      where
-        go : Tested (ltb left 1) → ltb left 1 ≡ leb often (hits v q (drop from l))
-        go (passed e) = e ∙ sym (le-leb left (hits v q (drop a l)) (omega (arith, ltb-true left 1 e))) ∙ s.says
-        go (failed e) =
-            let short : length l - a < left = h (ltb-false left 1 e) in
-            e ∙ sym (lt-leb left (hits v q (drop a l)) (omega (arith, hits_few (drop a l), length-drop a l))) ∙ s.says
+    -- too few are left
+    pub recurring_short : length l - a < left → false ≡ leb often (hits v q (drop from l))
+    recurring_short h = sym (lt-leb left (hits v q (drop a l)) (omega (arith, hits_few (drop a l), length-drop a l))) ∙ s.says
+
+    pub recurring_end : left ≤ 0 → true ≡ leb often (hits v q (drop from l))
+    recurring_end h = sym (le-leb left (hits v q (drop a l)) (omega arith)) ∙ s.says
 
     module _ (d : Mono) (h : a < length l) where
       next : drop a l ≡ get_or l a d ∷ drop (a + 1) l
