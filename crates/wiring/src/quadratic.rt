@@ -36,10 +36,8 @@ pub fn nonsquare_of(
     if signals::is_square(n, set, m) {
         return None;
     }
-    if cancels {
-        if coefficient::is_zero(derivative::total(terms, z, m)) {
-            return None;
-        }
+    if cancels && coefficient::is_zero(derivative::total(terms, z, m)) {
+        return None;
     }
     Some(m)
 }

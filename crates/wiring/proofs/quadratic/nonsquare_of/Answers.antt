@@ -1,6 +1,6 @@
 -- `nonsquare_of` meets its contract: the tests of the code are those of `offers`, in its order. Assumes nothing.
 use mathlib.Core.Path.{◌≡◌, sym, ap, ◌∙◌}
-use mathlib.Core.Bool.{not}
+use mathlib.Core.Bool.{not, false}
 use Rattle.wiring.specs.Signals.{signals_at}
 use native.Mathlib.Omega.{arith}
 use lib.ListN.{length}
@@ -15,6 +15,7 @@ use Rattle.wiring.specs.Derivative.{derivative}
 use Rattle.wiring.specs.Terms.{record_at, records, system}
 use Rattle.wiring.proofs.quadratic.Records.{outside, offered_low, offered_fails, offered_zero, offered_here}
 use Rattle.wiring.proofs.quadratic.nonsquare_of.Goals as goal
+use Rattle.wiring.proofs.quadratic.nonsquare_of.Goals.{else-cancels-via-then-cancels+else-is_zero, else-cancels-via-else-cancels}
 
 pub power-requires : goal.power-requires
 power-requires c =
@@ -60,28 +61,20 @@ returns-then-is_zero c =
     x.ensures c.if-power-lt1.false m.ensures
     (ap not (sym c.is_square.ensures ∙ c.if-is_square.false)) zero
 
-pub returns-else-is_zero : goal.returns-else-is_zero
-returns-else-is_zero c =
-    let a = c.args in
-    let l = a.terms.now in
-    let x = c.power in
-    let m = c.image-m in
-    let sum = c.total in
-    let same_sum = to_z-of_z w32 sum.result (sfits_of sum.type_inv) in
-    let other = ap is_zero (sym sum.ensures ∙ sym same_sum) ∙ sym c.is_zero.ensures ∙ c.if-is_zero.false in
-    offered_here (outside (signals_at a.n a.set.now)) (system (records l)) a.z.e (record_at l a.t) x.result m.result
-    x.ensures c.if-power-lt1.false m.ensures
-    (ap not (sym c.is_square.ensures ∙ c.if-is_square.false)) other
-
--- no total is 0, so none is summed
-pub returns-else-cancels : goal.returns-else-cancels
-returns-else-cancels c =
+-- the total is summed and is not 0; or no total is 0, so none is summed
+pub returns : goal.returns
+returns c =
     let long : length c.args.z.e ≡ width = search rules in
     let a = c.args in
     let l = a.terms.now in
     let x = c.power in
     let m = c.image-m in
-    let other = c.requires.1.1.1 c.if-cancels.false a.z.e a.t long (omega (arith, c.requires.1.0)) (omega (arith, x.ensures, c.if-power-lt1.false)) in
+    let kept = elim c.else-cancels.branch as (λ _. is_zero (coeff plain (derivative plain (system (records l)) a.z.e) m.result.e) ≡ false) [
+      | else-cancels-via-then-cancels+else-is_zero w ↦
+          ap is_zero (sym w.total.ensures ∙ sym (to_z-of_z w32 w.total.result (sfits_of w.total.type_inv))) ∙ sym w.is_zero.ensures ∙ w.if-is_zero.false
+      | else-cancels-via-else-cancels w ↦
+          ap (λ (y : Mono). is_zero (coeff plain (derivative plain (system (records l)) a.z.e) y)) m.ensures
+          ∙ c.requires.1.1.1 w.if-cancels.false a.z.e a.t long (omega (arith, c.requires.1.0)) (omega (arith, x.ensures, c.if-power-lt1.false))
+    ] in
     offered_here (outside (signals_at a.n a.set.now)) (system (records l)) a.z.e (record_at l a.t) x.result m.result
-    x.ensures c.if-power-lt1.false m.ensures
-    (ap not (sym c.is_square.ensures ∙ c.if-is_square.false)) (ap (λ (y : Mono). is_zero (coeff plain (derivative plain (system (records l)) a.z.e) y)) m.ensures ∙ other)
+    x.ensures c.if-power-lt1.false m.ensures (ap not (sym c.is_square.ensures ∙ c.if-is_square.false)) kept
