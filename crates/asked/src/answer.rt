@@ -23,28 +23,28 @@ pub(crate) fn large_buffer() -> [u8; SETS_BYTES]
 // Plans or thins and wires, or wires alone, as it is asked for; of wrong words only the reply is told. Where the input
 // has fewer bytes than the set record that it is to begin with, all of them are the set, which is refused.
 pub(crate) fn prepare_asked(
-    a: Asked,
+    a: Option<Asked>,
     input: &[u8],
     sets: &mut [u8; SETS_BYTES],
     out: &mut [u8; WIRES_BYTES],
 ) -> Prepared
     ensures { Answers a input.now result sets.old sets.new out.old out.new }
 {
-    let at = prepare::least(input::given_bytes(a), input.len());
+    let at = input::given_bytes(a).min(input.len());
     let set = &input[..at];
     let terms = &input[at..];
     match a {
-        Asked::Plan(s) => prepare::prepare(s, terms, sets, out),
-        Asked::Thin {
+        Some(Asked::Plan(s)) => prepare::prepare(s, terms, sets, out),
+        Some(Asked::Thin {
             n,
             marks,
             degree,
             which,
-        } => { prepare::prepare_thin(n, marks, degree, which, terms, set, sets, out) },
-        Asked::Wire { n, marks, degree } => prepare::prepare_wire(
+        }) => { prepare::prepare_thin(n, marks, degree, which, terms, set, sets, out) },
+        Some(Asked::Wire { n, marks, degree }) => prepare::prepare_wire(
             n, marks, degree, terms, set, out,
         ),
-        Asked::Wrong => Prepared {
+        None => Prepared {
             reply: Reply::Setting,
             lent: 0,
             wires: 0,

@@ -4,7 +4,6 @@
 ghost use Rattle.std.specs.Prelude.{◌≡◌};
 ghost use Rattle.asked.specs.Settings.{asked, asked_thin, asked_wire, Roomy};
 
-use lines::number::Number;
 use lines::words;
 use report::prepare::Settings;
 use std::env::Env;
@@ -29,126 +28,90 @@ pub enum Asked {
         marks: u64,
         degree: u64,
     },
-    Wrong,
 }
 
 // The plan that seven words ask for, read as numbers.
 fn settings_of(
-    n: Number,
-    marks: Number,
-    degree: Number,
-    cap: Number,
-    limit: Number,
-    sets: Number,
-    which: Number,
-) -> Asked
+    n: Option<u64>,
+    marks: Option<u64>,
+    degree: Option<u64>,
+    cap: Option<u64>,
+    limit: Option<u64>,
+    sets: Option<u64>,
+    which: Option<u64>,
+) -> Option<Asked>
     ensures { result ≡ asked n marks degree cap limit sets which }
 {
-    let Number::Of(n) = n else {
-        return Asked::Wrong;
+    let s = Settings {
+        n: n?,
+        marks: marks?,
+        degree: degree?,
+        cap: cap?,
+        limit: limit?,
+        room: sets? as usize,
+        which: which?,
     };
-    let Number::Of(marks) = marks else {
-        return Asked::Wrong;
-    };
-    let Number::Of(degree) = degree else {
-        return Asked::Wrong;
-    };
-    let Number::Of(cap) = cap else {
-        return Asked::Wrong;
-    };
-    let Number::Of(limit) = limit else {
-        return Asked::Wrong;
-    };
-    let Number::Of(sets) = sets else {
-        return Asked::Wrong;
-    };
-    let Number::Of(which) = which else {
-        return Asked::Wrong;
-    };
-    if (MOST_SETS as u64) < sets {
-        return Asked::Wrong;
+    if s.room <= MOST_SETS {
+        Some(Asked::Plan(s))
+    } else {
+        None
     }
-    Asked::Plan(Settings {
-        n,
-        marks,
-        degree,
-        cap,
-        limit,
-        room: sets as usize,
-        which,
-    })
 }
 
 // The thinning that four words ask for, read as numbers.
-fn thinning_of(n: Number, marks: Number, degree: Number, which: Number) -> Asked
+fn thinning_of(
+    n: Option<u64>,
+    marks: Option<u64>,
+    degree: Option<u64>,
+    which: Option<u64>,
+) -> Option<Asked>
     ensures { result ≡ asked_thin n marks degree which }
 {
-    let Number::Of(n) = n else {
-        return Asked::Wrong;
-    };
-    let Number::Of(marks) = marks else {
-        return Asked::Wrong;
-    };
-    let Number::Of(degree) = degree else {
-        return Asked::Wrong;
-    };
-    let Number::Of(which) = which else {
-        return Asked::Wrong;
-    };
-    Asked::Thin {
-        n,
-        marks,
-        degree,
-        which,
-    }
+    Some(Asked::Thin {
+        n: n?,
+        marks: marks?,
+        degree: degree?,
+        which: which?,
+    })
 }
 
 // The wiring that three words ask for, read as numbers.
-fn wiring_of(n: Number, marks: Number, degree: Number) -> Asked
+fn wiring_of(n: Option<u64>, marks: Option<u64>, degree: Option<u64>) -> Option<Asked>
     ensures { result ≡ asked_wire n marks degree }
 {
-    let Number::Of(n) = n else {
-        return Asked::Wrong;
-    };
-    let Number::Of(marks) = marks else {
-        return Asked::Wrong;
-    };
-    let Number::Of(degree) = degree else {
-        return Asked::Wrong;
-    };
-    Asked::Wire { n, marks, degree }
+    Some(Asked::Wire {
+        n: n?,
+        marks: marks?,
+        degree: degree?,
+    })
 }
 
-// What the command line asks for, which has the program's name before the words.
-pub(crate) fn read<R: Env>(rt: &R) -> Asked
+// What the command line asks for, which has the program's name before the words; nothing where a word is wrong, or their
+// number is.
+pub(crate) fn read<R: Env>(rt: &R) -> Option<Asked>
     ensures { Roomy result }
 {
-    let words = words::count_words(rt, MOST_WORDS);
-    if words == 4 {
-        return wiring_of(
+    match words::count_words(rt, MOST_WORDS) {
+        4 => wiring_of(
             words::number_at(rt, 1),
             words::number_at(rt, 2),
             words::number_at(rt, 3),
-        );
-    }
-    if words == 5 {
-        return thinning_of(
+        ),
+        5 => thinning_of(
             words::number_at(rt, 1),
             words::number_at(rt, 2),
             words::number_at(rt, 3),
             words::number_at(rt, 4),
-        );
+        ),
+        8 => settings_of(
+            words::number_at(rt, 1),
+            words::number_at(rt, 2),
+            words::number_at(rt, 3),
+            words::number_at(rt, 4),
+            words::number_at(rt, 5),
+            words::number_at(rt, 6),
+            words::number_at(rt, 7),
+        ),
+        _ => None,
     }
-    if words != 8 {
-        return Asked::Wrong;
-    }
-    settings_of(
-        words::number_at(rt, 1),
-        words::number_at(rt, 2),
-        words::number_at(rt, 3),
-        words::number_at(rt, 4),
-        words::number_at(rt, 5),
-        words::number_at(rt, 6),
-        words::number_at(rt, 7),
-    )
 }

@@ -6,7 +6,6 @@ use Rattle.wiring.specs.Answers.{wired}
 use Rattle.walk.specs.Plan.{planned}
 use Rattle.thin.specs.Thin.{thinned}
 use Rattle.desktop.specs.Read.{read_listing}
-use Rattle.lines.specs.Text.{Stands}
 use Rattle.lines.specs.Case.{case_line}
 use Rattle.compare.specs.declared.head.Head.{Head}
 
@@ -36,6 +35,7 @@ case_of h terms given size =
     let read = read_case (read_listing panel terms given) size in
     cond (eqb h.operation 1) plan (cond (eqb h.operation 2) wire (cond (eqb h.operation 3) thin read))
 
--- its line stands in a line, and its bytes in the buffer
-abbrev pub Answers : Case → ℕ → List ℕ → List ℕ → List ℕ → Type 0
-Answers c end line after buffer = Stands c.text end line after × (buffer ≡ c.bytes)
+-- its text is the line, and its bytes are the buffer
+pub record Answers (c : Case) (line buffer : List ℕ) : Type 0 where
+  pub text : line ≡ c.text
+  pub bytes : buffer ≡ c.bytes

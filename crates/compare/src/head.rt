@@ -2,8 +2,6 @@
 ghost use Rattle.std.specs.Prelude.{◌≡◌, ◌+◌, ◌≤◌, ◌<◌};
 ghost use Rattle.compare.specs.Head.{head_bytes, two, four, eight, head_of, right};
 
-use lines::text;
-
 pub(crate) const HEAD_BYTES: usize = 56;
 
 // The operations are numbered from 1.
@@ -33,7 +31,7 @@ fn two_at(b: &[u8; HEAD_BYTES], at: usize) -> u64
     requires { at + 2 ≤ head_bytes }
     ensures { (result ≡ two b.now at) × (result < 65536) }
 {
-    text::wide(b[at]) + 256 * text::wide(b[at + 1])
+    u64::from(b[at]) + 256 * u64::from(b[at + 1])
 }
 
 fn four_at(b: &[u8; HEAD_BYTES], at: usize) -> u64

@@ -11,50 +11,56 @@ mod head;
 ghost use Rattle.std.specs.Prelude.{◌≤◌, length};
 
 use head::{HEAD_BYTES, Head};
-use lines::lengths::LINE_BYTES;
+use lines::text::Line;
+use std::convert::AsSlice;
 
-// A case that is itself broken ends the answers.
-fn broken() -> bool {
-    io::write_all(1, b"broken batch\n");
-    false
+// Why there are no more answers: the input is at its end, or a case is itself broken.
+#[derive(Clone, Copy)]
+enum Stop {
+    Over,
+    Broken,
 }
 
-// Reads n bytes to the start of a buffer; false where the input ends before.
-fn fetch(buffer: &mut [u8], n: usize) -> bool
+// Reads n bytes to the start of a buffer. A case is broken where the input ends before.
+fn fetch(buffer: &mut [u8], n: usize) -> Result<(), Stop>
     requires { n ≤ length buffer.old }
 {
-    io::read_full(0, &mut buffer[0..n]) == n
+    if io::read_full(0, &mut buffer[..n]) == n {
+        Ok(())
+    } else {
+        Err(Stop::Broken)
+    }
 }
 
 // Reads what follows the head, and answers.
-fn answer_rest(h: Head, terms: &mut [u8], given: &mut [u8], buffer: &mut [u8]) -> bool
-    requires { (h.terms ≤ length terms.old) × ((h.given ≤ length given.old) × (h.size ≤ length buffer.old)) }
+fn answer_rest(
+    h: Head,
+    terms: &mut [u8],
+    given: &mut [u8],
+    buffer: &mut [u8],
+) -> Result<(), Stop>
+    requires terms { h.terms ≤ length terms.old }
+    requires given { h.given ≤ length given.old }
+    requires size { h.size ≤ length buffer.old }
 {
-    let terms_length = h.terms;
-    if !fetch(terms, terms_length) {
-        return broken();
-    }
-    let given_length = h.given;
-    if !fetch(given, given_length) {
-        return broken();
-    }
-    let size = h.size;
-    let mut line = [0u8; LINE_BYTES];
-    let end = answer::answer_case(
+    fetch(terms, h.terms)?;
+    fetch(given, h.given)?;
+    let mut line = Line::new();
+    answer::answer_case(
         h,
-        &terms[0..terms_length],
-        &given[0..given_length],
-        &mut buffer[0..size],
+        &terms[..h.terms],
+        &given[..h.given],
+        &mut buffer[..h.size],
         &mut line,
     );
-    io::write_all(1, &line[..end]);
-    true
+    io::write_all(1, line.as_slice());
+    Ok(())
 }
 
 // Answers the case of a head. The buffers are those of the kit, larger than the lengths that a right head has.
-fn answer_head(h: Head) -> bool {
+fn answer_head(h: Head) -> Result<(), Stop> {
     if !head::is_right(h) {
-        return broken();
+        return Err(Stop::Broken);
     }
     let mut terms = io::buffer();
     let mut given = io::large_buffer();
@@ -62,26 +68,31 @@ fn answer_head(h: Head) -> bool {
     answer_rest(h, &mut terms, &mut given, &mut buffer)
 }
 
-// Reads and answers the next case; false at the end of the input and after a broken case.
-fn answer_next() -> bool {
+// Reads and answers the next case.
+fn answer_next() -> Result<(), Stop> {
     let mut bytes = [0u8; HEAD_BYTES];
     let got = io::read_full(0, &mut bytes);
     if got == 0 {
-        return false;
+        return Err(Stop::Over);
     }
     if got < HEAD_BYTES {
-        return broken();
+        return Err(Stop::Broken);
     }
     answer_head(head::read(&bytes))
 }
 
 fn main() {
     // Nothing says that an input ends, so there is a most that is answered.
-    let mut left: u64 = 1000000000000;
-    while 0 < left {
-        if !answer_next() {
-            return;
+    for _ in 0..1000000000000u64 {
+        match answer_next() {
+            Ok(()) => {}
+            Err(Stop::Over) => {
+                return;
+            }
+            Err(Stop::Broken) => {
+                io::write_all(1, b"broken batch\n");
+                return;
+            }
         }
-        left -= 1;
     }
 }

@@ -1,9 +1,8 @@
 -- Monomials side by side in a lent list, each once: the nonsquares of a set, or that they are more than the list may hold. Assumes nothing.
-use Rattle.std.specs.Prelude.{◌≡◌, true, false, List, ℕ, ◌*◌, ◌<◌, ◌≤◌, length}
+use Rattle.std.specs.Prelude.{◌≡◌, List, ℕ, ◌*◌, ◌<◌, ◌≤◌, length, Option, MatchOption}
 use Rattle.monomial.specs.Monomial.{Mono, width}
 use Rattle.monomial.specs.Claims.{◌⊆◌, Different, Rearranged}
 use Rattle.wiring.specs.Signals.{listed}
-use Rattle.counting.specs.declared.gathering.Gathered.{Gathered}
 
 -- a list of len monomials, each once, with room for `most`
 pub record Lent (most len : ℕ) (bytes : List ℕ) : Type 0 where
@@ -25,10 +24,9 @@ pub record Exceeds (l : List Mono) (most : ℕ) : Type 0 where
   pub inside : some ⊆ l
   pub many : most < length some
 
--- what is answered of l, and the list then
-pub record Notes (l : List Mono) (most : ℕ) (g : Gathered) (bytes : List ℕ) : Type 0 where
-  pub all : g.over ≡ false → Holds l most g.len bytes
-  pub more : g.over ≡ true → Exceeds l most
+-- what is answered of l, and the list then: how many it lists, or that they are more than it may hold
+abbrev pub Notes : List Mono → ℕ → Option ℕ → List ℕ → Type 0
+Notes l most g bytes = MatchOption g (Exceeds l most) (λ len. Holds l most len bytes)
 
 -- l is the list in another order
 pub record Lists (l : List Mono) (most len : ℕ) (bytes : List ℕ) : Type 0 where
@@ -37,6 +35,5 @@ pub record Lists (l : List Mono) (most len : ℕ) (bytes : List ℕ) : Type 0 wh
   pub are : Rearranged l (listed len bytes)
 
 -- what is answered of the nonsquares ns, and the list then
-pub record Gathers (most : ℕ) (ns : List Mono) (g : Gathered) (bytes : List ℕ) : Type 0 where
-  pub all : g.over ≡ false → Lists ns most g.len bytes
-  pub more : g.over ≡ true → most < length ns
+abbrev pub Gathers : ℕ → List Mono → Option ℕ → List ℕ → Type 0
+Gathers most ns g bytes = MatchOption g (most < length ns) (λ len. Lists ns most len bytes)

@@ -9,6 +9,7 @@ use Rattle.wiring.specs.Terms.{CleanTerms}
 use Rattle.wiring.specs.Choice.{chosen}
 use Rattle.counting.specs.Counting.{closes}
 use Rattle.counting.specs.declared.verdict.Verdict.{Verdict}
+use Rattle.counting.specs.declared.verdict.Verdict.TheVariants as verdict
 
 -- nonsquares that a list need hold: of more a set is closed, however much room there is below the level. And the bytes of such a list
 abbrev pub most_listed : ℕ
@@ -37,7 +38,7 @@ pub record Split (may : Mono → Bool) (room : ℕ) (v ns : List Mono) (m : Mono
   pub is : m ≡ chosen first others
 
 -- what is answered of V and its nonsquares
-pub record Judged (may : Mono → Bool) (room : ℕ) (v ns : List Mono) (r : Verdict) : Type 0 where
-  pub finds : r.found ≡ true → ns ≡ []
-  pub shuts : r.found ≡ false → r.split ≡ false → closes may room v ns ≡ true
-  pub splits : r.found ≡ false → r.split ≡ true → Split may room v ns r.m.e
+abbrev pub Judged : (Mono → Bool) → ℕ → List Mono → List Mono → Verdict → Type 0
+Judged may room v ns verdict.Found = ns ≡ []
+Judged may room v ns verdict.Closed = closes may room v ns ≡ true
+Judged may room v ns (verdict.Split m) = Split may room v ns m.e

@@ -20,10 +20,7 @@ use wiring::{signals, sockets};
 fn is_multiple(n: usize, set: &[u8], q: Monomial, m: Monomial) -> bool
     ensures { result ≡ shares (signals_at n set.now) q.e m.e }
 {
-    if !q.divides(m) {
-        return false;
-    }
-    signals::is_signal(n, set, m.over(q))
+    q.divides(m) && signals::is_signal(n, set, m.over(q))
 }
 
 // Whether at least `often` of the list from `from` on are q times a member of V. It ends where too few are left.
@@ -34,6 +31,7 @@ fn recurs(list: &[u8], from: usize, n: usize, set: &[u8], q: Monomial, often: us
     let len = list.len() / WIDTH;
     let mut left = often;
     let mut a = from;
+    // No `for`: it would test the end of the list besides, and planning took longer with it.
     while 0 < left {
         if len - a < left {
             return false;
@@ -58,13 +56,9 @@ fn begins_at(panel: Panel, list: &[u8], i: usize, set: &[u8], x: Monomial, often
         return false;
     }
     let q = m.over(x);
-    if !sockets::can_build(panel, q) {
-        return false;
-    }
-    if !recurs(list, i + 1, panel.n, set, q, often - 1) {
-        return false;
-    }
-    !recurs(&list[..WIDTH * i], 0, panel.n, set, q, 1)
+    sockets::can_build(panel, q)
+        && recurs(list, i + 1, panel.n, set, q, often - 1)
+        && !recurs(&list[..WIDTH * i], 0, panel.n, set, q, 1)
 }
 
 // How many quotients occur so often, up to the cap, with those first met at i; `many` were met before.
@@ -81,17 +75,14 @@ fn tally_at(
     ensures { result ≡ up_to cap (many + length (keep (begins (can_build panel) (signals_at panel.n set.now) often (take i (tabled list.now))
         (drop (i + 1) (tabled list.now)) (get_or (tabled list.now) i (one width))) (signals_at panel.n set.now))) }
 {
-    let len = panel.n + 1 + set.len() / WIDTH;
     let mut met = many;
-    let mut j: usize = 0;
-    while j < len {
+    for j in 0..panel.n + 1 + set.len() / WIDTH {
         if cap <= met {
-            return met;
+            break;
         }
         if begins_at(panel, list, i, set, signals::signal(panel.n, set, j), often) {
             met += 1;
         }
-        j += 1;
     }
     met
 }
@@ -102,11 +93,9 @@ fn frequent(panel: Panel, list: &[u8], set: &[u8], often: usize, cap: usize) -> 
     ensures { result ≡ up_to cap (frequent (can_build panel) (signals_at panel.n set.now) (tabled list.now) often) }
 {
     let len = list.len() / WIDTH;
-    let mut met: usize = 0;
-    let mut i: usize = 0;
-    while often <= len - i {
+    let mut met = 0;
+    for i in 0..len.saturating_sub(often - 1) {
         met = tally_at(panel, list, i, set, often, met, cap);
-        i += 1;
     }
     met
 }
@@ -118,8 +107,7 @@ fn stays_below(panel: Panel, list: &[u8], set: &[u8], room: usize, wanted: usize
     ensures { result ≡ ltb (sum (take room (counts (gather (quotients_of (can_build panel) (signals_at panel.n set.now)) (tabled list.now))))) wanted }
 {
     let mut left = wanted;
-    let mut often: usize = 1;
-    while 0 < left {
+    for often in 1..=wanted {
         let many = frequent(panel, list, set, often, room);
         if left <= many {
             return false;
@@ -128,7 +116,6 @@ fn stays_below(panel: Panel, list: &[u8], set: &[u8], room: usize, wanted: usize
             return true;
         }
         left -= many;
-        often += 1;
     }
     false
 }
@@ -145,11 +132,6 @@ pub fn closes(panel: Panel, list: &[u8], set: &[u8], room: usize) -> bool
         return false;
     }
     let wanted = len - own;
-    if frequent(panel, list, set, (wanted - 1) / room + 1, 1) < 1 {
-        return true;
-    }
-    if room < 2 {
-        return false;
-    }
-    stays_below(panel, list, set, room, wanted)
+    frequent(panel, list, set, wanted.div_ceil(room), 1) < 1
+        || 1 < room && stays_below(panel, list, set, room, wanted)
 }

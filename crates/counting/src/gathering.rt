@@ -15,33 +15,22 @@ ghost use Rattle.counting.specs.Gathering.{Lent, Notes, Gathers};
 
 use monomial::Monomial;
 use monomial::width::WIDTH;
-use wiring::choice::Pick;
 use wiring::panel::TERM_BYTES;
 use wiring::{choice, quadratic, signals};
 
-// How many are listed; over, where there are more than the list may hold.
-#[derive(Clone, Copy)]
-pub struct Gathered {
-    pub len: usize,
-    pub over: bool,
-}
-
-// The list with m in it, once.
-fn note(list: &mut [u8], len: usize, most: usize, m: Monomial) -> Gathered
+// The list with m in it, once: how many it lists then; none, where they are more than it may hold.
+fn note(list: &mut [u8], len: usize, most: usize, m: Monomial) -> Option<usize>
     requires { Lent most len list.old }
     ensures { Notes (m.e ∷ listed len list.old) most result list.new }
 {
     if signals::is_among(&list[..WIDTH * len], m) {
-        return Gathered { len, over: false };
+        return Some(len);
     }
     if most <= len {
-        return Gathered { len, over: true };
+        return None;
     }
     m.write(list, WIDTH * len);
-    Gathered {
-        len: len + 1,
-        over: false,
-    }
+    Some(len + 1)
 }
 
 // The list, once the nonsquares of the derivative of z are met too.
@@ -54,32 +43,21 @@ fn gather_in(
     n: usize,
     set: &[u8],
     cancels: bool,
-) -> Gathered
+) -> Option<usize>
     requires { CleanTerms terms.now × (AtMost set_exponent z.e × (Lent most len list.old × (cancels ≡ false → Uncancelled terms.now))) }
     ensures { Notes (unmet plain (signals_at n set.now) (derivative plain (system (records terms.now)) z.e) ++ listed len list.old) most result list.new }
 {
-    let count = terms.len() / TERM_BYTES;
     let mut held = len;
-    let mut t: usize = 0;
-    while t < count {
-        let p = quadratic::nonsquare_of(terms, t, z, n, set, cancels);
-        if p.some {
-            let got = note(list, held, most, p.m);
-            if got.over {
-                return got;
-            }
-            held = got.len;
+    for t in 0..terms.len() / TERM_BYTES {
+        if let Some(m) = quadratic::nonsquare_of(terms, t, z, n, set, cancels) {
+            held = note(list, held, most, m)?;
         }
-        t += 1;
     }
-    Gathered {
-        len: held,
-        over: false,
-    }
+    Some(held)
 }
 
-// The nonsquares of a set in the list, or that they are more than it may hold. The signals are asked from the last: the newest ones have most. Those
-// of the set and those before them are asked in two loops: so what asks one of them stays out of the opener's frame.
+// The nonsquares of a set in the list, and how many they are; none, where they are more than it may hold. The signals are asked from the last: the newest
+// ones have most. Those of the set and those before them are asked in two loops: so what asks one of them stays out of the opener's frame.
 pub fn gather(
     terms: &[u8],
     list: &mut [u8],
@@ -87,44 +65,29 @@ pub fn gather(
     set: &[u8],
     cancels: bool,
     most: usize,
-) -> Gathered
+) -> Option<usize>
     requires { CleanTerms terms.now × ((n ≤ width) × (Fitting set_exponent (signals_at n set.now) × ((cancels ≡ false → Uncancelled terms.now) × (width * most ≤ length list.old)))) }
     ensures { Gathers most (nonsquares plain (signals_at n set.now) (derivative plain (system (records terms.now)))) result list.new }
 {
     let mut len: usize = 0;
-    let mut i = set.len() / WIDTH;
-    while 0 < i {
-        i -= 1;
+    for i in (0..set.len() / WIDTH).rev() {
         let z = Monomial::read(set, WIDTH * i);
-        let got = gather_in(terms, list, len, most, z, n, set, cancels);
-        if got.over {
-            return got;
-        }
-        len = got.len;
+        len = gather_in(terms, list, len, most, z, n, set, cancels)?;
     }
-    let mut j = n + 1;
-    while 0 < j {
-        j -= 1;
+    for j in (0..n + 1).rev() {
         let z = Monomial::constant(j);
-        let got = gather_in(terms, list, len, most, z, n, set, cancels);
-        if got.over {
-            return got;
-        }
-        len = got.len;
+        len = gather_in(terms, list, len, most, z, n, set, cancels)?;
     }
-    Gathered { len, over: false }
+    Some(len)
 }
 
 // The monomial of a list that is split: the cheapest.
-pub fn cheapest_of(list: &[u8]) -> Pick
+pub fn cheapest_of(list: &[u8]) -> Option<Monomial>
     ensures { Best cheaper (tabled list.now) result }
 {
-    let count = list.len() / WIDTH;
-    let mut best = Pick::NONE;
-    let mut i: usize = 0;
-    while i < count {
+    let mut best = None;
+    for i in 0..list.len() / WIDTH {
         best = choice::cheapest(best, Monomial::read(list, WIDTH * i));
-        i += 1;
     }
     best
 }

@@ -18,12 +18,12 @@ pub const MOST_LISTED: usize = CARDS * CONSTANTS + CARDS * (CARDS + 1) / 2;
 
 pub const LIST_BYTES: usize = WIDTH * MOST_LISTED;
 
-// Found; or else closed, unless the pairs of m are to be run.
+// The set is found, it is closed, or the pairs of this nonsquare are to be run.
 #[derive(Clone, Copy)]
-pub struct Verdict {
-    pub found: bool,
-    pub split: bool,
-    pub m: Monomial,
+pub enum Verdict {
+    Found,
+    Closed,
+    Split(Monomial),
 }
 
 // A quotient occurs at most once for each member of V: where there are more nonsquares than that allows, the rest of them is not looked for.
@@ -38,33 +38,18 @@ pub fn verdict_of(
     requires { Weighing terms.now panel.n set.now cancels room × (list_bytes ≤ length list.old) }
     ensures { Judged (can_build panel) room (signals_at panel.n set.now) (nonsquares plain (signals_at panel.n set.now) (derivative plain (system (records terms.now)))) result }
 {
-    let closed = Verdict {
-        found: false,
-        split: false,
-        m: Monomial::ONE,
-    };
     let members = panel.n + 1 + set.len() / WIDTH;
     let most = room * members + room * (room + 1) / 2;
-    let g = gathering::gather(terms, list, panel.n, set, cancels, most);
-    if g.over {
-        return closed;
+    let Some(len) = gathering::gather(terms, list, panel.n, set, cancels, most) else {
+        return Verdict::Closed;
+    };
+    if len < 1 {
+        return Verdict::Found;
     }
-    if g.len < 1 {
-        return Verdict {
-            found: true,
-            split: false,
-            m: Monomial::ONE,
-        };
+    let listed = &list[..WIDTH * len];
+    if counting::closes(panel, listed, set, room) {
+        return Verdict::Closed;
     }
-    let used = WIDTH * g.len;
-    if counting::closes(panel, &list[..used], set, room) {
-        return closed;
-    }
-    let p = gathering::cheapest_of(&list[..used]);
-    let m = p.m;
-    Verdict {
-        found: false,
-        split: true,
-        m,
-    }
+    let m = gathering::cheapest_of(listed).unwrap();
+    Verdict::Split(m)
 }

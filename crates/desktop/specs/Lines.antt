@@ -8,8 +8,7 @@ use Rattle.wiring.specs.Signals.{signals, signals_of, Fitting}
 use Rattle.wiring.specs.Terms.{CleanTerms}
 use Rattle.wiring.specs.declared.signals.Signals.{Signals}
 use Rattle.reader.specs.Reader.{Readable}
-use Rattle.reader.specs.declared.Verdict.{Verdict}
-use Rattle.reader.specs.declared.Verdict.TheVariants.{Whole, Broken}
+use Rattle.reader.specs.Said.{Verdict, whole, broken}
 use Rattle.listing.specs.Held.{Fair}
 use Rattle.listing.specs.Lines.{lefts}
 use Rattle.listing.specs.Meaning.{Product, signed, names, lines}
@@ -37,7 +36,7 @@ unfoldable pub false_line : Known → List (Poly Mono) → List ℕ → ℕ
 false_line k fs text = length (names k text) + 3 + place not (line_tests k fs text)
 
 unfoldable pub lines_said : Known → List (Poly Mono) → List ℕ → Verdict
-lines_said k fs text = cond (all (λ b. b) (line_tests k fs text)) Whole (Broken (false_line k fs text))
+lines_said k fs text = cond (all (λ b. b) (line_tests k fs text)) whole (broken (false_line k fs text))
 
 -- ---- as the code notes a term
 abbrev pub Notes : Type 0

@@ -1,8 +1,8 @@
 -- Reading a listing for a system, for all inputs: the reply, and the set that comes back. Checks run 1, 2, then record by record, 10, 8, 11.
 -- Assumes nothing.
-use Rattle.std.specs.Prelude.{Bool, cond, ◌&&◌, List, ℕ, ◌≤◌, leb, length}
+use Rattle.std.specs.Prelude.{Bool, cond, ◌&&◌, List, ℕ, ◌≤◌, leb, length, Ok, Err}
 use Rattle.monomial.specs.Monomial.{Mono, width}
-use Rattle.wiring.specs.Panel.{cards, set_bytes}
+use Rattle.wiring.specs.Panel.{set_bytes}
 use Rattle.wiring.specs.Sockets.{panel_right}
 use Rattle.wiring.specs.Reply.{Outcome, outcome, refused}
 use Rattle.wiring.specs.Poly.{Poly}
@@ -12,18 +12,12 @@ use Rattle.wiring.specs.Answers.{unless_fault}
 use Rattle.wiring.specs.declared.panel.Panel.{Panel}
 use Rattle.wiring.specs.declared.reply.Reply.{Reply}
 use Rattle.wiring.specs.declared.reply.Reply.TheVariants.{Done, Setting, Length, BadSet, Unreadable, FalseLine}
-use Rattle.reader.specs.Said.{said}
-use Rattle.reader.specs.declared.Verdict.{Verdict}
-use Rattle.reader.specs.declared.Verdict.TheVariants.{Whole, Broken}
+use Rattle.reader.specs.Said.{Verdict, said}
+pub use Rattle.listing.specs.Known.{known_to}
 use Rattle.listing.specs.Meaning.{names}
 use Rattle.listing.specs.Readable.{listing}
-use Rattle.listing.specs.declared.machine.Known.{Known}
 use Rattle.roster.specs.Roster.{forms_set, arranged}
 use Rattle.desktop.specs.Lines.{most_text, lines_said}
-
--- what the panel makes known to the reader of its listings
-abbrev pub known_to : Panel → Known
-known_to panel = record { n = panel.n; marks = panel.marks; cards = cards }
 
 -- a refusal, with a set of zeros; a test that holds lets the checks go on
 abbrev pub refusal : Reply → Outcome
@@ -33,8 +27,8 @@ abbrev pub unless : Bool → Reply → Outcome → Outcome
 unless test answer rest = cond test rest (refusal answer)
 
 abbrev pub unless_broken : (ℕ → Reply) → Verdict → Outcome → Outcome
-unless_broken answer Whole rest = rest
-unless_broken answer (Broken p) rest = refusal (answer p)
+unless_broken answer (Ok w) rest = rest
+unless_broken answer (Err b) rest = refusal (answer b.place)
 
 -- what is said of a readable text
 unfoldable pub judged : Panel → List (Poly Mono) → List ℕ → Outcome

@@ -9,12 +9,13 @@ ghost use Rattle.desktop.specs.Lines.{Notes, Says, product_of, ends_term, ends_l
 use listing::machine::Known;
 use listing::saying::Saying;
 use listing::{machine, saying};
-use reader::Verdict;
+use reader::Broken;
 use truth::truth as sums;
 use truth::truth::Sums;
 use wiring::signals::Signals;
 
 // Of the term that is read its sign, its coefficient (0 where none is written) and its signals.
+// The coefficient is no Option: `signed` of the listing's meaning holds 0 itself to be none.
 #[derive(Clone, Copy)]
 pub struct Telling {
     pub negative: bool,
@@ -42,31 +43,16 @@ fn note(t: Telling, said: Saying) -> Telling
     match said {
         Saying::Minus => Telling {
             negative: true,
-            number: t.number,
-            a: t.a,
-            b: t.b,
+            ..t
         },
-        Saying::Number(number) => Telling {
-            negative: t.negative,
-            number,
-            a: t.a,
-            b: t.b,
-        },
+        Saying::Number(number) => Telling { number, ..t },
         Saying::Name(s) => Telling {
-            negative: t.negative,
-            number: t.number,
             a: t.b,
             b: s as usize,
+            ..t
         },
-        Saying::Again => Telling {
-            negative: t.negative,
-            number: t.number,
-            a: t.b,
-            b: t.b,
-        },
-        Saying::TermEnds => no_term(),
-        Saying::LineEnds => no_term(),
-        Saying::ZeroLine => no_term(),
+        Saying::Again => Telling { a: t.b, ..t },
+        Saying::TermEnds | Saying::LineEnds | Saying::ZeroLine => no_term(),
         _ => t,
     }
 }
@@ -74,21 +60,13 @@ fn note(t: Telling, said: Saying) -> Telling
 fn ends_term(said: Saying) -> bool
     ensures { result ≡ ends_term said }
 {
-    match said {
-        Saying::TermEnds => true,
-        Saying::LineEnds => true,
-        _ => false,
-    }
+    matches!(said, Saying::TermEnds | Saying::LineEnds)
 }
 
 fn ends_line(said: Saying) -> bool
     ensures { result ≡ ends_line said }
 {
-    match said {
-        Saying::LineEnds => true,
-        Saying::ZeroLine => true,
-        _ => false,
-    }
+    matches!(said, Saying::LineEnds | Saying::ZeroLine)
 }
 
 // A term that is whole is added up.
@@ -103,7 +81,7 @@ fn add_ended(v: Signals, totals: Sums, t: Telling, said: Saying) -> Sums
 }
 
 // The first line of a readable text that is false, by its number in the text.
-pub(crate) fn judge_lines(known: Known, terms: &[u8], v: Signals, text: &[u8]) -> Verdict
+pub(crate) fn judge_lines(known: Known, terms: &[u8], v: Signals, text: &[u8]) -> Result<(), Broken>
     requires { Judging known terms.now v text.now }
     ensures { result ≡ lines_said known (system (records terms.now)) text.now }
 {
@@ -112,22 +90,21 @@ pub(crate) fn judge_lines(known: Known, terms: &[u8], v: Signals, text: &[u8]) -
     let mut t = no_term();
     let mut totals = sums::no_terms();
     let mut line: u64 = 0;
-    let mut i: usize = 0;
-    while i < text.len() {
-        let x = machine::wide(text[i]);
+    for &x in text {
         let said = saying::say(known, g, x);
         totals = add_ended(v, totals, t, said);
         if ends_line(said) {
-            let left = machine::left_of(known, names, line) as usize;
+            let left = machine::left_of(known, names, line).unwrap() as usize;
             if !sums::is_true(terms, v, left, totals) {
-                return Verdict::Broken(names + 3 + line);
+                return Err(Broken {
+                    place: names + 3 + line,
+                });
             }
             totals = sums::no_terms();
             line += 1;
         }
         t = note(t, said);
         g = machine::eat(known, g, x);
-        i += 1;
     }
-    Verdict::Whole
+    Ok(())
 }

@@ -27,10 +27,11 @@ pub struct Naming {
     pub power: u64,
 }
 
+#[tactic(auto, unfolding(crate::specs::Names::cap))]
 fn capped(x: u64) -> u64
     ensures { result ≡ cap x }
 {
-    if x <= ABOVE { x } else { ABOVE }
+    x.min(ABOVE)
 }
 
 // The monomial with one power more.
@@ -39,7 +40,7 @@ fn closed(mono: Monomial, variable: usize, power: u64) -> Monomial
     ensures { result.e ≡ set mono.e variable (cap (get_or mono.e variable 0 + power)) }
 {
     let mut e = mono.e;
-    let sum = capped(machine::wide(e[variable]) + power);
+    let sum = capped(u64::from(e[variable]) + power);
     e[variable] = sum as u8;
     Monomial::of(e)
 }
@@ -49,29 +50,20 @@ fn note(k: Naming, said: Saying) -> Naming
     requires { Ready k said }
     ensures { (q : Notes) → Holds q k → Holds (named said q) result }
 {
-    let names = k.names;
-    let mono = k.mono;
     match said {
         Saying::Variable(v) => Naming {
-            names,
-            mono: closed(mono, k.variable, k.power),
+            mono: closed(k.mono, k.variable, k.power),
             variable: v as usize,
             power: 1,
+            ..k
         },
-        Saying::Raised => Naming {
-            names,
-            mono,
-            variable: k.variable,
-            power: 0,
-        },
+        Saying::Raised => Naming { power: 0, ..k },
         Saying::Digit(d) => Naming {
-            names,
-            mono,
-            variable: k.variable,
             power: capped(10 * k.power + d),
+            ..k
         },
         Saying::NameEnds => Naming {
-            names: sets::with_last(names, closed(mono, k.variable, k.power)),
+            names: sets::with_last(k.names, closed(k.mono, k.variable, k.power)),
             mono: Monomial::ONE,
             variable: 0,
             power: 0,
@@ -92,12 +84,9 @@ pub(crate) fn names_of(known: Known, text: &[u8]) -> Set
         power: 0,
     };
     let mut g = machine::begin();
-    let mut i: usize = 0;
-    while i < text.len() {
-        let x = machine::wide(text[i]);
+    for &x in text {
         k = note(k, saying::say(known, g, x));
         g = machine::eat(known, g, x);
-        i += 1;
     }
     k.names
 }

@@ -12,17 +12,16 @@ ghost use Rattle.desktop.specs.Read.{known_to, refusal, unless_broken, judged, r
 use super::{lines, names};
 use listing::machine;
 use listing::machine::Known;
-use reader::Verdict;
 use roster::roster as sets;
-use wiring::panel::{CARDS, Panel, SET_BYTES};
+use wiring::panel::{Panel, SET_BYTES};
 use wiring::reply::Reply;
-use wiring::terms::Fault;
 use wiring::{signals, sockets, terms};
 
 // The most bytes that a text may have.
 pub const MOST_TEXT: usize = 4096;
 
 // What is said of a listing, and the record of its set: zeros after a refusal.
+// The set stands beside the reply and no Result holds it: the clause of `read_listing` gives every byte of it, after a refusal too.
 #[derive(Clone, Copy)]
 pub struct Heard {
     pub reply: Reply,
@@ -38,32 +37,19 @@ fn refused(reply: Reply) -> Heard
     }
 }
 
-// What the panel makes known to the reader of its listings.
-fn known_to(panel: Panel) -> Known
-    ensures { result ≡ known_to panel }
-{
-    Known {
-        n: panel.n as u64,
-        marks: panel.marks,
-        cards: CARDS as u64,
-    }
-}
-
 // Judges a readable text: its names are to form a set, and its lines to be true.
 fn judge(panel: Panel, terms: &[u8], text: &[u8]) -> Heard
     requires { Reading panel terms.now text.now × Readable (listing (known_to panel)) text.now }
     ensures { outcome result.reply result.set ≡ judged panel (system (records terms.now)) text.now }
 {
-    let known = known_to(panel);
+    let known = Known::from(panel);
     let names = names::names_of(known, text);
-    let formed = sets::set_of(panel, names);
-    if !formed.good {
+    let Some(set) = sets::set_of(panel, names) else {
         return refused(Reply::BadSet);
-    }
-    let set = formed.record;
+    };
     let v = signals::signals_of(panel.n, names);
     match lines::judge_lines(known, terms, v, text) {
-        Verdict::Whole => Heard {
+        Ok(()) => Heard {
             reply: Reply::Done {
                 order: names.len as u64,
                 count: 0,
@@ -71,7 +57,9 @@ fn judge(panel: Panel, terms: &[u8], text: &[u8]) -> Heard
             },
             set,
         },
-        Verdict::Broken(place) => refused(Reply::FalseLine { place }),
+        Err(broken) => refused(Reply::FalseLine {
+            place: broken.place,
+        }),
     }
 }
 
@@ -81,9 +69,11 @@ fn read_text(panel: Panel, terms: &[u8], text: &[u8]) -> Heard
     ensures { outcome result.reply result.set
         ≡ unless_broken Unreadable (said (listing (known_to panel)) text.now) (judged panel (system (records terms.now)) text.now) }
 {
-    match machine::read(known_to(panel), text) {
-        Verdict::Whole => judge(panel, terms, text),
-        Verdict::Broken(place) => refused(Reply::Unreadable { place }),
+    match machine::read(Known::from(panel), text) {
+        Ok(()) => judge(panel, terms, text),
+        Err(broken) => refused(Reply::Unreadable {
+            place: broken.place,
+        }),
     }
 }
 
@@ -106,8 +96,7 @@ pub fn read_listing(n: u64, marks: u64, degree: u64, terms: &[u8], text: &[u8]) 
         degree,
     };
     match terms::fault_of(panel, terms) {
-        Fault::Clean => read_text(panel, terms, text),
-        Fault::Wrong(place) => refused(Reply::Term { place }),
-        Fault::Repeated(place) => refused(Reply::Twice { place }),
+        Ok(()) => read_text(panel, terms, text),
+        Err(fault) => refused(Reply::from(fault)),
     }
 }

@@ -1,12 +1,11 @@
--- Lines that are told by their numbers, in a lent line, none of them empty: none is told exactly behind the last, and who
--- writes line 0, 1, .. and stops at the first that is none has written all of them and nothing else. Assumes nothing.
-use Rattle.std.proofs.Common.{◌≡◌, ℕ, zero, suc, ◌<◌, ◌≤◌, leb, ◌↔◌, List, [], ◌∷◌, ◌++◌, map, length, get_or, take, ap, ◌∙◌, arith, ext_get_or, leb-false, leb-true}
+-- Lines that are told by their numbers: none of them is empty, so that none is told exactly behind the last; and who writes
+-- line 0, 1, .. and stops at the first that is none has written all of them and nothing else. Assumes nothing.
+use Rattle.std.proofs.Common.{◌≡◌, ℕ, zero, suc, ◌<◌, ◌≤◌, Bool, true, false, leb, ◌↔◌, List, [], ◌∷◌, ◌++◌, map, length, get_or, IsTrue, sym, refl, ap, ◌∙◌, arith, ext_get_or, leb-false, leb-true}
 use lib.ListN.{length-map, get_or-eq_default}
 use Rattle.monomial.specs.Lists.{below}
 use Rattle.monomial.proofs.Tests.{Tested, passed, failed, test}
 use Rattle.monomial.proofs.Counting.{below_length, below_at, below_out}
 use Rattle.monomial.proofs.Members.{map_same}
-use Rattle.lines.specs.Text.{Stands}
 
 -- each line has a byte, its newline
 abbrev pub Filled : List (List ℕ) → Type 0
@@ -35,47 +34,56 @@ all_lines lines =
     ext_get_or [] (map (λ k. get_or lines k []) (below n)) lines many (λ i h. below_at (λ k. get_or lines k []) n i [] (omega arith))
 
 module _ (lines : List (List ℕ)) (filled : Filled lines) where
-  module _ (k : ℕ) {end : ℕ} {l m : List ℕ} (s : Stands (get_or lines k []) end l m) where
-    pub line_none : (end ≡ 0) ↔ (length lines ≤ k)
+  module _ (k : ℕ) {text : List ℕ} (s : text ≡ get_or lines k []) where
+    pub line_none : (text ≡ []) ↔ (length lines ≤ k)
     line_none = (out, back)
       where
-        out : end ≡ 0 → length lines ≤ k
+        out : text ≡ [] → length lines ≤ k
         out e = go (test (leb (length lines) k))
           where
             go : Tested (leb (length lines) k) → length lines ≤ k
             go (passed t) = leb-true (length lines) k t
-            go (failed t) = absurd (omega (arith, s.1.ends, filled k (leb-false (length lines) k t)))
+            go (failed t) =
+                let none : length (get_or lines k []) ≡ 0 = ap length (sym s ∙ e) in
+                absurd (omega (arith, none, filled k (leb-false (length lines) k t)))
 
-        back : length lines ≤ k → end ≡ 0
-        back h =
-            let none : get_or lines k [] ≡ [] = get_or-eq_default lines [] h in
-            omega (arith, s.1.ends, ap length none)
+        back : length lines ≤ k → text ≡ []
+        back h = s ∙ get_or-eq_default lines [] h
 
     -- a line that is told is one of them
-    pub line_told : (end ≡ 0 → ⊥) → k < length lines
+    pub line_told : (text ≡ [] → ⊥) → k < length lines
     line_told f = go (test (leb (length lines) k))
       where
         go : Tested (leb (length lines) k) → k < length lines
         go (passed t) = absurd (f (line_none.1 (leb-true (length lines) k t)))
         go (failed t) = leb-false (length lines) k t
 
-  -- line number k as it was told: its length, and the lent line before and after; and the number at which none was told
-  module _ (ends : ℕ → ℕ) (before line : ℕ → List ℕ) (stop : ℕ) (told : (k : ℕ) → k ≤ stop → Stands (get_or lines k []) (ends k) (before k) (line k))
-      (some : (k : ℕ) → k < stop → ends k ≡ 0 → ⊥) (none : ends stop ≡ 0) where
-    all_told : stop ≡ length lines
-    all_told = go (test (leb stop (length lines)))
-      where
-        enough : length lines ≤ stop
-        enough = (line_none stop (told stop (omega arith))).0 none
+-- line number k as it was told: its text, and whether there is one; and the number at which none was told
+module _ (lines : List (List ℕ)) (text : ℕ → List ℕ) (there : ℕ → Bool) (stop : ℕ)
+    (told : (k : ℕ) → k ≤ stop → (text k ≡ get_or lines k []) × ((there k ≡ true) ↔ (k < length lines)))
+    (some : (k : ℕ) → k < stop → there k ≡ true) (none : there stop ≡ false) where
+  all_told : stop ≡ length lines
+  all_told = go (test (leb stop (length lines)))
+    where
+      enough : Tested (leb (length lines) stop) → length lines ≤ stop
+      enough (passed t) = leb-true (length lines) stop t
+      enough (failed t) = let one = (told stop (omega arith)).1.1 (leb-false (length lines) stop t) in cc
 
-        go : Tested (leb stop (length lines)) → stop ≡ length lines
-        go (passed t) = omega (arith, enough, leb-true stop (length lines) t)
-        go (failed t) =
-            let last : ℕ = length lines in
-            let inside : last < stop = leb-false stop last t in
-            absurd (some last inside ((line_none last (told last (omega arith))).1 (omega arith)))
+      go : Tested (leb stop (length lines)) → stop ≡ length lines
+      go (passed t) = omega (arith, enough (test (leb (length lines) stop)), leb-true stop (length lines) t)
+      go (failed t) =
+          let last : ℕ = length lines in
+          let inside : last < stop = leb-false stop last t in
+          absurd (omega (arith, (told last (omega arith)).1.0 (some last inside)))
 
-    pub lines_written : map (λ k. take (ends k) (line k)) (below stop) ≡ lines
-    lines_written =
-        map_same (λ k. take (ends k) (line k)) (λ k. get_or lines k []) (below stop) (λ k h. let low : k < stop = below_out stop k h in (told k (omega arith)).1.front)
-        ∙ rw all_told (all_lines lines)
+  pub lines_written : map text (below stop) ≡ lines
+  lines_written =
+      map_same text (λ k. get_or lines k []) (below stop) (λ k h. let low : k < stop = below_out stop k h in (told k (omega arith)).0)
+      ∙ rw all_told (all_lines lines)
+
+-- whether there is a line is said by its number
+pub told_yes : {k n : ℕ} → k < n → IsTrue true ↔ (k < n)
+told_yes h = (λ _. h, λ _. refl)
+
+pub told_no : {k n : ℕ} → n ≤ k → IsTrue false ↔ (k < n)
+told_no h = (λ e. cc, λ j. absurd (omega arith))

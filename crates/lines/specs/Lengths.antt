@@ -10,6 +10,10 @@ number_bytes = 20
 abbrev pub piece_bytes : ℕ
 piece_bytes = suc number_bytes
 
+-- a reply: five numbers, and the end of the line
+abbrev pub reply_bytes : ℕ
+reply_bytes = suc (piece_bytes * 5)
+
 -- the exponents of a monomial; and the monomials of a set, with a byte before each
 abbrev pub powers_bytes : ℕ
 powers_bytes = piece_bytes * width

@@ -1,6 +1,5 @@
--- Text is a list of bytes: numbers in decimal, pieces joined by a byte, and a piece put into a line. Assumes nothing.
-use Rattle.std.specs.Prelude.{◌≡◌, ℕ, zero, suc, ◌+◌, ◌/◌, ◌%◌, ◌≤◌, cond, List, [], ◌∷◌, ◌++◌, length, take, drop, ℤ, pos, negsuc, nat_lt}
-use Rattle.io.specs.Counts.{IsPrefixLen}
+-- Text is a list of bytes: numbers in decimal, and pieces joined by a byte. Assumes nothing.
+use Rattle.std.specs.Prelude.{ℕ, zero, suc, ◌+◌, ◌/◌, ◌%◌, cond, List, [], ◌∷◌, ◌++◌, ℤ, pos, negsuc, nat_lt}
 use Rattle.monomial.specs.Lists.{gather}
 
 abbrev pub newline : ℕ
@@ -40,15 +39,3 @@ joined between (x ∷ l) = x ++ gather (λ y. between ∷ y) l
 abbrev pub lead : ℕ → ℕ → List ℕ
 lead zero between = []
 lead (suc i) between = between ∷ []
-
--- a piece was put into a line from `at` on, up to `end`; no other byte was changed
-pub record Added (piece : List ℕ) (at end : ℕ) (line after : List ℕ) : Type 0 where
-  pub ends : end ≡ at + length piece
-  pub room : end ≤ length after
-  pub long : length after ≡ length line
-  pub front : take end after ≡ take at line ++ piece
-  pub rest : drop end after ≡ drop end line
-
--- a text stands at the start of a line, up to `end`; no other byte was changed
-abbrev pub Stands : List ℕ → ℕ → List ℕ → List ℕ → Type 0
-Stands text end line after = IsPrefixLen end after × Added text 0 end line after

@@ -1,86 +1,79 @@
-// The lines of an answer: the five numbers of a reply, a set by its record, a wiring record.
-ghost use Rattle.std.specs.Prelude.{◌≡◌, ◌+◌, ◌*◌, ◌<◌, ◌≤◌, min, length, take, drop};
+// The lines of an answer: the five numbers of a reply, a set by its record, a wiring record. A line that is made takes the place
+// of what was there before.
+ghost use Rattle.std.specs.Prelude.{◌≡◌, ◌+◌, ◌*◌, ◌≤◌, ◌++◌, length, take, drop};
 ghost use Rattle.monomial.specs.Monomial.{width};
 ghost use Rattle.wiring.specs.Panel.{set_bytes};
-ghost use Rattle.lines.specs.Lengths.{powers_bytes, set_text_bytes};
-ghost use Rattle.lines.specs.Text.{Added, Stands};
+ghost use Rattle.lines.specs.Lengths.{reply_bytes, powers_bytes, set_text_bytes};
 ghost use Rattle.lines.specs.Answer.{reply_line, exponents, set_text, set_line, wire_line};
 
 use super::lengths::LINE_BYTES;
-use super::text;
+use super::text::Line;
 use monomial::Monomial;
 use monomial::width::WIDTH;
 use wiring::coefficient;
 use wiring::panel::{CARDS, SET_BYTES, WIRE_BYTES};
 
-fn least(a: usize, b: usize) -> usize
-    ensures { result ≡ min a b }
+// Code, order, count, steps and place, behind what the line holds.
+pub fn put_reply<const N: usize>(five: [u64; 5], line: &mut Line<N>)
+    requires { length line.old + reply_bytes ≤ N }
+    ensures { line.new ≡ line.old ++ reply_line five }
 {
-    if a < b { a } else { b }
+    line.put_joined(&five, b' ');
+    line.put_text(b"\n");
 }
 
-// Code, order, count, steps and place.
-pub fn reply_line(five: [u64; 5], line: &mut [u8; LINE_BYTES]) -> usize
-    ensures { Stands (reply_line five) result line.old line.new }
+pub fn reply_line(five: [u64; 5], line: &mut Line<LINE_BYTES>)
+    ensures { line.new ≡ reply_line five }
 {
-    let end = text::put_joined(&five, b' ', line, 0);
-    text::put_text(b"\n", line, end)
+    line.clear();
+    put_reply(five, line);
 }
 
 // The six exponents at place i of a set record.
-fn put_monomial(bytes: &[u8], i: usize, line: &mut [u8], at: usize) -> usize
-    requires { (width * i + width ≤ length bytes.now) × (at + powers_bytes ≤ length line.old) }
-    ensures { Added (exponents (take width (drop (width * i) bytes.now))) at result line.old line.new ×
-        (result ≤ at + powers_bytes) }
+fn put_monomial(bytes: &[u8], i: usize, line: &mut Line<LINE_BYTES>)
+    requires there { width * i + width ≤ length bytes.now }
+    requires room { length line.old + powers_bytes ≤ LINE_BYTES }
+    ensures text { line.new ≡ line.old ++ exponents (take width (drop (width * i) bytes.now)) }
+    ensures short { length line.new ≤ length line.old + powers_bytes }
 {
     let m = Monomial::read(bytes, WIDTH * i);
-    let e = m.e;
-    let powers = [
-        text::wide(e[0]),
-        text::wide(e[1]),
-        text::wide(e[2]),
-        text::wide(e[3]),
-        text::wide(e[4]),
-        text::wide(e[5]),
-    ];
-    text::put_joined(&powers, b'.', line, at)
+    line.put_joined(&m.e.map(u64::from), b'.');
 }
 
 // The first `size` monomials of a set record, or all that it has.
-fn put_set(bytes: &[u8], size: usize, line: &mut [u8], at: usize) -> usize
-    requires { (length bytes.now ≡ set_bytes) × (at + set_text_bytes ≤ length line.old) }
-    ensures { Added (set_text bytes.now size) at result line.old line.new × (result ≤ at + set_text_bytes) }
+fn put_set(bytes: &[u8], size: usize, line: &mut Line<LINE_BYTES>)
+    requires whole { length bytes.now ≡ set_bytes }
+    requires room { length line.old + set_text_bytes ≤ LINE_BYTES }
+    ensures text { line.new ≡ line.old ++ set_text bytes.now size }
+    ensures short { length line.new ≤ length line.old + set_text_bytes }
 {
-    let len = least(size, CARDS);
-    let mut end = at;
-    let mut i: usize = 0;
-    while i < len {
-        end = text::put_lead(i, b' ', line, end);
-        end = put_monomial(bytes, i, line, end);
-        i += 1;
+    for i in 0..size.min(CARDS) {
+        line.put_lead(i, b' ');
+        put_monomial(bytes, i, line);
     }
-    end
 }
 
 // A set by its record and size.
-pub fn set_line(bytes: &[u8; SET_BYTES], size: usize, line: &mut [u8; LINE_BYTES]) -> usize
-    ensures { Stands (set_line bytes.now size) result line.old line.new }
+pub fn set_line(bytes: &[u8; SET_BYTES], size: usize, line: &mut Line<LINE_BYTES>)
+    ensures { line.new ≡ set_line bytes.now size }
 {
-    let end = put_set(bytes, size, line, 0);
-    text::put_text(b"\n", line, end)
+    line.clear();
+    put_set(bytes, size, line);
+    line.put_text(b"\n");
 }
 
 // Left variable, first and second factor, coefficient.
-pub fn wire_line(bytes: &[u8; WIRE_BYTES], line: &mut [u8; LINE_BYTES]) -> usize
-    ensures { Stands (wire_line bytes.now) result line.old line.new }
+pub fn wire_line(bytes: &[u8; WIRE_BYTES], line: &mut Line<LINE_BYTES>)
+    ensures { line.new ≡ wire_line bytes.now }
 {
     let three = [
-        text::wide(bytes[0]),
-        text::wide(bytes[1]),
-        text::wide(bytes[2]),
+        u64::from(bytes[0]),
+        u64::from(bytes[1]),
+        u64::from(bytes[2]),
     ];
-    let end = text::put_joined(&three, b' ', line, 0);
-    let next = text::put_text(b" ", line, end);
-    let last = text::put_signed(coefficient::decode(bytes, 4), line, next);
-    text::put_text(b"\n", line, last)
+    line.clear();
+    line.put_joined(&three, b' ');
+    line.put_text(b" ");
+    line.put_signed(coefficient::decode(bytes, 4));
+    line.put_text(b"\n");
 }

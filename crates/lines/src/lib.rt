@@ -1,5 +1,5 @@
-// Lines of text that the programs print, in a lent line of 1,024 bytes, which is always enough; and numbers that they
-// read. Nothing here reads or writes but `words`, which asks for the words of the command line.
+// Lines of text that the programs print, each in a line of 1,024 bytes, which is always enough; and numbers that they read.
+// Nothing here reads or writes but `words`, which asks for the words of the command line, and `write`, which writes lines.
 //
 // Rests on what the crates wiring and monomial promise, and on the kit's decimal and hexadecimal digits.
 #![tactic(auto)]
@@ -11,3 +11,4 @@ pub mod lengths;
 pub mod number;
 pub mod text;
 pub mod words;
+pub mod write;

@@ -2,53 +2,26 @@
 ghost use Rattle.std.specs.Prelude.{◌≡◌, [], ◌∷◌};
 ghost use Rattle.lines.specs.Number.{number_from, number_of};
 
-use super::text;
-
-#[derive(Clone, Copy)]
-pub enum Number {
-    Of(u64),
-    Nothing,
-}
-
-// The number v with one more digit behind it. No sum is made before it is known to fit.
-fn followed(v: u64, x: u8) -> Number
+// The number v with one more digit behind it.
+fn followed(v: u64, x: u8) -> Option<u64>
     ensures { result ≡ number_from v (x ∷ []) }
 {
-    if x < b'0' {
-        return Number::Nothing;
+    if !x.is_ascii_digit() {
+        return None;
     }
-    if b'9' < x {
-        return Number::Nothing;
-    }
-    let digit = text::wide(x - b'0');
-    if 1844674407370955161 < v {
-        return Number::Nothing;
-    }
-    let tens = 10 * v;
-    if 18446744073709551615 - tens < digit {
-        return Number::Nothing;
-    }
-    Number::Of(tens + digit)
+    let tens = v.checked_mul(10)?;
+    tens.checked_add(u64::from(x - b'0'))
 }
 
-pub fn number_of(word: &[u8]) -> Number
+pub fn number_of(word: &[u8]) -> Option<u64>
     ensures { result ≡ number_of word.now }
 {
-    if word.len() == 0 {
-        return Number::Nothing;
+    if word.is_empty() {
+        return None;
     }
-    let mut v: u64 = 0;
-    let mut i: usize = 0;
-    while i < word.len() {
-        match followed(v, word[i]) {
-            Number::Of(next) => {
-                v = next;
-            }
-            Number::Nothing => {
-                return Number::Nothing;
-            }
-        }
-        i += 1;
+    let mut v = 0;
+    for &x in word {
+        v = followed(v, x)?;
     }
-    Number::Of(v)
+    Some(v)
 }

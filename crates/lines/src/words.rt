@@ -2,7 +2,6 @@
 ghost use Rattle.std.specs.Prelude.{◌≤◌};
 
 use super::number;
-use super::number::Number;
 use std::env::{Env, FillError};
 
 // A longer word is taken for none.
@@ -28,12 +27,9 @@ pub fn count_words<R: Env>(rt: &R, most: usize) -> usize
     most
 }
 
-// Word number i, read as a number; the program's name has number 0. One that is missing or over 4,096 bytes comes as an
-// empty word, which is no number.
-pub fn number_at<R: Env>(rt: &R, i: usize) -> Number {
+// Word number i, read as a number; the program's name has number 0. One that is missing or over 4,096 bytes is no number.
+pub fn number_at<R: Env>(rt: &R, i: usize) -> Option<u64> {
     let mut word = [0u8; WORD_BYTES];
-    match rt.arg(i, &mut word) {
-        Ok(length) => number::number_of(&word[..length]),
-        Err(_) => number::number_of(&[]),
-    }
+    let length = rt.arg(i, &mut word).ok()?;
+    number::number_of(&word[..length])
 }

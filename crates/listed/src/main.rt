@@ -5,7 +5,6 @@
 //     listed N MARKS DEGREE BYTES < term-records text     reads: so many bytes are the term records
 #![tactic(auto)]
 
-mod input;
 mod reading;
 mod typing;
 mod words;
@@ -13,8 +12,10 @@ mod words;
 ghost use Rattle.listed.specs.Typing.{Ready};
 
 use desktop::read::Heard;
-use lines::answer;
 use lines::lengths::LINE_BYTES;
+use lines::text::Line;
+use lines::{answer, write};
+use std::convert::AsSlice;
 use typed::typed::LISTED_BYTES;
 use typing::Typing;
 use wiring::panel::WIRES_BYTES;
@@ -28,37 +29,23 @@ const MOST_WORDS: usize = 6;
 fn write_typing(t: Typing, wires: &[u8; WIRES_BYTES])
     requires { Ready t wires.now }
 {
-    let mut line = [0u8; LISTED_BYTES];
-    let mut k: usize = 0;
-    loop {
-        let end = typing::typing_line(t, wires, k, &mut line);
-        if end == 0 {
-            return;
-        }
-        io::write_all(1, &line[..end]);
-        k += 1;
-    }
+    write::write_lines(Line::new(), |k: usize, line: &mut Line<LISTED_BYTES>| {
+        typing::typing_line(t, wires, k, line)
+    });
 }
 
 // Writes line after line of what was read, until there is none.
 fn write_reading(h: Heard) {
-    let mut line = [0u8; LINE_BYTES];
-    let mut k: usize = 0;
-    loop {
-        let end = reading::reading_line(h, k, &mut line);
-        if end == 0 {
-            return;
-        }
-        io::write_all(1, &line[..end]);
-        k += 1;
-    }
+    write::write_lines(Line::new(), |k: usize, line: &mut Line<LINE_BYTES>| {
+        reading::reading_line(h, k, line)
+    });
 }
 
 // Of so many words as ask for nothing the reply of code 1 is told.
 fn write_wrong() {
-    let mut line = [0u8; LINE_BYTES];
-    let end = answer::reply_line(reply::numbers(Reply::Setting), &mut line);
-    io::write_all(1, &line[..end]);
+    let mut line = Line::new();
+    answer::reply_line(reply::numbers(Reply::Setting), &mut line);
+    io::write_all(1, line.as_slice());
 }
 
 // Reads the input, and types.
@@ -79,23 +66,18 @@ fn read_listing(n: u64, marks: u64, degree: u64, bytes: u64) {
 
 // The program's name stands before the words.
 fn main(rt: HostRuntime) {
-    let count = lines::words::count_words(&rt, MOST_WORDS);
-    if count == 4 {
-        type_listing(
+    match lines::words::count_words(&rt, MOST_WORDS) {
+        4 => type_listing(
             words::word_at(&rt, 1),
             words::word_at(&rt, 2),
             words::word_at(&rt, 3),
-        );
-        return;
-    }
-    if count == 5 {
-        read_listing(
+        ),
+        5 => read_listing(
             words::word_at(&rt, 1),
             words::word_at(&rt, 2),
             words::word_at(&rt, 3),
             words::word_at(&rt, 4),
-        );
-        return;
+        ),
+        _ => write_wrong(),
     }
-    write_wrong();
 }

@@ -1,16 +1,15 @@
-// Reads a listing, and then gives the lines of what is said of it one by one, in a lent line.
-ghost use Rattle.std.specs.Prelude.{◌≡◌, [], length, get_or, take, drop};
+// Reads a listing, and then gives the lines of what is said of it one by one.
+ghost use Rattle.std.specs.Prelude.{◌≡◌, [], ◌<◌, ◌↔◌, length, get_or, take, drop, IsTrue};
 ghost use Rattle.wiring.specs.Sockets.{panel_of};
 ghost use Rattle.wiring.specs.Reply.{outcome};
 ghost use Rattle.desktop.specs.Read.{read_listing};
-ghost use Rattle.lines.specs.Text.{Stands};
 ghost use Rattle.listed.specs.Reading.{most_read, heard_lines};
 
-use super::input;
 use desktop::read;
 use desktop::read::{Heard, MOST_TEXT};
 use lines::answer;
 use lines::lengths::LINE_BYTES;
+use lines::text::Line;
 use wiring::panel::TERMS_BYTES;
 use wiring::reply;
 
@@ -29,28 +28,29 @@ pub(crate) fn prepare_reading(n: u64, marks: u64, degree: u64, bytes: u64, input
     ensures { outcome result.reply result.set
         ≡ read_listing (panel_of n marks degree) (take bytes input.now) (drop bytes input.now) }
 {
-    let at = input::first_bytes(bytes, input.len());
+    let at = bytes.min(input.len() as u64) as usize;
     let terms = &input[..at];
     let text = &input[at..];
     read::read_listing(n, marks, degree, terms, text)
 }
 
-// Line number k of all that is written, from 0: its length, and 0 behind the last line. No line is empty: each has its
-// newline.
-pub(crate) fn reading_line(h: Heard, k: usize, line: &mut [u8; LINE_BYTES]) -> usize
-    ensures { Stands (get_or (heard_lines (outcome h.reply h.set)) k []) result line.old line.new }
+// Line number k of all that is written, from 0, and whether there is one: nothing behind the last.
+pub(crate) fn reading_line(h: Heard, k: usize, line: &mut Line<LINE_BYTES>) -> bool
+    ensures text { line.new ≡ get_or (heard_lines (outcome h.reply h.set)) k [] }
+    ensures there { IsTrue result ↔ (k < length (heard_lines (outcome h.reply h.set))) }
 {
-    let reply = h.reply;
-    let five = reply::numbers(reply);
+    let five = reply::numbers(h.reply);
     if k == 0 {
-        return answer::reply_line(five, line);
+        answer::reply_line(five, line);
+        return true;
     }
+    line.clear();
     if five[0] != 0 {
-        return 0;
+        return false;
     }
     if k != 1 {
-        return 0;
+        return false;
     }
-    let set = h.set;
-    answer::set_line(&set, five[1] as usize, line)
+    answer::set_line(&h.set, five[1] as usize, line);
+    true
 }

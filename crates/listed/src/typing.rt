@@ -1,14 +1,11 @@
-// Types the listing of a given set: wires it once, and then gives the lines one by one, in a lent line.
-ghost use Rattle.std.specs.Prelude.{◌≡◌, [], length, get_or};
+// Types the listing of a given set: wires it once, and then gives the lines one by one.
+ghost use Rattle.std.specs.Prelude.{◌≡◌, [], ◌<◌, ◌↔◌, length, get_or, IsTrue};
 ghost use Rattle.wiring.specs.Sockets.{panel_of};
-ghost use Rattle.lines.specs.Text.{Stands};
-ghost use Rattle.lines.specs.Answer.{reply_line};
 ghost use Rattle.lines.specs.Input.{set_in, terms_in};
 ghost use Rattle.listed.specs.Typing.{most_typed, typed_lines, Ready, Types};
 
-use super::input;
-use lines::lengths::LINE_BYTES;
-use lines::{answer, text};
+use lines::answer;
+use lines::text::Line;
 use listing::machine::Known;
 use typed::typed as listings;
 use typed::typed::LISTED_BYTES;
@@ -45,7 +42,7 @@ pub(crate) fn prepare_typing(
 ) -> Typing
     ensures { Types (panel_of n marks degree) (terms_in input.now) (set_in input.now) result wires.new }
 {
-    let at = input::first_bytes(SET_BYTES as u64, input.len());
+    let at = SET_BYTES.min(input.len());
     let given = &input[..at];
     let terms = &input[at..];
     let mut set = [0u8; SET_BYTES];
@@ -59,39 +56,29 @@ pub(crate) fn prepare_typing(
     Typing { reply, known, set }
 }
 
-// The line of a reply, in a line for listings.
-fn put_reply(five: [u64; 5], line: &mut [u8; LISTED_BYTES]) -> usize
-    ensures { Stands (reply_line five) result line.old line.new }
-{
-    let mut first = [0u8; LINE_BYTES];
-    let end = answer::reply_line(five, &mut first);
-    text::put_text(&first[..end], line, 0)
-}
-
-// Line number k of all that is written, from 0: its length, and 0 behind the last line. No line is empty: each has its
-// newline.
+// Line number k of all that is written, from 0, and whether there is one: nothing behind the last.
 pub(crate) fn typing_line(
     t: Typing,
     wires: &[u8; WIRES_BYTES],
     k: usize,
-    line: &mut [u8; LISTED_BYTES],
-) -> usize
+    line: &mut Line<LISTED_BYTES>,
+) -> bool
     requires { Ready t wires.now }
-    ensures { Stands (get_or (typed_lines t wires.now) k []) result line.old line.new }
+    ensures text { line.new ≡ get_or (typed_lines t wires.now) k [] }
+    ensures there { IsTrue result ↔ (k < length (typed_lines t wires.now)) }
 {
-    let reply = t.reply;
-    let five = reply::numbers(reply);
+    let five = reply::numbers(t.reply);
+    line.clear();
     if k == 0 {
-        return put_reply(five, line);
+        answer::put_reply(five, line);
+        return true;
     }
     if five[0] != 0 {
-        return 0;
+        return false;
     }
-    let known = t.known;
-    let set = t.set;
     listings::line_at(
-        known,
-        &set,
+        t.known,
+        &t.set,
         five[1] as usize,
         wires,
         five[2] as usize,

@@ -1,5 +1,5 @@
 -- How a cheap pair is found by V. Assumes nothing.
-use Rattle.std.specs.Prelude.{◌≡◌, true, cond, List, [], ◌∷◌, ◌++◌, map, ℕ, ◌/◌, ◌<◌, T, length, get_or}
+use Rattle.std.specs.Prelude.{Bool, true, cond, List, [], ◌∷◌, ◌++◌, map, ℕ, ◌/◌, ◌<◌, T, length, get_or, Option, None, Some, IfSome, IsSomeAnd}
 use Rattle.monomial.specs.Monomial.{Mono, one, width}
 use Rattle.monomial.specs.Order.{before}
 use Rattle.monomial.specs.Quotient.{quo, divides}
@@ -31,21 +31,26 @@ pub record CheapFrom (v : List Mono) (m a d : Mono) : Type 0 where
 abbrev pub tried : List Mono → Mono → ℕ → Mono
 tried v m i = lead_of m (get_or (asked v m) i (one width))
 
+-- c stands before the nearest so far, if there is one
+abbrev pub ahead : Mono → Option Near → Bool
+ahead c None = true
+ahead c (Some near) = before c near.a.e
+
 module _ (v : List Mono) (m a : Mono) where
   -- what is told is a cheap pair from a on, with what V holds of it
-  abbrev pub Own : Near → Type 0
-  Own r = r.some ≡ true → CheapFrom v m a r.a.e × Holds v (split m r.a.e) r.held
+  abbrev pub Own : Option Near → Type 0
+  Own r = IfSome r (λ near. CheapFrom v m a near.a.e × Holds v (split m near.a.e) near.held)
 
   -- where d begins one, one is told, and not one behind it
-  abbrev pub NotBehind : Near → Mono → Type 0
-  NotBehind r d = CheapFrom v m a d → (r.some ≡ true) × (T (before d r.a.e) → ⊥)
+  abbrev pub NotBehind : Option Near → Mono → Type 0
+  NotBehind r d = CheapFrom v m a d → IsSomeAnd r (λ near. T (before d near.a.e) → ⊥)
 
   -- the nearest of the first j that are asked
-  pub record Nearing (r : Near) (j : ℕ) : Type 0 where
+  pub record Nearing (r : Option Near) (j : ℕ) : Type 0 where
     pub own : Own r
     pub least : (i : ℕ) → i < j → NotBehind r (tried v m i)
 
   -- the nearest of all
-  pub record Nearest (r : Near) : Type 0 where
+  pub record Nearest (r : Option Near) : Type 0 where
     pub own : Own r
     pub least : (d : Mono) → NotBehind r d

@@ -1,10 +1,11 @@
 -- What the lister has in hand, and what is left to list. Assumes nothing.
-use Rattle.std.specs.Prelude.{◌≡◌, Bool, true, false, cond, List, [], ◌∷◌, ◌++◌, ℕ, ◌+◌, T, length}
+use Rattle.std.specs.Prelude.{◌≡◌, Bool, true, false, cond, List, [], ◌∷◌, ◌++◌, ℕ, ◌+◌, T, length, IfSome, OnSome, IfNone}
 use Rattle.monomial.specs.Lists.{keep}
 use Rattle.monomial.specs.Monomial.{Mono, one, width}
 use Rattle.monomial.specs.Quotient.{divides}
 use Rattle.monomial.specs.Divisors.{leads, pairs, next}
 use Rattle.monomial.specs.Claims.{Pair, split, pairs_from}
+use Rattle.lister.specs.declared.cheap.Held.{Held}
 use Rattle.lister.specs.declared.passes.Place.{Place}
 use Rattle.lister.specs.declared.passes.Hand.{Hand}
 use Rattle.lister.specs.Cheap.{of_kind, Holds}
@@ -33,19 +34,19 @@ module _ (v : List Mono) (m : Mono) where
     pub counted : listed + length (kind_from rest a) ≡ length (kind rest)
 
   -- a pair is in hand, with what V holds of it and the place behind it
-  pub record Picked (h : Hand) : Type 0 where
-    pub divisor : T (divides h.at.a.e m)
-    pub leading : T (leads m h.at.a.e)
-    pub held : Holds v (split m h.at.a.e) h.held
-    pub behind : Standing h.at.rest (next m h.at.a.e) h.at.listed
+  pub record Picked (at : Place) (h : Held) : Type 0 where
+    pub divisor : T (divides at.a.e m)
+    pub leading : T (leads m at.a.e)
+    pub held : Holds v (split m at.a.e) h
+    pub behind : Standing at.rest (next m at.a.e) at.listed
 
   -- a pair of the place's kind was sought from it on, and picked; or there is none, and all of them are listed
   pub record Sought (from : Place) (h : Hand) : Type 0 where
     pub kept : h.at.rest ≡ from.rest
-    pub picked : h.some ≡ true → Picked h
-    pub lists : h.some ≡ true → kind_from from.rest from.a.e ≡ split m h.at.a.e ∷ kind_from from.rest (next m h.at.a.e)
-    pub none : h.some ≡ false → kind_from from.rest from.a.e ≡ []
-    pub over : h.some ≡ false → h.at.listed ≡ length (kind from.rest)
+    pub picked : IfSome h.held (Picked h.at)
+    pub lists : OnSome h.held (kind_from from.rest from.a.e ≡ split m h.at.a.e ∷ kind_from from.rest (next m h.at.a.e))
+    pub none : IfNone h.held (kind_from from.rest from.a.e ≡ [])
+    pub over : IfNone h.held (h.at.listed ≡ length (kind from.rest))
 
   -- what is listed from a place on: its kind from there, and behind the cheap pairs the rest, where all are asked for
   abbrev pub list_from : Bool → Bool → Mono → List Pair
@@ -58,9 +59,9 @@ module _ (v : List Mono) (m : Mono) where
 
   -- the pair in hand is the first that is listed from a place on; or none is
   pub record Found (all rest : Bool) (a : Mono) (h : Hand) : Type 0 where
-    pub picked : h.some ≡ true → Picked h
-    pub lists : h.some ≡ true → list_from all rest a ≡ split m h.at.a.e ∷ list_from all h.at.rest (next m h.at.a.e)
-    pub none : h.some ≡ false → list_from all rest a ≡ []
+    pub picked : IfSome h.held (Picked h.at)
+    pub lists : OnSome h.held (list_from all rest a ≡ split m h.at.a.e ∷ list_from all h.at.rest (next m h.at.a.e))
+    pub none : IfNone h.held (list_from all rest a ≡ [])
     -- where not all are asked for, no pair of the rest is listed, and at the end all cheap ones are
     pub cheap_only : all ≡ false → h.at.rest ≡ false
-    pub over : all ≡ false → h.some ≡ false → h.at.listed ≡ length (kind false)
+    pub over : all ≡ false → IfNone h.held (h.at.listed ≡ length (kind false))

@@ -16,22 +16,11 @@ pub struct Held {
     pub second: bool,
 }
 
-impl Held {
-    // Of no pair.
-    pub const NOTHING: Held = Held {
-        first: false,
-        second: false,
-    };
-}
-
 // Whether the first of a pair adds nothing to the second: they are one, or V has it.
 fn is_met(n: usize, set: &[u8], a: Monomial, b: Monomial) -> bool
     ensures { result ≡ same a.e b.e || any (same a.e) (signals_at n set.now) }
 {
-    if a.same(b) {
-        return true;
-    }
-    signals::is_signal(n, set, a)
+    a.same(b) || signals::is_signal(n, set, a)
 }
 
 pub fn look_up(n: usize, set: &[u8], a: Monomial, b: Monomial) -> Held
@@ -46,18 +35,12 @@ pub fn look_up(n: usize, set: &[u8], a: Monomial, b: Monomial) -> Held
 fn is_cheap(h: Held) -> bool
     ensures { (v : List Mono) (p : Mono × Mono) → Holds v p h → result ≡ cheap v p }
 {
-    if h.first {
-        return !h.second;
-    }
-    h.second
+    h.first != h.second
 }
 
 // Whether a pair is of the kind that is asked for: of the rest, or cheap.
 pub fn is_of(rest: bool, h: Held) -> bool
     ensures { (v : List Mono) (p : Mono × Mono) → Holds v p h → result ≡ of_kind v rest p }
 {
-    if is_cheap(h) {
-        return !rest;
-    }
-    rest
+    is_cheap(h) != rest
 }

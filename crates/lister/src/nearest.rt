@@ -1,11 +1,11 @@
 // The cheap pairs of a monomial, by V: one of the two is in V, or they are one. So V and the root are gone through, and not the divisors.
-ghost use Rattle.std.specs.Prelude.{◌≡◌, not, ◌&&◌, ◌||◌, ℕ, ◌+◌, ◌/◌, ◌≤◌, T, length, get_or};
+ghost use Rattle.std.specs.Prelude.{◌≡◌, not, ◌&&◌, ℕ, ◌+◌, ◌/◌, ◌≤◌, T, length, get_or};
 ghost use Rattle.monomial.specs.Monomial.{one, width};
 ghost use Rattle.monomial.specs.Order.{before};
 ghost use Rattle.monomial.specs.Quotient.{divides};
 ghost use Rattle.monomial.specs.Divisors.{leads};
 ghost use Rattle.wiring.specs.Signals.{signals_at};
-ghost use Rattle.lister.specs.Nearest.{root_of, lead_of, asked, tried, Nearing, Nearest};
+ghost use Rattle.lister.specs.Nearest.{root_of, lead_of, asked, tried, ahead, Nearing, Nearest};
 
 use super::cheap;
 use super::cheap::Held;
@@ -13,10 +13,9 @@ use monomial::Monomial;
 use monomial::width::WIDTH;
 use wiring::signals;
 
-// Where some is true, the cheap pair that begins with a.
+// The cheap pair that begins with a.
 #[derive(Clone, Copy)]
 pub struct Near {
-    pub some: bool,
     pub a: Monomial,
     pub held: Held,
 }
@@ -25,14 +24,11 @@ pub struct Near {
 fn half(m: Monomial) -> Monomial
     ensures { result.e ≡ root_of m.e }
 {
-    let e = m.e;
-    let mut r = [0u8; WIDTH];
-    let mut i: usize = 0;
-    while i < WIDTH {
-        r[i] = e[i] / 2;
-        i += 1;
+    let mut e = [0u8; WIDTH];
+    for i in 0..WIDTH {
+        e[i] = m.e[i] / 2;
     }
-    Monomial { e: r }
+    Monomial { e }
 }
 
 // The first of the pair of m that w is of. What divides nothing is taken for 1, which is the first of a pair too.
@@ -59,21 +55,32 @@ fn candidate(n: usize, set: &[u8], m: Monomial, j: usize) -> Monomial
     lead_of(half(m), m)
 }
 
-// Whether c stands from a on, and before the nearest so far.
-fn is_nearer(c: Monomial, a: Monomial, near: Near) -> bool
-    ensures { result ≡ not (before c.e a.e) && (not near.some || before c.e near.a.e) }
+// Whether c stands before the nearest so far, if there is one.
+fn is_ahead(c: Monomial, near: Option<Near>) -> bool
+    ensures { result ≡ ahead c.e near }
 {
-    if c.before(a) {
-        return false;
+    match near {
+        None => true,
+        Some(near) => c.before(near.a),
     }
-    if !near.some {
-        return true;
-    }
-    c.before(near.a)
+}
+
+// Whether c stands from a on, and before the nearest so far.
+fn is_nearer(c: Monomial, a: Monomial, near: Option<Near>) -> bool
+    ensures { result ≡ not (before c.e a.e) && ahead c.e near }
+{
+    !c.before(a) && is_ahead(c, near)
 }
 
 // The nearest so far, or c in its place where that begins a cheap pair and is nearer.
-fn nearer(n: usize, set: &[u8], m: Monomial, a: Monomial, near: Near, c: Monomial) -> Near
+fn nearer(
+    n: usize,
+    set: &[u8],
+    m: Monomial,
+    a: Monomial,
+    near: Option<Near>,
+    c: Monomial,
+) -> Option<Near>
     requires { T (divides c.e m.e) × T (leads m.e c.e) }
     ensures { (j : ℕ) → Nearing (signals_at n set.now) m.e a.e near j → c.e ≡ tried (signals_at n set.now) m.e j →
         Nearing (signals_at n set.now) m.e a.e result (j + 1) }
@@ -85,29 +92,18 @@ fn nearer(n: usize, set: &[u8], m: Monomial, a: Monomial, near: Near, c: Monomia
     if !cheap::is_of(false, held) {
         return near;
     }
-    Near {
-        some: true,
-        a: c,
-        held,
-    }
+    Some(Near { a: c, held })
 }
 
 // The first cheap pair of m from a on.
-pub fn nearest(n: usize, set: &[u8], m: Monomial, a: Monomial) -> Near
+pub fn nearest(n: usize, set: &[u8], m: Monomial, a: Monomial) -> Option<Near>
     requires { n ≤ width }
     ensures { Nearest (signals_at n set.now) m.e a.e result }
 {
-    let last = n + 1 + set.len() / WIDTH;
-    let mut near = Near {
-        some: false,
-        a,
-        held: Held::NOTHING,
-    };
-    let mut j: usize = 0;
-    while j <= last {
-        let c = candidate(n, set, m, j);
-        near = nearer(n, set, m, a, near, c);
-        j += 1;
+    let members = n + 1 + set.len() / WIDTH;
+    let mut near = None;
+    for j in 0..members + 1 {
+        near = nearer(n, set, m, a, near, candidate(n, set, m, j));
     }
     near
 }

@@ -21,19 +21,19 @@ pub struct Place {
     pub listed: u64,
 }
 
-// The pair in hand, which begins with the divisor of its place and is the last that is listed; or none where some is false.
+// The pair in hand, which begins with the divisor of its place and is the last that is listed, by what V holds of it; or none, and the place where the
+// pass has ended.
 #[derive(Clone, Copy)]
 pub struct Hand {
-    pub some: bool,
     pub at: Place,
-    pub held: Held,
+    pub held: Option<Held>,
 }
 
 // So many pairs has m: of two divisors one leads, and the root of a square by itself.
 fn count(m: Monomial) -> u64
     ensures { result ≡ length (pairs m.e) }
 {
-    (m.score() + 1) / 2
+    m.score().div_ceil(2)
 }
 
 // The place before the first pair.
@@ -52,15 +52,9 @@ pub fn start(m: Monomial) -> Place
 pub fn behind(m: Monomial, at: Place) -> Place
     ensures { (result.rest ≡ at.rest) × ((result.a.e ≡ next m.e at.a.e) × (result.listed ≡ at.listed)) }
 {
-    let rest = at.rest;
-    let many = at.many;
-    let a = at.a.next_divisor(m);
-    let listed = at.listed;
     Place {
-        rest,
-        many,
-        a,
-        listed,
+        a: at.a.next_divisor(m),
+        ..at
     }
 }
 
@@ -77,35 +71,21 @@ fn seek(n: usize, set: &[u8], m: Monomial, from: Place) -> Hand
     requires { Proper m.e × Standing (signals_at n set.now) m.e from.rest from.a.e from.listed }
     ensures { Sought (signals_at n set.now) m.e from result }
 {
-    let rest = from.rest;
-    let many = from.many;
-    let listed = from.listed;
     let mut a = from.a;
     while a.leads(m) {
         let held = cheap::look_up(n, set, a, m.over(a));
-        if cheap::is_of(rest, held) {
+        if cheap::is_of(from.rest, held) {
+            let listed = from.listed + 1;
             return Hand {
-                some: true,
-                at: Place {
-                    rest,
-                    many,
-                    a,
-                    listed: listed + 1,
-                },
-                held,
+                at: Place { a, listed, ..from },
+                held: Some(held),
             };
         }
         a = a.next_divisor(m);
     }
     Hand {
-        some: false,
-        at: Place {
-            rest,
-            many,
-            a,
-            listed,
-        },
-        held: Held::NOTHING,
+        at: Place { a, ..from },
+        held: None,
     }
 }
 
@@ -113,12 +93,11 @@ fn seek(n: usize, set: &[u8], m: Monomial, from: Place) -> Hand
 fn rest_of(at: Place) -> Place
     ensures { (result.rest ≡ true) × ((result.a.e ≡ one width) × (result.listed ≡ 0)) }
 {
-    let many = at.many;
     Place {
         rest: true,
-        many,
         a: Monomial::ONE,
         listed: 0,
+        ..at
     }
 }
 
@@ -127,34 +106,20 @@ fn by_v(n: usize, set: &[u8], m: Monomial, from: Place) -> Hand
     requires { (n ≤ width) × (Proper m.e × (Standing (signals_at n set.now) m.e from.rest from.a.e from.listed × (from.rest ≡ false))) }
     ensures { Sought (signals_at n set.now) m.e from result }
 {
-    let rest = from.rest;
-    let many = from.many;
-    let a = from.a;
-    let listed = from.listed;
-    let near = nearest::nearest(n, set, m, a);
-    if !near.some {
+    let Some(near) = nearest::nearest(n, set, m, from.a) else {
         return Hand {
-            some: false,
-            at: Place {
-                rest,
-                many,
-                a,
-                listed,
-            },
-            held: Held::NOTHING,
+            at: from,
+            held: None,
         };
-    }
-    let first = near.a;
-    let held = near.held;
+    };
+    let listed = from.listed + 1;
     Hand {
-        some: true,
         at: Place {
-            rest,
-            many,
-            a: first,
-            listed: listed + 1,
+            a: near.a,
+            listed,
+            ..from
         },
-        held,
+        held: Some(near.held),
     }
 }
 
@@ -163,10 +128,8 @@ fn pass(n: usize, set: &[u8], m: Monomial, from: Place) -> Hand
     requires { (n ≤ width) × (Proper m.e × Standing (signals_at n set.now) m.e from.rest from.a.e from.listed) }
     ensures { Sought (signals_at n set.now) m.e from result }
 {
-    if from.many {
-        if !from.rest {
-            return by_v(n, set, m, from);
-        }
+    if from.many && !from.rest {
+        return by_v(n, set, m, from);
     }
     seek(n, set, m, from)
 }
@@ -177,19 +140,11 @@ pub fn find(n: usize, set: &[u8], m: Monomial, all: bool, from: Place) -> Hand
     ensures { Found (signals_at n set.now) m.e all from.rest from.a.e result }
 {
     let mut at = from;
+    // A loop: of two calls the pass would be a function by itself, and each pair would take longer.
     loop {
         let h = pass(n, set, m, at);
-        if h.some {
-            return h;
-        }
-        if at.rest {
-            return h;
-        }
-        if !all {
-            return h;
-        }
         // Of most small nonsquares all pairs are cheap.
-        if left(m, h.at.listed) < 1 {
+        if h.held.is_some() || at.rest || !all || left(m, h.at.listed) < 1 {
             return h;
         }
         at = rest_of(at);

@@ -7,6 +7,8 @@ use native.Mathlib.Omega.{arith}
 use lib.Dec.{leb, ltb, leb→le}
 use lib.ListN.{length, get_or, length-append, get_or-eq_default}
 use borrow.Author.Tests.{ltb-false, ltb-true, eq-eqb, ne_eqb}
+use Rattle.std.specs.Prelude.{Option, Some, None, slice_get, unwrap_or}
+use Rattle.std.proofs.lemmas.Option.{slice_get_past, unwrap_or-slice_get}
 use Rattle.wiring.specs.Sockets.{halved, marked}
 use Rattle.listing.specs.Lines.{unmarked, up_from, lefts, left_of, letter_of, digit_of}
 use Rattle.reader.specs.Bytes.{nought}
@@ -80,11 +82,11 @@ digit_byte r names line few small =
     (λ t. omega (arith, leb→le (left_of r names line) r.n t)) (λ u. omega (arith, left_bound r names line))
 
 -- ---- the loop that looks for the signal of a line: `more` lines are still to be passed from variable i on
-up_from_at : (i k j : ℕ) → j < k → get_or (up_from i k) j 0 ≡ i + j
+up_from_at : (i k j : ℕ) → j < k → slice_get (up_from i k) j ≡ Some (i + j)
 unfolding up_from
 up_from_at i zero j h = absurd (omega arith)
-up_from_at i (suc k) zero h = omega arith
-up_from_at i (suc k) (suc j) h = let ih : get_or (up_from (i + 1) k) j 0 ≡ (i + 1) + j = up_from_at (i + 1) k j (omega arith) in omega arith
+up_from_at i (suc k) zero h = ap Some (let e : i ≡ i + 0 = omega arith in e)
+up_from_at i (suc k) (suc j) h = up_from_at (i + 1) k j (omega arith) ∙ ap Some (let e : (i + 1) + j ≡ i + suc j = omega arith in e)
 
 -- the lowest bit
 bit_off : (marks : ℕ) → marks % 2 ≡ 0 → marked marks 0 ≡ false
@@ -99,77 +101,79 @@ unmarked_on : (k marks i : ℕ) (b : Bool) → marked marks 0 ≡ b → unmarked
 unfolding unmarked
 unmarked_on k marks i b e = rw e
 
+-- what is told of a line, as a number
+pub left_told : (r : Known) (names line : ℕ) (o : Option ℕ) → o ≡ slice_get (lefts r names) line → unwrap_or o 0 ≡ left_of r names line
+unfolding left_of
+left_told r names line o e = ap (λ (p : Option ℕ). unwrap_or p 0) e ∙ unwrap_or-slice_get (lefts r names) line 0
+
 pub record Counting (r : Known) (names line marks i more : ℕ) : Type 0 where
   pub left : ℕ
   pub total : i + left ≡ r.n + 1
   pub low : 1 ≤ i
-  pub rest : get_or (unmarked left marks i ++ up_from (r.n + 1) names) more 0 ≡ left_of r names line
+  pub rest : slice_get (unmarked left marks i ++ up_from (r.n + 1) names) more ≡ slice_get (lefts r names) line
 
 pub counting_start : (r : Known) (names line : ℕ) → Counting r names line r.marks 1 line
-unfolding left_of lefts
+unfolding lefts
 counting_start r names line = record { left = r.n; total = omega arith; low = omega arith; rest = refl }
 
 module _ {r : Known} {names line marks i more : ℕ} (c : Counting r names line marks i more) where
-  here_at : (k : ℕ) → 0 < k → marks % 2 ≡ 0 → get_or (unmarked k marks i ++ up_from (r.n + 1) names) 0 0 ≡ i
+  here_at : (k : ℕ) → 0 < k → marks % 2 ≡ 0 → slice_get (unmarked k marks i ++ up_from (r.n + 1) names) 0 ≡ Some i
   here_at zero h e = absurd (omega arith)
   here_at (suc k) h e = rw (unmarked_on k marks i false (bit_off marks e))
 
-  pub counting_here : i ≤ r.n → marks % 2 ≡ 0 → more ≡ 0 → i ≡ left_of r names line
+  pub counting_here : i ≤ r.n → marks % 2 ≡ 0 → more ≡ 0 → Some i ≡ slice_get (lefts r names) line
   counting_here h e z = sym (here_at c.left (omega arith) e) ∙ rw z at c.rest
 
-  next_at : (k j : ℕ) → c.left ≡ suc k → more ≡ suc j → marks % 2 ≡ 0 → get_or (unmarked k (marks / 2) (i + 1) ++ up_from (r.n + 1) names) j 0 ≡ left_of r names line
+  next_at : (k j : ℕ) → c.left ≡ suc k → more ≡ suc j → marks % 2 ≡ 0 → slice_get (unmarked k (marks / 2) (i + 1) ++ up_from (r.n + 1) names) j ≡ slice_get (lefts r names) line
   next_at k j l m e =
-      let whole : get_or (unmarked (suc k) marks i ++ up_from (r.n + 1) names) (suc j) 0 ≡ left_of r names line = rw (l, m) at c.rest in
+      let whole : slice_get (unmarked (suc k) marks i ++ up_from (r.n + 1) names) (suc j) ≡ slice_get (lefts r names) line = rw (l, m) at c.rest in
       rw (unmarked_on k marks i false (bit_off marks e)) at whole
 
   pub counting_next : i ≤ r.n → marks % 2 ≡ 0 → 0 < more → Counting r names line (marks / 2) (i + 1) (more - 1)
   counting_next h e m = record { left = c.left - 1; total = omega arith; low = omega arith; rest = next_at (c.left - 1) (more - 1) (omega arith) (omega arith) e }
 
-  skip_at : (k : ℕ) → c.left ≡ suc k → (marks % 2 ≡ 0 → ⊥) → get_or (unmarked k (marks / 2) (i + 1) ++ up_from (r.n + 1) names) more 0 ≡ left_of r names line
+  skip_at : (k : ℕ) → c.left ≡ suc k → (marks % 2 ≡ 0 → ⊥) → slice_get (unmarked k (marks / 2) (i + 1) ++ up_from (r.n + 1) names) more ≡ slice_get (lefts r names) line
   skip_at k l e =
-      let whole : get_or (unmarked (suc k) marks i ++ up_from (r.n + 1) names) more 0 ≡ left_of r names line = rw l at c.rest in
+      let whole : slice_get (unmarked (suc k) marks i ++ up_from (r.n + 1) names) more ≡ slice_get (lefts r names) line = rw l at c.rest in
       rw (unmarked_on k marks i true (bit_on marks e)) at whole
 
   pub counting_skip : i ≤ r.n → (marks % 2 ≡ 0 → ⊥) → Counting r names line (marks / 2) (i + 1) more
   counting_skip h e = record { left = c.left - 1; total = omega arith; low = omega arith; rest = skip_at (c.left - 1) (omega arith) e }
 
-  past_at : (k : ℕ) → k ≡ 0 → get_or (unmarked k marks i ++ up_from (r.n + 1) names) more 0 ≡ get_or (up_from (r.n + 1) names) more 0
+  past_at : (k : ℕ) → k ≡ 0 → slice_get (unmarked k marks i ++ up_from (r.n + 1) names) more ≡ slice_get (up_from (r.n + 1) names) more
   unfolding unmarked
   past_at zero h = refl
   past_at (suc k) h = absurd (omega arith)
 
-  pub counting_new : r.n < i → more < names → i + more ≡ left_of r names line
-  counting_new h m =
-      let new : get_or (up_from (r.n + 1) names) more 0 ≡ left_of r names line = sym (past_at c.left (omega arith)) ∙ c.rest in
-      let is : get_or (up_from (r.n + 1) names) more 0 ≡ (r.n + 1) + more = up_from_at (r.n + 1) names more m in
-      omega arith
+  pub counting_new : r.n < i → more < names → Some ((r.n + 1) + more) ≡ slice_get (lefts r names) line
+  counting_new h m = sym (up_from_at (r.n + 1) names more m) ∙ sym (past_at c.left (omega arith)) ∙ c.rest
 
-  pub counting_none : r.n < i → names ≤ more → 0 ≡ left_of r names line
+  pub counting_none : r.n < i → names ≤ more → None ≡ slice_get (lefts r names) line
   counting_none h m =
-      sym (get_or-eq_default (up_from (r.n + 1) names) 0 {n = more} (rw (up_from_length (r.n + 1) names) m)) ∙ sym (past_at c.left (omega arith)) ∙ c.rest
+      sym (slice_get_past (up_from (r.n + 1) names) more (rw (up_from_length (r.n + 1) names) m)) ∙ sym (past_at c.left (omega arith)) ∙ c.rest
 
 -- ---- every line has a signal, and behind the last there is none
-abbrev Some : List ℕ → Type 0
-Some l = (j : ℕ) → j < length l → 1 ≤ get_or l j 0
+abbrev Numbered : List ℕ → Type 0
+Numbered l = (j : ℕ) → j < length l → 1 ≤ get_or l j 0
 
-some_first : (x : ℕ) (l : List ℕ) → 1 ≤ x → Some l → Some (x ∷ l)
+some_first : (x : ℕ) (l : List ℕ) → 1 ≤ x → Numbered l → Numbered (x ∷ l)
 some_first x l h f zero i = h
 some_first x l h f (suc j) i = f j (omega arith)
 
-some_up_from : (i k : ℕ) → 1 ≤ i → Some (up_from i k)
+some_up_from : (i k : ℕ) → 1 ≤ i → Numbered (up_from i k)
 unfolding up_from
 some_up_from i zero h = λ j o. absurd (omega arith)
 some_up_from i (suc k) h = some_first i (up_from (i + 1) k) h (some_up_from (i + 1) k (omega arith))
 
-some_lefts : (m c k marks i : ℕ) → 1 ≤ i → 1 ≤ m → Some (unmarked k marks i ++ up_from m c)
+some_lefts : (m c k marks i : ℕ) → 1 ≤ i → 1 ≤ m → Numbered (unmarked k marks i ++ up_from m c)
 unfolding unmarked
 some_lefts m c zero marks i h o = some_up_from m c o
 some_lefts m c (suc k) marks i h o = go (some_lefts m c k (marks / 2) (i + 1) (omega arith) o)
   where
-    go : Some (unmarked k (marks / 2) (i + 1) ++ up_from m c)
-        → Some (cond (marked marks 0) (unmarked k (marks / 2) (i + 1)) (i ∷ unmarked k (marks / 2) (i + 1)) ++ up_from m c)
+    go : Numbered (unmarked k (marks / 2) (i + 1) ++ up_from m c)
+        → Numbered (cond (marked marks 0) (unmarked k (marks / 2) (i + 1)) (i ∷ unmarked k (marks / 2) (i + 1)) ++ up_from m c)
     go ih =
-        cond_cases (λ l. Some (l ++ up_from m c)) (marked marks 0) (unmarked k (marks / 2) (i + 1)) (i ∷ unmarked k (marks / 2) (i + 1))
+        cond_cases (λ l. Numbered (l ++ up_from m c)) (marked marks 0) (unmarked k (marks / 2) (i + 1)) (i ∷ unmarked k (marks / 2) (i + 1))
         (λ t. ih) (λ u. some_first i (unmarked k (marks / 2) (i + 1) ++ up_from m c) h ih)
 
 pub left_none : (r : Known) (names line : ℕ) → left_of r names line ≡ 0 → length (lefts r names) ≤ line

@@ -14,7 +14,7 @@ use Rattle.listing.specs.declared.machine.Known.{Known}
 use Rattle.listing.specs.declared.machine.Reading.{Reading}
 use Rattle.listing.specs.declared.machine.Reading.TheVariants.{Dead, Ended, At}
 use Rattle.reader.specs.Said.{said}
-use Rattle.reader.specs.declared.Verdict.TheVariants.{Broken}
+use Rattle.reader.specs.Said as saying
 use Rattle.reader.proofs.Exact.{broken_exact}
 use Rattle.listing.proofs.Keeps.{keeps, starts}
 use Rattle.listing.proofs.Finishes.{finishes, ended_finishes}
@@ -52,5 +52,5 @@ module _ (r : Known) where
   goes_on fair front = of_readers.goes_on (listing r) (lively fair) front
 
   -- code 10 and its place
-  pub broken : Fair r → (text : List ℕ) (p : ℕ) → (said (listing r) text ≡ Broken p) ↔ ((readable (listing r) text ≡ false) × Placed (listing r) text p)
+  pub broken : Fair r → (text : List ℕ) (p : ℕ) → (said (listing r) text ≡ saying.broken p) ↔ ((readable (listing r) text ≡ false) × Placed (listing r) text p)
   broken fair text p = broken_exact (listing r) (lively fair) text p

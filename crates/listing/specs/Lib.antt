@@ -7,3 +7,4 @@ pub mod Readable
 pub mod Saying
 pub mod Meaning
 pub mod Counted
+pub mod Known

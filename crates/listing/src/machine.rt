@@ -1,19 +1,35 @@
 // A machine that reads a listing byte by byte. It stops at the first byte behind which no readable listing goes on.
-ghost use Rattle.std.specs.Prelude.{◌≡◌, ◌+◌, ◌≤◌, ◌<◌, length};
+ghost use Rattle.std.specs.Prelude.{◌≡◌, ◌+◌, ◌≤◌, ◌<◌, length, slice_get, unwrap_or, IfSome};
 ghost use Rattle.reader.specs.Said.{said};
-ghost use Rattle.listing.specs.Lines.{left_of, letter_of, digit_of};
+ghost use Rattle.listing.specs.Known.{known_to};
+ghost use Rattle.listing.specs.Lines.{lefts, left_of, letter_of, digit_of};
 ghost use Rattle.listing.specs.Machine.{to, one, span, ended, spell, named, line_from, begin_name, begin_term, behind, in_coefficient, begin_line, eat_at, eat, start};
 ghost use Rattle.listing.specs.Held.{Fair, Held, InLine, Stands};
 ghost use Rattle.listing.specs.Readable.{alive, ends, listing};
 
-use reader::Verdict;
+use reader::Broken;
+use wiring::panel::{CARDS, Panel};
 
 // What is asked of the reader: how many variables, which of them are signals (bit i - 1 marks xi), how many new names there may be.
+// No ghost field says that it is fair: it is made of any settings, before they are found to be in range.
 #[derive(Clone, Copy)]
 pub struct Known {
     pub n: u64,
     pub marks: u64,
     pub cards: u64,
+}
+
+// What the panel makes known to the reader of its listings.
+impl From<Panel> for Known {
+    ghost from_gives = { λ panel known. known ≡ known_to panel };
+
+    fn from(panel: Panel) -> Known {
+        Known {
+            n: panel.n as u64,
+            marks: panel.marks,
+            cards: CARDS as u64,
+        }
+    }
 }
 
 // Where in a line the next byte stands.
@@ -69,6 +85,7 @@ pub struct State {
     pub number: u64,
 }
 
+// No Option of two states: the machine has a dead state, and stays in it (`Reader` and `Lively` of reader's specs).
 #[derive(Clone, Copy)]
 pub enum Reading {
     // no readable listing goes on so
@@ -78,73 +95,58 @@ pub enum Reading {
     At(State),
 }
 
-// A byte as a number.
-pub fn wide(x: u8) -> u64
-    ensures { (result ≡ x) × (result < 256) }
-{
-    x as u64
-}
-
 fn to(s: State, p: Place) -> Reading
     ensures { result ≡ to s p }
 {
     Reading::At(State {
         at: p,
-        names: s.names,
-        line: s.line,
         number: 0,
+        ..s
     })
 }
 
 // One byte leads on to a place; else it is as `other` says.
-fn one(x: u64, c: u64, s: State, p: Place, other: Reading) -> Reading
+#[tactic(auto, unfolding(crate::specs::Machine::one))]
+fn one(x: u8, c: u8, s: State, p: Place, other: Reading) -> Reading
     ensures { result ≡ one x c s p other }
 {
-    if x == c {
-        return to(s, p);
-    }
-    other
+    if x == c { to(s, p) } else { other }
 }
 
 // The bytes from low to high lead on to a place.
-fn span(x: u64, low: u64, high: u64, s: State, p: Place, other: Reading) -> Reading
+#[tactic(auto, unfolding(crate::specs::Machine::span))]
+fn span(x: u8, low: u8, high: u8, s: State, p: Place, other: Reading) -> Reading
     ensures { result ≡ span x low high s p other }
 {
-    if x < low {
-        return other;
+    if low <= x && x <= high {
+        to(s, p)
+    } else {
+        other
     }
-    if high < x {
-        return other;
-    }
-    to(s, p)
 }
 
 // A newline leads on to `go`.
-fn ended(x: u64, go: Reading, other: Reading) -> Reading
+#[tactic(auto, unfolding(crate::specs::Machine::ended))]
+fn ended(x: u8, go: Reading, other: Reading) -> Reading
     ensures { result ≡ ended x go other }
 {
-    if x == 10 {
-        return go;
-    }
-    other
+    if x == b'\n' { go } else { other }
 }
 
 // The next byte of a fixed word; behind the word it goes on as `done` says.
-fn spell(word: &[u8], x: u64, s: State, done: Reading) -> Reading
+#[tactic(auto, unfolding(crate::specs::Machine::spell))]
+fn spell(word: &[u8], x: u8, s: State, done: Reading) -> Reading
     requires { s.number < length word.now }
     ensures { result ≡ spell word.now x s done }
 {
     let at = s.number as usize;
-    if x != wide(word[at]) {
+    if x != word[at] {
         return Reading::Dead;
     }
     if at + 1 < word.len() {
-        let p = s.at;
         return Reading::At(State {
-            at: p,
-            names: s.names,
-            line: s.line,
             number: s.number + 1,
+            ..s
         });
     }
     done
@@ -158,105 +160,122 @@ fn named(s: State) -> Reading
     Reading::At(State {
         at: Place::Names,
         names: s.names + 1,
-        line: s.line,
         number: 0,
+        ..s
     })
 }
 
-// The signal whose derivative is told on a line, from 0; 0 behind the last.
-pub fn left_of(known: Known, names: u64, line: u64) -> u64
-    requires { (known.n ≤ 9) × (names ≤ 9) }
-    ensures { (result ≡ left_of known names line) × (result ≤ known.n + names) }
+// The signal whose derivative is told on a line, from 0; none behind the last.
+pub fn left_of(known: Known, names: u64, line: u64) -> Option<u64>
+    requires few { known.n ≤ 9 }
+    requires low { names ≤ 9 }
+    ensures told { result ≡ slice_get (lefts known names) line }
+    ensures number { unwrap_or result 0 ≡ left_of known names line }
+    ensures within { IfSome result (λ signal. (1 ≤ signal) × (signal ≤ known.n + names)) }
 {
     let mut marks = known.marks;
-    let mut i: u64 = 1;
     let mut more = line;
-    while i <= known.n {
+    for i in 1..known.n + 1 {
         if marks % 2 == 0 {
             if more == 0 {
-                return i;
+                return Some(i);
             }
             more -= 1;
         }
-        marks = marks / 2;
-        i += 1;
+        marks /= 2;
     }
     if more < names {
-        return i + more;
+        Some(known.n + 1 + more)
+    } else {
+        None
     }
-    0
 }
 
-pub fn letter_of(known: Known, signal: u64) -> u64
+// The signal of the line that a state is in, and 0 where its line is none of the listing's, which the clause of `eat` leaves open.
+fn signal_of(known: Known, s: State) -> u64
+    requires few { known.n ≤ 9 }
+    requires low { s.names ≤ 9 }
+    ensures number { result ≡ left_of known s.names s.line }
+    ensures within { result ≤ known.n + s.names }
+{
+    left_of(known, s.names, s.line).unwrap_or(0)
+}
+
+#[tactic(auto, unfolding(crate::specs::Lines::letter_of))]
+pub fn letter_of(known: Known, signal: u64) -> u8
     ensures { result ≡ letter_of known signal }
 {
-    if signal <= known.n { 120 } else { 119 }
+    if signal <= known.n { b'x' } else { b'w' }
 }
 
-pub fn digit_of(known: Known, signal: u64) -> u64
+#[tactic(auto, unfolding(crate::specs::Lines::digit_of))]
+pub fn digit_of(known: Known, signal: u64) -> u8
     requires { signal ≤ 18 }
     ensures { result ≡ digit_of known signal }
 {
     if signal <= known.n {
-        48 + signal
+        b'0' + signal as u8
     } else {
-        48 + (signal - (known.n + 1))
+        b'0' + (signal - (known.n + 1)) as u8
     }
 }
 
 // The line of this number begins, unless there is none.
+#[tactic(auto, unfolding(crate::specs::Machine::line_from))]
 fn line_from(known: Known, names: u64, line: u64) -> Reading
-    requires { (known.n ≤ 9) × (names ≤ 9) }
+    requires few { known.n ≤ 9 }
+    requires low { names ≤ 9 }
     ensures { result ≡ line_from known names line }
 {
-    if left_of(known, names, line) == 0 {
-        return Reading::Ended;
+    match left_of(known, names, line) {
+        None => Reading::Ended,
+        Some(_) => Reading::At(State {
+            at: Place::Line,
+            names,
+            line,
+            number: 0,
+        }),
     }
-    Reading::At(State {
-        at: Place::Line,
-        names,
-        line,
-        number: 0,
-    })
 }
 
 // A name begins, at p for a variable's digit and at q for a new name's.
-fn begin_name(x: u64, s: State, p: Place, q: Place) -> Reading
+#[tactic(auto, unfolding(crate::specs::Machine::begin_name))]
+fn begin_name(x: u8, s: State, p: Place, q: Place) -> Reading
     ensures { result ≡ begin_name x s p q }
 {
     if 0 < s.names {
-        return one(x, 120, s, p, one(x, 119, s, q, Reading::Dead));
+        return one(x, b'x', s, p, one(x, b'w', s, q, Reading::Dead));
     }
-    one(x, 120, s, p, Reading::Dead)
+    one(x, b'x', s, p, Reading::Dead)
 }
 
 // A term begins.
-fn begin_term(x: u64, s: State) -> Reading
+#[tactic(auto, unfolding(crate::specs::Machine::begin_term))]
+fn begin_term(x: u8, s: State) -> Reading
     ensures { result ≡ begin_term x s }
 {
-    let other = begin_name(x, s, Place::X1, Place::W1);
-    if x < 49 {
-        return other;
+    if b'1' <= x && x <= b'9' {
+        Reading::At(State {
+            at: Place::Coefficient,
+            number: u64::from(x - b'0'),
+            ..s
+        })
+    } else {
+        begin_name(x, s, Place::X1, Place::W1)
     }
-    if 57 < x {
-        return other;
-    }
-    Reading::At(State {
-        at: Place::Coefficient,
-        names: s.names,
-        line: s.line,
-        number: x - 48,
-    })
 }
 
 // A term is whole: a sign and the next term, or the line's end.
-fn behind(known: Known, x: u64, s: State) -> Reading
-    requires { (known.n ≤ 9) × ((s.names ≤ 9) × InLine known s) }
+#[tactic(auto, unfolding(crate::specs::Machine::behind))]
+fn behind(known: Known, x: u8, s: State) -> Reading
+    requires few { known.n ≤ 9 }
+    requires low { s.names ≤ 9 }
+    requires in_line { InLine known s }
     ensures { result ≡ behind known x s }
 {
     one(
         x,
-        32,
+        b' ',
         s,
         Place::Sign,
         ended(x, line_from(known, s.names, s.line + 1), Reading::Dead),
@@ -264,78 +283,82 @@ fn behind(known: Known, x: u64, s: State) -> Reading
 }
 
 // One more digit of the coefficient, or what stands behind it.
-fn in_coefficient(known: Known, x: u64, s: State) -> Reading
-    requires { (known.n ≤ 9) × ((s.names ≤ 9) × (InLine known s × (s.number ≤ 1000000000))) }
+#[tactic(auto, unfolding(crate::specs::Machine::in_coefficient))]
+fn in_coefficient(known: Known, x: u8, s: State) -> Reading
+    requires few { known.n ≤ 9 }
+    requires low { s.names ≤ 9 }
+    requires in_line { InLine known s }
+    requires limited { s.number ≤ 1000000000 }
     ensures { result ≡ in_coefficient known x s }
 {
-    let other = one(x, 42, s, Place::First, behind(known, x, s));
-    if x < 48 {
+    let other = one(x, b'*', s, Place::First, behind(known, x, s));
+    if x < b'0' || b'9' < x {
         return other;
     }
-    if 57 < x {
-        return other;
-    }
-    let longer = 10 * s.number + (x - 48);
+    let longer = 10 * s.number + u64::from(x - b'0');
     if 1000000000 < longer {
         return other;
     }
     Reading::At(State {
         at: Place::Coefficient,
-        names: s.names,
-        line: s.line,
         number: longer,
+        ..s
     })
 }
 
 // A line of the first part begins, or the blank line ends that part.
-fn begin_line(known: Known, x: u64, s: State) -> Reading
-    requires { (known.n ≤ 9) × (s.names ≤ 9) }
+#[tactic(auto, unfolding(crate::specs::Machine::begin_line))]
+fn begin_line(known: Known, x: u8, s: State) -> Reading
+    requires few { known.n ≤ 9 }
+    requires low { s.names ≤ 9 }
     ensures { result ≡ begin_line known x s }
 {
     let blank = line_from(known, s.names, 0);
     if s.names < known.cards {
-        return ended(x, blank, one(x, 119, s, Place::NewName, Reading::Dead));
+        return ended(x, blank, one(x, b'w', s, Place::NewName, Reading::Dead));
     }
     ended(x, blank, Reading::Dead)
 }
 
 // What the byte x leads to.
-fn eat_at(known: Known, x: u64, s: State) -> Reading
-    requires { Fair known × Held known s }
+#[tactic(auto, unfolding(crate::specs::Machine::eat_at))]
+fn eat_at(known: Known, x: u8, s: State) -> Reading
+    requires fair { Fair known }
+    requires holds { Held known s }
     ensures { result ≡ eat_at known x s s.at }
 {
     let dead = Reading::Dead;
-    let at = s.at;
-    match at {
+    let last_variable = b'0' + known.n as u8;
+    match s.at {
         Place::Heading => spell(b"Introduced variables:\n", x, s, to(s, Place::Names)),
         Place::Names => begin_line(known, x, s),
-        Place::NewName => one(x, 48 + s.names, s, Place::Equals, dead),
+        Place::NewName => one(x, b'0' + s.names as u8, s, Place::Equals, dead),
         Place::Equals => spell(b" = x", x, s, to(s, Place::Factor)),
-        Place::Factor => span(x, 49, 48 + known.n, s, Place::Power, dead),
-        Place::Power => one(x, 42, s, Place::Star, ended(x, named(s), dead)),
+        Place::Factor => span(x, b'1', last_variable, s, Place::Power, dead),
+        Place::Power => one(x, b'*', s, Place::Star, ended(x, named(s), dead)),
         Place::Star => one(
             x,
-            42,
+            b'*',
             s,
             Place::Exponent,
-            one(x, 120, s, Place::Factor, dead),
+            one(x, b'x', s, Place::Factor, dead),
         ),
-        Place::Exponent => span(x, 49, 57, s, Place::Digits, dead),
+        Place::Exponent => span(x, b'1', b'9', s, Place::Digits, dead),
         Place::Digits => {
             span(
                 x,
-                48,
-                57,
+                b'0',
+                b'9',
                 s,
                 Place::Digits,
-                one(x, 42, s, Place::Next, ended(x, named(s), dead)),
+                one(x, b'*', s, Place::Next, ended(x, named(s), dead)),
             )
         }
-        Place::Next => one(x, 120, s, Place::Factor, dead),
+        Place::Next => one(x, b'x', s, Place::Factor, dead),
         Place::Line => {
             one(
                 x,
-                letter_of(known, left_of(known, s.names, s.line)),
+                letter_of(known, signal_of(known, s)),
                 s,
                 Place::Left,
                 dead,
@@ -344,7 +367,7 @@ fn eat_at(known: Known, x: u64, s: State) -> Reading
         Place::Left => {
             one(
                 x,
-                digit_of(known, left_of(known, s.names, s.line)),
+                digit_of(known, signal_of(known, s)),
                 s,
                 Place::Prime,
                 dead,
@@ -353,42 +376,43 @@ fn eat_at(known: Known, x: u64, s: State) -> Reading
         Place::Prime => spell(b"' = ", x, s, to(s, Place::Right)),
         Place::Right => one(
             x,
-            48,
+            b'0',
             s,
             Place::Zero,
-            one(x, 45, s, Place::Term, begin_term(x, s)),
+            one(x, b'-', s, Place::Term, begin_term(x, s)),
         ),
         Place::Zero => ended(x, line_from(known, s.names, s.line + 1), dead),
         Place::Term => begin_term(x, s),
         Place::Coefficient => in_coefficient(known, x, s),
         Place::First => begin_name(x, s, Place::X1, Place::W1),
-        Place::X1 => span(x, 49, 48 + known.n, s, Place::One, dead),
-        Place::W1 => span(x, 48, 48 + (s.names - 1), s, Place::One, dead),
-        Place::One => one(x, 42, s, Place::Times, behind(known, x, s)),
+        Place::X1 => span(x, b'1', last_variable, s, Place::One, dead),
+        Place::W1 => span(x, b'0', b'0' + (s.names - 1) as u8, s, Place::One, dead),
+        Place::One => one(x, b'*', s, Place::Times, behind(known, x, s)),
         Place::Times => one(
             x,
-            42,
+            b'*',
             s,
             Place::Square,
             begin_name(x, s, Place::X2, Place::W2),
         ),
-        Place::Square => one(x, 50, s, Place::Two, dead),
-        Place::X2 => span(x, 49, 48 + known.n, s, Place::Two, dead),
-        Place::W2 => span(x, 48, 48 + (s.names - 1), s, Place::Two, dead),
+        Place::Square => one(x, b'2', s, Place::Two, dead),
+        Place::X2 => span(x, b'1', last_variable, s, Place::Two, dead),
+        Place::W2 => span(x, b'0', b'0' + (s.names - 1) as u8, s, Place::Two, dead),
         Place::Two => behind(known, x, s),
-        Place::Sign => one(x, 43, s, Place::Gap, one(x, 45, s, Place::Gap, dead)),
-        Place::Gap => one(x, 32, s, Place::Term, dead),
+        Place::Sign => one(x, b'+', s, Place::Gap, one(x, b'-', s, Place::Gap, dead)),
+        Place::Gap => one(x, b' ', s, Place::Term, dead),
     }
 }
 
 // What a byte leads to; behind the end there is nothing more to read.
-pub fn eat(known: Known, g: Reading, x: u64) -> Reading
-    requires { Fair known × Stands known g }
+#[tactic(auto, unfolding(crate::specs::Machine::eat))]
+pub fn eat(known: Known, g: Reading, x: u8) -> Reading
+    requires fair { Fair known }
+    requires stands { Stands known g }
     ensures { result ≡ eat known g x }
 {
     match g {
-        Reading::Dead => Reading::Dead,
-        Reading::Ended => Reading::Dead,
+        Reading::Dead | Reading::Ended => Reading::Dead,
         Reading::At(s) => eat_at(known, x, s),
     }
 }
@@ -397,22 +421,14 @@ pub fn eat(known: Known, g: Reading, x: u64) -> Reading
 fn alive(g: Reading) -> bool
     ensures { result ≡ alive g }
 {
-    match g {
-        Reading::Dead => false,
-        Reading::Ended => true,
-        Reading::At(_) => true,
-    }
+    !matches!(g, Reading::Dead)
 }
 
 // Whether the listing is whole.
 fn ends(g: Reading) -> bool
     ensures { result ≡ ends g }
 {
-    match g {
-        Reading::Dead => false,
-        Reading::Ended => true,
-        Reading::At(_) => false,
-    }
+    matches!(g, Reading::Ended)
 }
 
 // The machine before the first byte.
@@ -428,22 +444,23 @@ pub fn begin() -> Reading
 }
 
 // What is said of a text.
-pub fn read(known: Known, text: &[u8]) -> Verdict
+pub fn read(known: Known, text: &[u8]) -> Result<(), Broken>
     requires { Fair known }
     ensures { result ≡ said (listing known) text.now }
 {
     let mut g = begin();
-    let mut i: usize = 0;
-    while i < text.len() {
-        let next = eat(known, g, wide(text[i]));
-        if !alive(next) {
-            return Verdict::Broken(i as u64 + 1);
+    for (i, &x) in text.iter().enumerate() {
+        g = eat(known, g, x);
+        if !alive(g) {
+            return Err(Broken {
+                place: i as u64 + 1,
+            });
         }
-        g = next;
-        i += 1;
     }
     if ends(g) {
-        return Verdict::Whole;
+        return Ok(());
     }
-    Verdict::Broken(i as u64 + 1)
+    Err(Broken {
+        place: text.len() as u64 + 1,
+    })
 }

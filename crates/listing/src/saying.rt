@@ -24,101 +24,101 @@ pub enum Saying {
     ZeroLine,
 }
 
-// x without c, and 0 where c is more: a byte out of its span says something too, which nobody hears.
-fn less(x: u64, c: u64) -> u64
+// How far x is behind c, and 0 where it is before it: a byte out of its span says something too, which nobody hears.
+fn above(x: u8, c: u8) -> u64
     ensures { result ≡ x - c }
 {
-    if x < c {
-        return 0;
-    }
-    x - c
+    u64::from(x.saturating_sub(c))
 }
 
-fn name_said(x: u64) -> Saying
+#[tactic(auto, unfolding(crate::specs::Saying::name_said))]
+fn name_said(x: u8) -> Saying
     ensures { result ≡ name_said x }
 {
-    if x == 10 {
-        return Saying::NameEnds;
+    if x == b'\n' {
+        Saying::NameEnds
+    } else {
+        Saying::Silence
     }
-    Saying::Silence
 }
 
-fn digit_said(x: u64) -> Saying
+#[tactic(auto, unfolding(crate::specs::Saying::digit_said))]
+fn digit_said(x: u8) -> Saying
     ensures { result ≡ digit_said x }
 {
-    if 48 <= x {
-        return Saying::Digit(x - 48);
+    if b'0' <= x {
+        Saying::Digit(u64::from(x - b'0'))
+    } else {
+        name_said(x)
     }
-    name_said(x)
 }
 
 // A second star leads on to an exponent.
-fn star_said(x: u64) -> Saying
+#[tactic(auto, unfolding(crate::specs::Saying::star_said))]
+fn star_said(x: u8) -> Saying
     ensures { result ≡ star_said x }
 {
-    if x == 42 {
-        return Saying::Raised;
+    if x == b'*' {
+        Saying::Raised
+    } else {
+        Saying::Silence
     }
-    Saying::Silence
 }
 
 // A digit behind the coefficient v.
-fn number_said(v: u64, x: u64, other: Saying) -> Saying
+#[tactic(auto, unfolding(crate::specs::Saying::number_said))]
+fn number_said(v: u64, x: u8, other: Saying) -> Saying
     requires { v ≤ 1000000000 }
     ensures { result ≡ number_said v x other }
 {
-    if x < 48 {
-        return other;
+    if b'0' <= x && x <= b'9' {
+        Saying::Number(10 * v + u64::from(x - b'0'))
+    } else {
+        other
     }
-    if 57 < x {
-        return other;
-    }
-    Saying::Number(10 * v + (x - 48))
 }
 
-fn minus_said(x: u64, other: Saying) -> Saying
+#[tactic(auto, unfolding(crate::specs::Saying::minus_said))]
+fn minus_said(x: u8, other: Saying) -> Saying
     ensures { result ≡ minus_said x other }
 {
-    if x == 45 {
-        return Saying::Minus;
-    }
-    other
+    if x == b'-' { Saying::Minus } else { other }
 }
 
-fn term_said(x: u64) -> Saying
+#[tactic(auto, unfolding(crate::specs::Saying::term_said))]
+fn term_said(x: u8) -> Saying
     ensures { result ≡ term_said x }
 {
-    if x == 32 {
-        return Saying::TermEnds;
+    match x {
+        b' ' => Saying::TermEnds,
+        b'\n' => Saying::LineEnds,
+        _ => Saying::Silence,
     }
-    if x == 10 {
-        return Saying::LineEnds;
-    }
-    Saying::Silence
 }
 
 // What the byte x says in a line.
-fn say_at(known: Known, x: u64, s: State) -> Saying
-    requires { Fair known × (Held known s × (x < 256)) }
+#[tactic(auto, unfolding(crate::specs::Saying::saying_at))]
+fn say_at(known: Known, x: u8, s: State) -> Saying
+    requires fair { Fair known }
+    requires holds { Held known s }
     ensures { result ≡ saying_at known x s s.at }
 {
-    let at = s.at;
-    match at {
-        Place::Factor => Saying::Variable(less(x, 49)),
+    match s.at {
+        Place::Factor => Saying::Variable(above(x, b'1')),
         Place::Power => name_said(x),
         Place::Star => star_said(x),
-        Place::Exponent => Saying::Digit(less(x, 48)),
+        Place::Exponent => Saying::Digit(above(x, b'0')),
         Place::Digits => digit_said(x),
         Place::Right => minus_said(x, number_said(0, x, Saying::Silence)),
         Place::Zero => Saying::ZeroLine,
         Place::Term => number_said(0, x, Saying::Silence),
         Place::Coefficient => number_said(s.number, x, term_said(x)),
-        Place::X1 => Saying::Name(less(x, 48)),
-        Place::W1 => Saying::Name(known.n + 1 + less(x, 48)),
+        Place::X1 => Saying::Name(above(x, b'0')),
+        Place::W1 => Saying::Name(known.n + 1 + above(x, b'0')),
         Place::One => term_said(x),
         Place::Square => Saying::Again,
-        Place::X2 => Saying::Name(less(x, 48)),
-        Place::W2 => Saying::Name(known.n + 1 + less(x, 48)),
+        Place::X2 => Saying::Name(above(x, b'0')),
+        Place::W2 => Saying::Name(known.n + 1 + above(x, b'0')),
         Place::Two => term_said(x),
         Place::Sign => minus_said(x, Saying::Silence),
         _ => Saying::Silence,
@@ -126,13 +126,14 @@ fn say_at(known: Known, x: u64, s: State) -> Saying
 }
 
 // What a byte says; behind the end, and where nothing readable goes on, nothing.
-pub fn say(known: Known, g: Reading, x: u64) -> Saying
-    requires { Fair known × (Stands known g × (x < 256)) }
+#[tactic(auto, unfolding(crate::specs::Saying::saying))]
+pub fn say(known: Known, g: Reading, x: u8) -> Saying
+    requires fair { Fair known }
+    requires stands { Stands known g }
     ensures { result ≡ saying known g x }
 {
     match g {
-        Reading::Dead => Saying::Silence,
-        Reading::Ended => Saying::Silence,
+        Reading::Dead | Reading::Ended => Saying::Silence,
         Reading::At(s) => say_at(known, x, s),
     }
 }

@@ -7,5 +7,6 @@ pub mod Variables
 pub mod Within
 pub mod Counting
 pub mod Loops
+pub mod FromFn
 pub mod Strips
 pub mod Samples

@@ -1,13 +1,14 @@
 -- Loops over lists of any length: ones that fill a list place by place (`Filling`, `Pasting`), compare two (`Comparing`), look through one (`Seeking`, `SeekingDown`,
 -- `Placing`, `Checking`, `CheckingFrom`), or collect what its entries give (`Collecting`, `CollectingDown`). Each record is a loop's invariant. Assumes nothing.
 use mathlib.Core.Path.{◌≡◌, refl, sym, ap, ap₂, ◌∙◌, subst}
-use mathlib.Core.Bool.{Bool, true, false}
+use mathlib.Core.Bool.{Bool, true, false, ◌&&◌}
 use mathlib.Core.List.{List, [], ◌∷◌, ◌++◌, append-nil}
 use Prim.Native.Nat.{ℕ, zero, suc, ◌+◌, ◌≤◌, ◌<◌}
 use native.Mathlib.Omega.{arith}
 use native.Mathlib.Numerals.{add-one}
 use lib.ListN.{length, take, drop, set, get_or, replicate, length-set, drop_of_length-le}
 use lib.Seq.{paste, paste-zero, paste-suc, length-paste, take-suc, take-suc-set, take_all, drop-cons, set_at, length-take-le, append_snoc}
+use Rattle.std.specs.List.{list_all, zip}
 use Rattle.monomial.specs.Lists.{any, all, place, pairwise, pointwise, gather}
 use Rattle.monomial.specs.Claims.{◌⊆◌}
 use Rattle.monomial.proofs.Tests.{or_true}
@@ -103,6 +104,15 @@ module _ {A : Type 0} (d : A) (test : A → A → Bool) where
     pub pairwise_ends : w ≤ i → true ≡ pairwise test a b
     unfolding pairwise
     pairwise_ends h = comparing_says true c (rw (drop_of_length-le a {i = i} (omega arith), drop_of_length-le b {i = i} (omega arith)))
+
+-- ---- a chain that tests two lists side by side
+module _ {A : Type 0} where
+  pub pairwise_zip : (test : A → A → Bool) (a b : List A) → length a ≡ length b → list_all (λ p. test p.0 p.1) (zip a b) ≡ pairwise test a b
+  unfolding pairwise
+  pairwise_zip test [] [] e = refl
+  pairwise_zip test [] (y ∷ b) e = let o : ⊥ = omega arith in absurd o
+  pairwise_zip test (x ∷ a) [] e = let o : ⊥ = omega arith in absurd o
+  pairwise_zip test (x ∷ a) (y ∷ b) e = ap (◌&&◌ (test x y)) (pairwise_zip test a b (omega arith))
 
 -- ---- a loop that looks through l for an entry that passes f, and has come to place i
 module _ {A : Type 0} (f : A → Bool) where

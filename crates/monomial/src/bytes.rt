@@ -5,6 +5,7 @@ ghost use Rattle.monomial.specs.Monomial.{width};
 
 use super::Monomial;
 use super::width::WIDTH;
+use std::array;
 
 impl Monomial {
     // The monomial whose exponents are the six bytes from at on.
@@ -12,13 +13,10 @@ impl Monomial {
         requires { at + width ≤ length s.now }
         ensures { result.e ≡ take width (drop at s.now) }
     {
-        let mut r = [0u8; WIDTH];
-        let mut i: usize = 0;
-        while i < WIDTH {
-            r[i] = s[at + i];
-            i += 1;
+        // No copy_from_slice, which was tried: it tests whether the two overlap, and takes a third longer.
+        Monomial {
+            e: array::from_fn(|i| s[at + i]),
         }
-        Monomial { e: r }
     }
 
     // Writes the exponents of self over the six bytes from at on.
@@ -26,11 +24,9 @@ impl Monomial {
         requires { at + width ≤ length s.old }
         ensures { s.new ≡ paste s.old at self.e width }
     {
-        let e = self.e;
-        let mut i: usize = 0;
-        while i < WIDTH {
-            s[at + i] = e[i];
-            i += 1;
+        // No copy_from_slice either.
+        for i in 0..WIDTH {
+            s[at + i] = self.e[i];
         }
     }
 }

@@ -2,35 +2,26 @@
 ghost use Rattle.std.specs.Prelude.{◌≡◌};
 ghost use Rattle.monomial.specs.Degree.{degree, within, low};
 
+use super::Monomial;
 use super::width::WIDTH;
-use super::{Monomial, divisors};
 
 impl Monomial {
     // The sum of the exponents.
     pub fn degree(self) -> u64
         ensures { result ≡ degree self.e }
     {
-        let e = self.e;
-        let mut r: u64 = 0;
-        let mut i: usize = 0;
-        while i < WIDTH {
-            r = r + divisors::wide(e[i]);
-            i += 1;
-        }
-        r
+        self.e.iter().map(|&x| u64::from(x)).sum()
     }
 
     // Whether self holds none of the variables behind the first n.
     fn is_within(self, n: usize) -> bool
         ensures { result ≡ within n self.e }
     {
-        let e = self.e;
-        let mut i = n;
-        while i < WIDTH {
-            if e[i] != 0 {
+        // No chain with skip, which was tried: it does not unroll, and takes a fifth longer.
+        for i in n..WIDTH {
+            if self.e[i] != 0 {
                 return false;
             }
-            i += 1;
         }
         true
     }

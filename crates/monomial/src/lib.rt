@@ -15,7 +15,7 @@ pub mod width;
 ghost use Rattle.std.specs.Prelude.{◌≡◌, get_or};
 ghost use Rattle.monomial.specs.Monomial.{one, constants, width};
 
-use width::WIDTH;
+use width::{CONSTANTS, WIDTH};
 
 #[derive(Clone, Copy, PartialEq, Eq)]
 pub struct Monomial {
@@ -51,6 +51,17 @@ impl Monomial {
         e: [0, 0, 0, 0, 0, 1],
     };
 
+    // By their signal numbers.
+    const NAMED: [Monomial; CONSTANTS] = [
+        Monomial::ONE,
+        Monomial::X1,
+        Monomial::X2,
+        Monomial::X3,
+        Monomial::X4,
+        Monomial::X5,
+        Monomial::X6,
+    ];
+
     // The monomial with these exponents.
     pub fn of(e: [u8; WIDTH]) -> Monomial
         ensures { result.e ≡ e }
@@ -62,14 +73,6 @@ impl Monomial {
     pub fn constant(i: usize) -> Monomial
         ensures { result.e ≡ get_or (constants width) i (one width) }
     {
-        match i {
-            1 => Monomial::X1,
-            2 => Monomial::X2,
-            3 => Monomial::X3,
-            4 => Monomial::X4,
-            5 => Monomial::X5,
-            6 => Monomial::X6,
-            _ => Monomial::ONE,
-        }
+        Monomial::NAMED.get(i).copied().unwrap_or(Monomial::ONE)
     }
 }

@@ -6,16 +6,22 @@ ghost use Rattle.std.specs.Ordering.{nat_cmp, on, as_partial_cmp};
 ghost use Rattle.monomial.specs.Order.{same, before};
 
 use super::Monomial;
+use super::width::WIDTH;
 use std::cmp::Ordering;
 
-// The order of the exponents. The derived `<` was tried: it turns over what the exponents gave once more, and takes half as long again.
+// Written out: the derived `<` and that of the arrays were tried, and compile to thrice the code, which takes up to half as long again.
 impl PartialOrd for Monomial {
     ghost partial_cmp = { on (λ m. m.e) (slice_partial_cmp (as_partial_cmp nat_cmp)) };
 
     ghost laws = { on_po (λ m. m.e) (lists_po unsigned_po) };
 
     fn partial_cmp(&self, other: &Monomial) -> Option<Ordering> {
-        self.e.partial_cmp(&other.e)
+        for i in 0..WIDTH {
+            if self.e[i] != other.e[i] {
+                return self.e[i].partial_cmp(&other.e[i]);
+            }
+        }
+        Some(Ordering::Equal)
     }
 }
 

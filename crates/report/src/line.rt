@@ -1,97 +1,76 @@
-// The lines of a report, one by one, in a lent line.
-ghost use Rattle.std.specs.Prelude.{◌≡◌, ◌+◌, ◌*◌, ◌≤◌, min, length};
-ghost use Rattle.wiring.specs.Panel.{set_bytes, wire_bytes};
+// The lines of a report, one by one.
+ghost use Rattle.std.specs.Prelude.{◌≡◌, ◌+◌, ◌*◌, ◌≤◌, ◌<◌, ◌↔◌, length, IsTrue};
 ghost use Rattle.wiring.specs.Reply.{outcome};
-ghost use Rattle.lines.specs.Text.{Stands};
-ghost use Rattle.lines.specs.Answer.{set_line, wire_line};
 ghost use Rattle.report.specs.Prepare.{counted, slot, results_in};
 ghost use Rattle.report.specs.Report.{lines_of, line_at};
 
-use super::prepare;
 use super::prepare::Prepared;
 use lines::answer;
 use lines::lengths::LINE_BYTES;
+use lines::text::Line;
 use wiring::panel::{SET_BYTES, WIRE_BYTES};
 use wiring::reply;
 use wiring::reply::Reply;
 
-// How many of so many records there are in a buffer that holds `room` of them.
-fn held(count: u64, room: usize) -> usize
-    ensures { result ≡ min count room }
+// Record number i of a buffer with records of one size.
+fn record_at<const SIZE: usize>(bytes: &[u8], i: usize) -> [u8; SIZE]
+    requires { SIZE * i + SIZE ≤ length bytes.now }
+    ensures { result ≡ slot SIZE bytes.now i }
 {
-    if (room as u64) < count {
-        room
-    } else {
-        count as usize
-    }
+    let at = SIZE * i;
+    let mut record = [0; SIZE];
+    let whole = &mut record[..];
+    whole.copy_from_slice(&bytes[at..at + SIZE]);
+    record
 }
 
-// The line of set record number i.
-fn set_at(sets: &[u8], i: usize, size: usize, line: &mut [u8; LINE_BYTES]) -> usize
-    requires { set_bytes * i + set_bytes ≤ length sets.now }
-    ensures { Stands (set_line (slot set_bytes sets.now i) size) result line.old line.new }
-{
-    let at = SET_BYTES * i;
-    let end = at + SET_BYTES;
-    let mut set = [0u8; SET_BYTES];
-    set.copy_from_slice(&sets[at..end]);
-    answer::set_line(&set, size, line)
-}
-
-// The line of wiring record number i.
-fn wire_at(wires: &[u8], i: usize, line: &mut [u8; LINE_BYTES]) -> usize
-    requires { wire_bytes * i + wire_bytes ≤ length wires.now }
-    ensures { Stands (wire_line (slot wire_bytes wires.now i)) result line.old line.new }
-{
-    let at = WIRE_BYTES * i;
-    let end = at + WIRE_BYTES;
-    let mut wire = [0u8; WIRE_BYTES];
-    wire.copy_from_slice(&wires[at..end]);
-    answer::wire_line(&wire, line)
-}
-
-// Line number k, where all of `sets` was lent.
+// Line number k, where all of `sets` was lent, and whether there is one.
 fn line_in(
     reply: Reply,
     count: u64,
     sets: &[u8],
     wires: &[u8],
     k: usize,
-    line: &mut [u8; LINE_BYTES],
-) -> usize
-    ensures { Stands (line_at (lines_of (record { listed = outcome reply sets.now; wiring = counted count wires.now })) k)
-        result line.old line.new }
+    line: &mut Line<LINE_BYTES>,
+) -> bool
+    ensures text { line.new ≡ line_at (lines_of (record { listed = outcome reply sets.now; wiring = counted count wires.now })) k }
+    ensures there { IsTrue result ↔ (k < length (lines_of (record { listed = outcome reply sets.now; wiring = counted count wires.now }))) }
 {
     let five = reply::numbers(reply);
     if k == 0 {
-        return answer::reply_line(five, line);
+        answer::reply_line(five, line);
+        return true;
     }
+    line.clear();
     if five[0] != 0 {
-        return 0;
+        return false;
     }
     let i = k - 1;
-    let shown = held(five[2], sets.len() / SET_BYTES);
+    let shown = five[2].min((sets.len() / SET_BYTES) as u64) as usize;
     if i < shown {
-        return set_at(sets, i, five[1] as usize, line);
+        answer::set_line(&record_at(sets, i), five[1] as usize, line);
+        return true;
     }
     let j = i - shown;
-    if j < held(count, wires.len() / WIRE_BYTES) {
-        return wire_at(wires, j, line);
+    let wired = count.min((wires.len() / WIRE_BYTES) as u64) as usize;
+    if j < wired {
+        answer::wire_line(&record_at(wires, j), line);
+        return true;
     }
-    0
+    false
 }
 
-// Line number k, from 0: its length, and 0 behind the last line. No line is empty: each has its newline.
+// Line number k, from 0, and whether there is one: nothing behind the last.
 pub fn line_of(
     p: Prepared,
     sets: &[u8],
     wires: &[u8],
     k: usize,
-    line: &mut [u8; LINE_BYTES],
-) -> usize
-    ensures { Stands (line_at (lines_of (results_in p sets.now wires.now)) k) result line.old line.new }
+    line: &mut Line<LINE_BYTES>,
+) -> bool
+    ensures text { line.new ≡ line_at (lines_of (results_in p sets.now wires.now)) k }
+    ensures there { IsTrue result ↔ (k < length (lines_of (results_in p sets.now wires.now))) }
 {
-    let lent = prepare::least(p.lent, sets.len());
-    let reply = p.reply;
-    line_in(reply, p.wires, &sets[..lent], wires, k, line)
+    let lent = p.lent.min(sets.len());
+    line_in(p.reply, p.wires, &sets[..lent], wires, k, line)
 }

@@ -1,5 +1,5 @@
 // Plans or thins and wires once, or wires a given set alone, into lent buffers: what the lines of a report are made of.
-ghost use Rattle.std.specs.Prelude.{◌≡◌, List, ℕ, ◌*◌, ◌≤◌, min, length};
+ghost use Rattle.std.specs.Prelude.{◌≡◌, List, ℕ, ◌*◌, ◌≤◌, length};
 ghost use Rattle.wiring.specs.Panel.{set_bytes};
 ghost use Rattle.wiring.specs.Sockets.{panel_of};
 ghost use Rattle.report.specs.Prepare.{counted, wiring_of, fitted, Prepares, PreparesThin, PreparesWire};
@@ -28,12 +28,6 @@ pub struct Prepared {
     pub reply: Reply,
     pub lent: usize,
     pub wires: u64,
-}
-
-pub fn least(a: usize, b: usize) -> usize
-    ensures { result ≡ min a b }
-{
-    if a < b { a } else { b }
 }
 
 // Wires set number `which` of so many, from 1, and gives the number of records: zeros where there is no such set.
@@ -70,7 +64,7 @@ pub fn prepare(s: Settings, terms: &[u8], sets: &mut [u8], out: &mut [u8; WIRES_
     ensures { Prepares (fitted s (length sets.old)) terms.now result
         sets.old sets.new out.new }
 {
-    let room = least(s.room, sets.len() / SET_BYTES);
+    let room = s.room.min(sets.len() / SET_BYTES);
     let lent = SET_BYTES * room;
     let reply = plan::plan(
         s.n,

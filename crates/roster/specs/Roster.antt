@@ -1,14 +1,13 @@
 -- New names in the order of a listing, and the set that they form. Assumes nothing.
-use Rattle.std.specs.Prelude.{◌≡◌, Bool, true, false, not, ◌&&◌, List, [], ◌∷◌, ◌+◌, ◌<◌, length, replicate}
+use Rattle.std.specs.Prelude.{◌≡◌, Bool, true, false, not, ◌&&◌, List, [], ◌∷◌, ℕ, ◌+◌, ◌<◌, length, Option, Some, None}
 use Rattle.monomial.specs.Lists.{any, all, insert_by, arrange_by}
 use Rattle.monomial.specs.Monomial.{Mono, width}
 use Rattle.monomial.specs.Order.{same, before}
 use Rattle.monomial.specs.Claims.{Ascending}
-use Rattle.wiring.specs.Panel.{cards, set_bytes}
+use Rattle.wiring.specs.Panel.{cards}
 use Rattle.wiring.specs.Sets.{monomial_right, monomials_of, set_record}
 use Rattle.wiring.specs.declared.panel.Panel.{Panel}
 use Rattle.wiring.specs.declared.sets.Set.{Set}
-use Rattle.roster.specs.declared.roster.Formed.{Formed}
 
 -- no monomial stands twice
 unfoldable pub distinct : List Mono → Bool
@@ -23,11 +22,10 @@ forms_set panel names = all (monomial_right panel) names && distinct names
 abbrev pub arranged : List Mono → List Mono
 arranged = arrange_by same before
 
--- what is said of names: whether they form a set, and its record where they do
-pub record Forms (panel : Panel) (names : List Mono) (r : Formed) : Type 0 where
-  pub right : r.good ≡ forms_set panel names
-  pub holds : r.good ≡ true → r.record ≡ set_record (arranged names)
-  pub none : r.good ≡ false → r.record ≡ replicate set_bytes 0
+-- what is said of names: the record of the set that they form, or that they form none
+abbrev pub Forms : Panel → List Mono → Option (List ℕ) → Type 0
+Forms panel names (Some bytes) = (forms_set panel names ≡ true) × (bytes ≡ set_record (arranged names))
+Forms panel names None = forms_set panel names ≡ false
 
 -- m may be entered in a set: there is a card for it, the set ascends, and m is new there
 pub record Entering (set : Set) (m : Mono) : Type 0 where

@@ -13,28 +13,12 @@ use wiring::panel::{CARDS, Panel, SET_BYTES};
 use wiring::sets;
 use wiring::sets::Set;
 
-// The record of the set that names form, where good is true; otherwise zeros.
-#[derive(Clone, Copy)]
-pub struct Formed {
-    pub good: bool,
-    pub record: [u8; SET_BYTES],
-}
-
 // Whether m is in a set.
 fn is_in(set: Set, m: Monomial) -> bool
     requires { set.len ≤ cards }
     ensures { result ≡ any (same m.e) (monomials_of set) }
 {
-    let len = set.len;
-    let mut i: usize = 0;
-    while i < len {
-        let x = set.m[i];
-        if m.same(x) {
-            return true;
-        }
-        i += 1;
-    }
-    false
+    set.m[..set.len].iter().any(|&x| m.same(x))
 }
 
 // Whether m may join a set: it is what a set may hold, and new there.
@@ -42,10 +26,7 @@ fn may_join(panel: Panel, set: Set, m: Monomial) -> bool
     requires { set.len ≤ cards }
     ensures { result ≡ monomial_right panel m.e && not (any (same m.e) (monomials_of set)) }
 {
-    if !sets::monomial_right(panel, m) {
-        return false;
-    }
-    !is_in(set, m)
+    sets::monomial_right(panel, m) && !is_in(set, m)
 }
 
 // The set with m in its place. One monomial is in hand, m first: where it stands before the next of the set, it is laid down and that one taken up.
@@ -56,8 +37,7 @@ fn entered(set: Set, m: Monomial) -> Set
     let len = set.len;
     let mut next = [Monomial::ONE; CARDS];
     let mut hand = m;
-    let mut i: usize = 0;
-    while i < len {
+    for i in 0..len {
         let x = set.m[i];
         if hand.before(x) {
             next[i] = hand;
@@ -65,11 +45,12 @@ fn entered(set: Set, m: Monomial) -> Set
         } else {
             next[i] = x;
         }
-        i += 1;
     }
     next[len] = hand;
-    let size = len + 1;
-    Set { m: next, len: size }
+    Set {
+        m: next,
+        len: len + 1,
+    }
 }
 
 // The set with m behind its last signal.
@@ -85,38 +66,30 @@ pub fn with_last(set: Set, m: Monomial) -> Set
 }
 
 // The record of a set.
-pub fn record_of(set: Set) -> Formed
-    requires { (set.len ≤ cards) × Wide (monomials_of set) }
-    ensures { (result.good ≡ true) × (result.record ≡ set_record (monomials_of set)) }
+pub fn record_of(set: Set) -> [u8; SET_BYTES]
+    requires fits { set.len ≤ cards }
+    requires wide { Wide (monomials_of set) }
+    ensures { result ≡ set_record (monomials_of set) }
 {
-    let len = set.len;
-    let mut record = [0u8; SET_BYTES];
-    let mut i: usize = 0;
-    while i < len {
-        let m = set.m[i];
-        m.write(&mut record, WIDTH * i);
-        i += 1;
+    let mut bytes = [0u8; SET_BYTES];
+    for i in 0..set.len {
+        set.m[i].write(&mut bytes, WIDTH * i);
     }
-    Formed { good: true, record }
+    bytes
 }
 
-// The set that names form. They join it one by one, the last first: so what stands there is at every moment the set of the names behind.
-pub fn set_of(panel: Panel, names: Set) -> Formed
+// The record of the set that names form. They join it one by one, the last first: so what stands there is at every moment the set of the names behind.
+pub fn set_of(panel: Panel, names: Set) -> Option<[u8; SET_BYTES]>
     requires { names.len ≤ cards }
     ensures { Forms panel (monomials_of names) result }
 {
     let mut set = Set::EMPTY;
-    let mut i = names.len;
-    while 0 < i {
-        i -= 1;
+    for i in (0..names.len).rev() {
         let m = names.m[i];
         if !may_join(panel, set, m) {
-            return Formed {
-                good: false,
-                record: [0u8; SET_BYTES],
-            };
+            return None;
         }
         set = entered(set, m);
     }
-    record_of(set)
+    Some(record_of(set))
 }

@@ -1,4 +1,5 @@
 -- A typed listing is said yes to: its names form the set whose record was given, and each of its lines is true. Assumes nothing.
+use Rattle.std.specs.Prelude.{Ok}
 use mathlib.Core.Path.{◌≡◌, sym, ap, ◌∙◌, subst}
 use mathlib.Core.Bool.{Bool, true, false}
 use mathlib.Core.List.{List, [], map}
@@ -24,13 +25,11 @@ use Rattle.wiring.specs.Sets.{set_of, set_record}
 use Rattle.wiring.specs.Claims.{beyond, list_in, signals_in, row_of, Row, QuadraticIn}
 use Rattle.wiring.specs.declared.panel.Panel.{Panel}
 use Rattle.wiring.specs.declared.reply.Reply.TheVariants.{Done}
-use Rattle.wiring.specs.declared.terms.Fault.TheVariants.{Clean}
 use Rattle.wiring.proofs.terms.Exact.{length_exact, clean_exact}
 use Rattle.wiring.proofs.sets.Exact.{right_record}
 use Rattle.wiring.proofs.answers.Limits.{well_right}
 use Rattle.wiring.proofs.answers.Exact.{panel-in}
-use Rattle.reader.specs.Said.{said}
-use Rattle.reader.specs.declared.Verdict.TheVariants.{Whole}
+use Rattle.reader.specs.Said.{whole, said}
 use Rattle.reader.proofs.Exact.{whole_exact}
 use Rattle.listing.specs.Lines.{lefts}
 use Rattle.listing.specs.Readable.{listing}
@@ -103,7 +102,7 @@ module _ (panel : Panel) (terms set : List ℕ) (given : QuadraticIn panel terms
       rw (typed_names panel terms set given, typed-lines panel terms set given)
       (beside (line_true v fs) (λ l. map as_term (row_of l (list_in panel terms set))) (lefts k (length s)) 0 [] line-true)
 
-  lines_whole : lines_said k fs t ≡ Whole
+  lines_whole : lines_said k fs t ≡ whole
   unfolding lines_said
   lines_whole = rw lines_true
 
@@ -116,6 +115,6 @@ module _ (panel : Panel) (terms set : List ℕ) (given : QuadraticIn panel terms
   unfolding read_listing
   reads_back fits =
       let w = given.formed in
-      let clean : fault panel (records terms) ≡ Clean = (clean_exact panel (records terms) beyond).1 w.flawless in
-      let whole : said (listing k) t ≡ Whole = (whole_exact (listing k) t).1 (typed_readable panel terms set given) in
-      rw (panel-in panel w.ranged, (length_exact terms).1 w.lengths.measured, le-leb (length t) most_text fits, clean, whole) judged_yes
+      let clean : fault panel (records terms) ≡ Ok tt = (clean_exact panel (records terms) beyond).1 w.flawless in
+      let read : said (listing k) t ≡ whole = (whole_exact (listing k) t).1 (typed_readable panel terms set given) in
+      rw (panel-in panel w.ranged, (length_exact terms).1 w.lengths.measured, le-leb (length t) most_text fits, clean, read) judged_yes

@@ -37,20 +37,17 @@ fn is_quadratic(n: usize, terms: &[u8], set: Set) -> bool
     requires { Judgeable n terms.now set }
     ensures { result ≡ is_quadratic n (system (records terms.now)) (monomials_of set) }
 {
-    match verdict_of(n, terms, set) {
-        Reply::NotQuadratic { .. } => false,
-        _ => true,
-    }
+    !matches!(verdict_of(n, terms, set), Reply::NotQuadratic { .. })
 }
 
 // Writes a set behind the first `count` of the list, where there is room. Without room it is only counted: a smaller set may yet begin the list anew.
 fn join(out: &mut [u8], count: usize, set: Set)
-    requires { (set.len ≤ cards) × Wide (monomials_of set) }
+    requires fits { set.len ≤ cards }
+    requires wide { Wide (monomials_of set) }
     ensures { (l : Finds) → count ≡ length l → Begun l out.old → Begun (l ++ (monomials_of set ∷ [])) out.new }
 {
     if count < out.len() / SET_BYTES {
-        let r = sets::record_of(set);
-        buffer::put(out, SET_BYTES * count, &r.record);
+        buffer::put(out, SET_BYTES * count, &sets::record_of(set));
     }
 }
 
@@ -63,19 +60,11 @@ fn sift(n: usize, terms: &[u8], set: Set, out: &mut [u8], best: Best) -> Best
     let count = best.count;
     let steps = best.steps + 1;
     if !is_quadratic(n, terms, set) {
-        return Best {
-            order,
-            count,
-            steps,
-        };
+        return Best { steps, ..best };
     }
     let size = set.len;
     if order < size {
-        return Best {
-            order,
-            count,
-            steps,
-        };
+        return Best { steps, ..best };
     }
     if size < order {
         buffer::clear(out);

@@ -57,9 +57,8 @@ pub fn thin(n: u64, marks: u64, degree: u64, terms: &[u8], set: &[u8], out: &mut
     ensures { outcome result out.new ≡ thinned (panel_of n marks degree) terms.now set.now (length out.old) }
 {
     buffer::clear(out);
-    let g = answers::accept(n, marks, degree, terms, set);
-    if !g.good {
-        return g.said;
+    match answers::accept(n, marks, degree, terms, set) {
+        Ok(set) => thin_judged(n as usize, terms, set, out),
+        Err(said) => said,
     }
-    thin_judged(n as usize, terms, g.set, out)
 }

@@ -13,7 +13,6 @@ ghost use Rattle.truth.specs.Truth.{line_true};
 ghost use Rattle.truth.specs.Sums.{most_number, most_sum, pair_cells, cell, Bounded, Summed, Told, agrees, row_agrees};
 
 use monomial::Monomial;
-use wiring::choice::Pick;
 use wiring::panel::MOST_SIGNALS;
 use wiring::signals::Signals;
 use wiring::{derivative, wires};
@@ -42,7 +41,7 @@ fn cell_of(v: Signals, m: Monomial) -> usize
     requires { (v.len ≤ most_signals) × (Fitting set_exponent (signals_of v) × T (in_v2 plain (signals_of v) m.e)) }
     ensures { (result ≡ cell (signals_of v) m.e) × (result < pair_cells) }
 {
-    let p = wires::pair_of(v, m);
+    let p = wires::pair_of(v, m).unwrap();
     MOST_SIGNALS * p.a + p.b
 }
 
@@ -51,14 +50,8 @@ fn coefficient_of(negative: bool, number: u64) -> i64
     requires { number ≤ most_number }
     ensures { result ≡ signed negative number }
 {
-    let mut size: i64 = 1;
-    if 0 < number {
-        size = number as i64;
-    }
-    if negative {
-        return 0 - size;
-    }
-    size
+    let size = number.max(1) as i64;
+    if negative { -size } else { size }
 }
 
 // One term more: the product of signals a and b.
@@ -67,13 +60,9 @@ pub fn add(v: Signals, sums: Sums, a: usize, b: usize, negative: bool, number: u
     ensures { (line : List Product) → Summed (signals_of v) line sums →
         Summed (signals_of v) (line ++ ((record { a = a; b = b; coefficient = signed negative number }) ∷ [])) result }
 {
-    let x = v.m[a];
-    let y = v.m[b];
-    let at = cell_of(v, x.times(y));
-    let c = coefficient_of(negative, number);
+    let at = cell_of(v, v.m[a].times(v.m[b]));
     let mut cells = sums.cells;
-    let old = cells[at];
-    cells[at] = old + c;
+    cells[at] += coefficient_of(negative, number);
     Sums { cells }
 }
 
@@ -82,11 +71,8 @@ fn agrees(terms: &[u8], v: Signals, sums: Sums, z: Monomial, m: Monomial) -> boo
     requires { CleanTerms terms.now × ((v.len ≤ most_signals) × (Fitting set_exponent (signals_of v) × (AtMost set_exponent z.e × T (in_v2 plain (signals_of v) m.e)))) }
     ensures { result ≡ agrees (signals_of v) sums (derivative plain (system (records terms.now)) z.e) m.e }
 {
-    let at = cell_of(v, m);
-    let cells = sums.cells;
-    let told = cells[at];
-    let total = derivative::total(terms, z, m) as i64;
-    told == total
+    let told = sums.cells[cell_of(v, m)];
+    told == i64::from(derivative::total(terms, z, m))
 }
 
 // Whether they agree at the products of signal a with itself and the signals behind it: with those before it they stand in earlier rows.
@@ -95,14 +81,10 @@ fn row_agrees(terms: &[u8], v: Signals, sums: Sums, z: Monomial, a: usize) -> bo
     ensures { result ≡ row_agrees (signals_of v) sums (derivative plain (system (records terms.now)) z.e) a }
 {
     let x = v.m[a];
-    let len = v.len;
-    let mut b = a;
-    while b < len {
-        let y = v.m[b];
-        if !agrees(terms, v, sums, z, x.times(y)) {
+    for b in a..v.len {
+        if !agrees(terms, v, sums, z, x.times(v.m[b])) {
             return false;
         }
-        b += 1;
     }
     true
 }
@@ -115,13 +97,10 @@ pub fn is_true(terms: &[u8], v: Signals, left: usize, sums: Sums) -> bool
         result ≡ line_true (signals_of v) (system (records terms.now)) left line }
 {
     let z = v.m[left];
-    let len = v.len;
-    let mut a: usize = 0;
-    while a < len {
+    for a in 0..v.len {
         if !row_agrees(terms, v, sums, z, a) {
             return false;
         }
-        a += 1;
     }
-    !wires::lacks_pair(terms, v, z, Pick::NONE)
+    !wires::lacks_pair(terms, v, z, None)
 }

@@ -1,5 +1,6 @@
 -- Unused variables change neither sets nor steps, by rules that heed none of them: records that are clean for n variables plan alike for any
 -- larger number. The further variables have no derivative, and no monomial that the walk meets holds them. Assumes nothing.
+use Rattle.std.specs.Prelude.{Ok}
 use mathlib.Core.Path.{◌≡◌, refl, sym, ap, ◌∙◌}
 use mathlib.Core.Logic.{⊎_elim}
 use mathlib.Core.Bool.{Bool}
@@ -29,7 +30,6 @@ use Rattle.wiring.specs.Sockets.{panel_of, full_panel, may_be}
 use Rattle.wiring.specs.declared.panel.Panel.{Panel}
 use Rattle.wiring.specs.Terms.{records, fault, system, CleanFor, CleanTerms}
 use Rattle.wiring.specs.Answers.{missing}
-use Rattle.wiring.specs.declared.terms.Fault.TheVariants.{Clean}
 use Rattle.wiring.specs.Claims.{Ranged, base, Wide}
 use Rattle.wiring.proofs.quadratic.Laws.{Factors, in_v2_in, in_v2_out, unmet_in, unmet_out, Nonsquare, nonsquares_in, nonsquares_out, nonsquares_asc}
 use Rattle.wiring.proofs.Poly.{support_out}
@@ -190,7 +190,7 @@ abbrev pub widened : Panel → ℕ → Panel
 widened panel b = panel_of b panel.marks panel.degree
 
 -- the same numbers, and every byte of the buffer
-pub planned_same : (panel : Panel) (b cap limit : ℕ) (terms : List ℕ) (size : ℕ) → Ranged panel → panel.n ≤ b → b ≤ width → fault panel (records terms) ≡ Clean
+pub planned_same : (panel : Panel) (b cap limit : ℕ) (terms : List ℕ) (size : ℕ) → Ranged panel → panel.n ≤ b → b ≤ width → fault panel (records terms) ≡ Ok tt
     → planned panel cap limit terms size ≡ planned (widened panel b) cap limit terms size
 unfolding planned settings_right
 planned_same panel b cap limit terms size ranged more few clean =

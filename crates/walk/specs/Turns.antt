@@ -1,5 +1,5 @@
 -- What the functions of the walk ask and tell of a run. Assumes nothing.
-use Rattle.std.specs.Prelude.{◌≡◌, Bool, true, false, List, [], ◌∷◌, ℕ, ◌+◌, ◌*◌, ◌/◌, ◌≤◌, ◌<◌, length}
+use Rattle.std.specs.Prelude.{◌≡◌, Bool, true, false, List, [], ◌∷◌, ℕ, ◌+◌, ◌*◌, ◌/◌, ◌≤◌, ◌<◌, length, Option, Some, None, Result, Ok, Err}
 use Rattle.monomial.specs.Lists.{some}
 use Rattle.monomial.specs.Monomial.{Mono, width}
 use Rattle.monomial.specs.Product.{AtMost}
@@ -14,10 +14,11 @@ use Rattle.wiring.specs.Terms.{records, system, CleanTerms}
 use Rattle.wiring.specs.Claims.{base}
 use Rattle.counting.specs.Verdict.{list_bytes}
 use Rattle.counting.specs.declared.verdict.Verdict.{Verdict}
-use Rattle.walk.specs.declared.children.Tried.{Tried}
+use Rattle.counting.specs.declared.verdict.Verdict.TheVariants as verdict
 use Rattle.walk.specs.declared.walk.State.{State}
-use Rattle.walk.specs.declared.walk.Turn.{Turn}
-use Rattle.walk.specs.declared.walk.Turn.TheVariants.{Going, Spent, Full}
+use Rattle.walk.specs.declared.walk.Stop.{Stop}
+use Rattle.walk.specs.declared.walk.Stop.TheVariants.{Spent, Full}
+use Rattle.monomial.specs.declared.Monomial.{Monomial}
 use Rattle.wiring.specs.Choice.{chosen}
 use Rattle.walk.specs.declared.walk.Opened.{Opened}
 use Rattle.walk.specs.Walk.{Finds, Rules, ends, opened, Run, ended, spent, full, run}
@@ -36,11 +37,15 @@ pub record Growing (level : ℕ) (set child : List ℕ) : Type 0 where
   pub room : set_bytes ≤ length child
   pub ascending : Ascending before (tabled set)
 
--- the child c, where the test says that it is opened: so many monomials of the buffer
-pub record Child (test : Bool) (c : List Mono) (t : Tried) (bytes : List ℕ) : Type 0 where
-  pub go : t.go ≡ test
-  pub is : t.go ≡ true → listed t.len bytes ≡ c
-  pub size : t.go ≡ true → t.len ≡ length c
+-- the child c: so many monomials of the buffer
+pub record Born (c : List Mono) (len : ℕ) (bytes : List ℕ) : Type 0 where
+  pub is : listed len bytes ≡ c
+  pub size : len ≡ length c
+
+-- and it is made where the test says that it is opened
+abbrev pub Child : Bool → List Mono → Option ℕ → List ℕ → Type 0
+Child test c (Some len) bytes = (test ≡ true) × Born c len bytes
+Child test c None bytes = test ≡ false
 
 -- a run that ended, with its steps and its finds in the buffer
 pub record Ended (st : State) (out : List ℕ) (r : Run) : Type 0 where
@@ -48,11 +53,15 @@ pub record Ended (st : State) (out : List ℕ) (r : Run) : Type 0 where
   pub shown : Shown finds st.count out
   pub is : r ≡ ended st.steps finds
 
--- how a turn of the walk ends, with the buffer that it leaves
+-- a turn of the walk: it goes on with a state, or stops
+abbrev pub Turn : Type 0
+Turn = Result State Stop
+
+-- how it ends, with the buffer that it leaves
 abbrev pub Tells : Turn → List ℕ → Run → Type 0
-Tells (Going st) out r = Ended st out r
-Tells Spent out r = r ≡ spent
-Tells (Full steps) out r = r ≡ full steps
+Tells (Ok st) out r = Ended st out r
+Tells (Err Spent) out r = r ≡ spent
+Tells (Err (Full steps)) out r = r ≡ full steps
 
 -- the buffer shows some finds
 pub record Showing (count : ℕ) (out : List ℕ) : Type 0 where
@@ -103,10 +112,10 @@ module _ (r : Rules) (n : ℕ) (terms : List ℕ) (level : ℕ) (set : List ℕ)
     pub is : m ≡ chosen first others
 
   -- it is found, it goes no further, or it goes on
-  pub record Weighed (v : Verdict) : Type 0 where
-    pub finds : v.found ≡ true → gaps ≡ []
-    pub shuts : v.found ≡ false → v.split ≡ false → (some gaps ≡ true) × (ends r n level (tabled set) gaps ≡ true)
-    pub splits : v.found ≡ false → v.split ≡ true → GoesOn v.m.e
+  abbrev pub Weighed : Verdict → Type 0
+  Weighed verdict.Found = gaps ≡ []
+  Weighed verdict.Closed = (some gaps ≡ true) × (ends r n level (tabled set) gaps ≡ true)
+  Weighed (verdict.Split m) = GoesOn m.e
 
 -- ---- what taking the step of an opening tells
 module _ (r : Rules) (n : ℕ) (terms : List ℕ) (level limit : ℕ) (set : List ℕ) (st : State) (out₀ : List ℕ) where
@@ -116,20 +125,23 @@ module _ (r : Rules) (n : ℕ) (terms : List ℕ) (level limit : ℕ) (set : Lis
       → Tells turn out (run limit (length out₀ / set_bytes) (opened r n (system (records terms)) level d (tabled set)) st.steps finds)
 
   -- the pairs of a nonsquare follow: the step is taken, the set goes on, and the buffer is as it was
-  pub record PairsFollow (m : Mono) (out : List ℕ) : Type 0 where
+  pub record PairsFollow (m : Mono) (next : State) (out : List ℕ) : Type 0 where
     pub taken : st.steps < limit
     pub goes : GoesOn r n terms level set m
+    pub steps : next.steps ≡ st.steps + 1
+    pub count : next.count ≡ st.count
     pub kept : out ≡ out₀
 
-  abbrev pub SteppedBy : Bool → Opened → List ℕ → Type 0
-  SteppedBy false o out = NothingFollows o.turn out
-  SteppedBy true o out = PairsFollow o.m.e out
+  abbrev pub SteppedBy : Option Monomial → State → List ℕ → Type 0
+  SteppedBy None next out = NothingFollows (Ok next) out
+  SteppedBy (Some m) next out = PairsFollow m.e next out
 
-  abbrev pub Stepped : Opened → List ℕ → Type 0
-  Stepped o out = SteppedBy o.split o out
+  abbrev pub Stepped : Result Opened Stop → List ℕ → Type 0
+  Stepped (Ok o) out = SteppedBy o.split o.state out
+  Stepped (Err stop) out = NothingFollows (Err stop) out
 
 -- ---- what passing pairs by tells, each of which costs a step and opens nothing
 abbrev pub PassedBy : ℕ → State → ℕ → Turn → Type 0
-PassedBy limit st pairs (Going next) = (next.steps ≡ st.steps + pairs) × (next.count ≡ st.count) × (0 < pairs → st.steps + pairs ≤ limit)
-PassedBy limit st pairs Spent = (0 < pairs) × (limit < st.steps + pairs)
-PassedBy limit st pairs (Full steps) = ⊥
+PassedBy limit st pairs (Ok next) = (next.steps ≡ st.steps + pairs) × (next.count ≡ st.count) × (0 < pairs → st.steps + pairs ≤ limit)
+PassedBy limit st pairs (Err Spent) = (0 < pairs) × (limit < st.steps + pairs)
+PassedBy limit st pairs (Err (Full steps)) = ⊥

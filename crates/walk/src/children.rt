@@ -16,50 +16,36 @@ use monomial::width::WIDTH;
 use wiring::panel::Panel;
 use wiring::{buffer, sockets};
 
-// Where go is true, a child that is opened: so many monomials of the buffer.
-#[derive(Clone, Copy)]
-pub struct Tried {
-    pub go: bool,
-    pub len: usize,
-}
-
 // Puts m in its place among the first len monomials, which ascend and lack it.
 fn put_in(s: &mut [u8], len: usize, m: Monomial)
     requires { width * len + width ≤ length s.old }
     ensures { Ascending before (listed len s.old) → any (same m.e) (listed len s.old) ≡ false →
         listed (len + 1) s.new ≡ insert_by same before m.e (listed len s.old) }
 {
-    let mut i = len;
-    while 0 < i {
-        let x = Monomial::read(s, WIDTH * (i - 1));
+    for i in (0..len).rev() {
+        let x = Monomial::read(s, WIDTH * i);
         if x.before(m) {
-            break;
+            m.write(s, WIDTH * (i + 1));
+            return;
         }
-        x.write(s, WIDTH * i);
-        i -= 1;
+        x.write(s, WIDTH * (i + 1));
     }
-    m.write(s, WIDTH * i);
+    m.write(s, 0);
 }
 
-// The set with m, where there is room and m may be. The room is asked first: it is often taken, and asked for nothing.
-fn with_one(level: usize, panel: Panel, set: &[u8], next: &mut [u8], m: Monomial) -> Tried
+// The set with m, as so many monomials of the buffer, where there is room and m may be. The room is asked first: it is often taken, and asked for nothing.
+fn with_one(level: usize, panel: Panel, set: &[u8], next: &mut [u8], m: Monomial) -> Option<usize>
     requires { Growing level set.now next.old }
     ensures { any (same m.e) (tabled set.now) ≡ false →
         Child (can_build panel m.e && leb (length (insert_by same before m.e (tabled set.now))) level) (insert_by same before m.e (tabled set.now)) result next.new }
 {
     let len = set.len() / WIDTH;
-    if level <= len {
-        return Tried { go: false, len };
-    }
-    if !sockets::can_build(panel, m) {
-        return Tried { go: false, len };
+    if level <= len || !sockets::can_build(panel, m) {
+        return None;
     }
     buffer::put(next, 0, set);
     put_in(next, len, m);
-    Tried {
-        go: true,
-        len: len + 1,
-    }
+    Some(len + 1)
 }
 
 // The set with a and b, where there is room for both and both may be.
@@ -70,7 +56,7 @@ fn with_two(
     next: &mut [u8],
     a: Monomial,
     b: Monomial,
-) -> Tried
+) -> Option<usize>
     requires { Growing level set.now next.old }
     ensures { any (same b.e) (tabled set.now) ≡ false →
         any (same a.e) (insert_by same before b.e (tabled set.now)) ≡ false →
@@ -78,22 +64,13 @@ fn with_two(
         (insert_by same before a.e (insert_by same before b.e (tabled set.now))) result next.new }
 {
     let len = set.len() / WIDTH;
-    if level <= len + 1 {
-        return Tried { go: false, len };
-    }
-    if !sockets::can_build(panel, a) {
-        return Tried { go: false, len };
-    }
-    if !sockets::can_build(panel, b) {
-        return Tried { go: false, len };
+    if level <= len + 1 || !sockets::can_build(panel, a) || !sockets::can_build(panel, b) {
+        return None;
     }
     buffer::put(next, 0, set);
     put_in(next, len, b);
     put_in(next, len + 1, a);
-    Tried {
-        go: true,
-        len: len + 2,
-    }
+    Some(len + 2)
 }
 
 // The set plus those of a, b not in V, where these may be and it has at most level monomials. What V holds of the pair is known before anything is
@@ -106,24 +83,19 @@ pub(crate) fn offer(
     a: Monomial,
     b: Monomial,
     held: Held,
-) -> Tried
-    requires { Growing level set.now next.old × Holds (signals_at panel.n set.now) (a.e, b.e) held }
+) -> Option<usize>
+    requires growing { Growing level set.now next.old }
+    requires holds { Holds (signals_at panel.n set.now) (a.e, b.e) held }
     ensures { Child (opens (kit_rules panel) panel.n level (tabled set.now) (a.e, b.e)) (child panel.n (tabled set.now) (a.e, b.e)) result next.new }
 {
-    let mut m = b;
-    if held.first {
-        if held.second {
+    let m = match (held.first, held.second) {
+        (true, true) => {
             buffer::put(next, 0, set);
-            return Tried {
-                go: true,
-                len: set.len() / WIDTH,
-            };
+            return Some(set.len() / WIDTH);
         }
-    } else {
-        if !held.second {
-            return with_two(level, panel, set, next, a, b);
-        }
-        m = a;
-    }
+        (false, false) => return with_two(level, panel, set, next, a, b),
+        (true, false) => b,
+        (false, true) => a,
+    };
     with_one(level, panel, set, next, m)
 }

@@ -9,41 +9,37 @@ ghost use Rattle.walk.specs.Walk.{kit_rules};
 ghost use Rattle.walk.specs.Plan.{plan, said, settings_right, planned};
 
 use super::walk;
-use super::walk::{Frame, State, Turn};
+use super::walk::{Frame, State, Stop};
 use counting::verdict::LIST_BYTES;
 use wiring::panel::{CARDS, MOST_STEPS, Panel};
 use wiring::reply::Reply;
-use wiring::terms::Fault;
 use wiring::{buffer, derivative, sockets, terms};
 
 // Whether n, the marks, the kit's degree, the cap and the limit are in range.
 fn settings_right(n: u64, marks: u64, degree: u64, cap: u64, limit: u64) -> bool
     ensures { result ≡ settings_right (panel_of n marks degree) cap limit }
 {
-    if !sockets::panel_right(n, marks, degree) {
-        return false;
-    }
-    if (CARDS as u64) < cap {
-        return false;
-    }
-    if limit < 1 {
-        return false;
-    }
-    limit <= MOST_STEPS
+    sockets::panel_right(n, marks, degree)
+        && cap <= CARDS as u64
+        && 1 <= limit
+        && limit <= MOST_STEPS
 }
 
 // The levels from 0 to the cap; the buffer is all zeros at the start. One list of nonsquares serves all sets: each is done with it before the next
 // is opened.
 fn climb(terms: &[u8], out: &mut [u8], panel: Panel, cap: usize, limit: u64) -> Reply
-    requires { (panel.n ≤ width) × ((cap ≤ cards) × (CleanTerms terms.now × (out.old ≡ replicate (length out.old) 0))) }
+    requires few { panel.n ≤ width }
+    requires capped { cap ≤ cards }
+    requires clean { CleanTerms terms.now }
+    requires blank { out.old ≡ replicate (length out.old) 0 }
     ensures { outcome result out.new ≡ said (plan (kit_rules panel) panel.n (system (records terms.now)) limit (length out.old / set_bytes) cap) (length out.old) }
 {
     let cancels = derivative::may_cancel(terms);
     let empty = [0u8; 0];
     let mut list = [0u8; LIST_BYTES];
     let mut steps: u64 = 0;
-    let mut k: usize = 0;
-    while k <= cap {
+    for k in 0..cap + 1 {
+        let order = k as u64;
         let f = Frame {
             panel,
             level: k,
@@ -51,36 +47,30 @@ fn climb(terms: &[u8], out: &mut [u8], panel: Panel, cap: usize, limit: u64) -> 
             cancels,
         };
         match walk::open(terms, out, &mut list, f, &empty, State { steps, count: 0 }) {
-            Turn::Going(s) => {
-                let count = s.count;
+            Ok(s) => {
                 steps = s.steps;
-                if 0 < count {
+                if 0 < s.count {
                     return Reply::Done {
-                        order: k as u64,
-                        count: count as u64,
+                        order,
+                        count: s.count as u64,
                         steps,
                     };
                 }
             }
-            Turn::Spent => {
+            Err(stop) => {
                 buffer::clear(out);
-                return Reply::Spent {
-                    order: k as u64,
-                    steps: limit,
-                };
-            }
-            Turn::Full(taken) => {
-                buffer::clear(out);
-                return Reply::Full {
-                    order: k as u64,
-                    steps: taken,
+                return match stop {
+                    Stop::Spent => Reply::Spent {
+                        order,
+                        steps: limit,
+                    },
+                    Stop::Full(steps) => Reply::Full { order, steps },
                 };
             }
         }
-        k += 1;
     }
     Reply::Nothing {
-        order: k as u64,
+        order: cap as u64 + 1,
         steps,
     }
 }
@@ -110,8 +100,7 @@ pub fn plan(
         degree,
     };
     match terms::fault_of(panel, terms) {
-        Fault::Clean => climb(terms, out, panel, cap as usize, limit),
-        Fault::Wrong(place) => Reply::Term { place },
-        Fault::Repeated(place) => Reply::Twice { place },
+        Ok(()) => climb(terms, out, panel, cap as usize, limit),
+        Err(fault) => Reply::from(fault),
     }
 }

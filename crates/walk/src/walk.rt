@@ -7,7 +7,6 @@ ghost use Rattle.walk.specs.Walk.{Finds, kit_rules, opened, tried_all, run, kept
 ghost use Rattle.walk.specs.Listing.{Shown};
 ghost use Rattle.walk.specs.Turns.{Tells, Openable, Ready, Means, Splits, Found, Weighed, Stepped, PassedBy};
 
-use super::listing::Kept;
 use super::{children, listing};
 use counting::verdict;
 use counting::verdict::Verdict;
@@ -33,47 +32,44 @@ pub struct State {
     pub count: usize,
 }
 
-// How a turn ends: the walk goes on, the next step would pass the limit, or a find had no room after so many steps.
+// Why the walk stops short of its end: the next step would pass the limit, or a find had no room after so many steps.
 #[derive(Clone, Copy)]
-pub enum Turn {
-    Going(State),
+pub enum Stop {
     Spent,
     Full(u64),
 }
 
-// What opening a set comes to: its turn, and where split is true the nonsquare whose pairs are to be run.
+// What opening a set comes to where the walk goes on: its state, and the nonsquare whose pairs are to be run, where there is one.
 #[derive(Clone, Copy)]
 pub struct Opened {
-    pub turn: Turn,
-    pub split: bool,
-    pub m: Monomial,
+    pub state: State,
+    pub split: Option<Monomial>,
 }
 
 // A found set, once its step is taken.
-fn found(out: &mut [u8], set: &[u8], st: State) -> Turn
+fn found(out: &mut [u8], set: &[u8], st: State) -> Result<State, Stop>
     requires { Found set.now st.count out.old }
     ensures { (finds : Finds) → Shown finds st.count out.old →
         Tells result out.new (kept (length out.old / set_bytes) (tabled set.now) st.steps finds) }
 {
-    let steps = st.steps;
     match listing::keep(out, st.count, set) {
-        Kept::Held(count) => Turn::Going(State { steps, count }),
-        Kept::NoRoom => Turn::Full(steps),
+        Some(count) => Ok(State { count, ..st }),
+        None => Err(Stop::Full(st.steps)),
     }
 }
 
 // Whether a set is found, and else whether it goes on and with which nonsquare. At its level it only may be found: nothing is counted there.
 fn judge(terms: &[u8], list: &mut [u8], f: Frame, set: &[u8]) -> Verdict
-    requires { Openable f.panel.n terms.now f.level set.now × Means f.cancels terms.now list.old }
+    requires openable { Openable f.panel.n terms.now f.level set.now }
+    requires means { Means f.cancels terms.now list.old }
     ensures { Weighed (kit_rules f.panel) f.panel.n terms.now f.level set.now result }
 {
     let len = set.len() / WIDTH;
     if f.level <= len {
-        return Verdict {
-            found: !quadratic::is_unmet(terms, f.panel.n, set, f.cancels),
-            split: false,
-            m: Monomial::ONE,
-        };
+        if quadratic::is_unmet(terms, f.panel.n, set, f.cancels) {
+            return Verdict::Closed;
+        }
+        return Verdict::Found;
     }
     verdict::verdict_of(terms, list, f.panel, set, f.cancels, f.level - len)
 }
@@ -86,36 +82,32 @@ fn take_step(
     f: Frame,
     set: &[u8],
     st: State,
-) -> Opened
-    requires { Ready f.panel.n terms.now f.level set.now st.count out.old × Means f.cancels terms.now list.old }
+) -> Result<Opened, Stop>
+    requires ready { Ready f.panel.n terms.now f.level set.now st.count out.old }
+    requires means { Means f.cancels terms.now list.old }
     ensures { Stepped (kit_rules f.panel) f.panel.n terms.now f.level f.limit set.now st out.old result out.new }
 {
     let taken = st.steps;
     if f.limit <= taken {
-        return Opened {
-            turn: Turn::Spent,
-            split: false,
-            m: Monomial::ONE,
-        };
+        return Err(Stop::Spent);
     }
     let next = State {
         steps: taken + 1,
-        count: st.count,
+        ..st
     };
-    let o = judge(terms, list, f, set);
-    if o.found {
-        return Opened {
-            turn: found(out, set, next),
-            split: false,
-            m: Monomial::ONE,
-        };
-    }
-    let split = o.split;
-    let m = o.m;
-    Opened {
-        turn: Turn::Going(next),
-        split,
-        m,
+    match judge(terms, list, f, set) {
+        Verdict::Found => {
+            let state = found(out, set, next)?;
+            Ok(Opened { state, split: None })
+        }
+        Verdict::Closed => Ok(Opened {
+            state: next,
+            split: None,
+        }),
+        Verdict::Split(m) => Ok(Opened {
+            state: next,
+            split: Some(m),
+        }),
     }
 }
 
@@ -128,42 +120,33 @@ pub(crate) fn open(
     f: Frame,
     set: &[u8],
     st: State,
-) -> Turn
-    requires { Ready f.panel.n terms.now f.level set.now st.count out.old × Means f.cancels terms.now list.old }
+) -> Result<State, Stop>
+    requires ready { Ready f.panel.n terms.now f.level set.now st.count out.old }
+    requires means { Means f.cancels terms.now list.old }
     ensures { (d : ℕ) (finds : Finds) → f.level - length (tabled set.now) < d → Shown finds st.count out.old →
         Tells result out.new
         (run f.limit (length out.old / set_bytes) (opened (kit_rules f.panel) f.panel.n (system (records terms.now)) f.level d (tabled set.now)) st.steps finds) }
 {
-    let o = take_step(terms, out, list, f, set, st);
-    if !o.split {
-        return o.turn;
+    let o = take_step(terms, out, list, f, set, st)?;
+    match o.split {
+        Some(m) => pairs(terms, out, list, f, set, m, o.state),
+        None => Ok(o.state),
     }
-    let m = o.m;
-    let next = State {
-        steps: st.steps + 1,
-        count: st.count,
-    };
-    pairs(terms, out, list, f, set, m, next)
 }
 
 // Pairs that open nothing: one step each, and nothing else is done.
-fn pass_by(limit: u64, st: State, pairs: u64) -> Turn
+fn pass_by(limit: u64, st: State, pairs: u64) -> Result<State, Stop>
     ensures { PassedBy limit st pairs result }
 {
-    let steps = st.steps;
-    let count = st.count;
     if pairs < 1 {
-        return Turn::Going(State { steps, count });
+        return Ok(st);
     }
-    if limit < pairs {
-        return Turn::Spent;
+    if limit < pairs || limit - pairs < st.steps {
+        return Err(Stop::Spent);
     }
-    if limit - pairs < steps {
-        return Turn::Spent;
-    }
-    Turn::Going(State {
-        steps: steps + pairs,
-        count,
+    Ok(State {
+        steps: st.steps + pairs,
+        ..st
     })
 }
 
@@ -178,8 +161,10 @@ fn pairs(
     set: &[u8],
     m: Monomial,
     st: State,
-) -> Turn
-    requires { Ready f.panel.n terms.now f.level set.now st.count out.old × (Splits f.panel.n terms.now f.level set.now m.e × Means f.cancels terms.now list.old) }
+) -> Result<State, Stop>
+    requires ready { Ready f.panel.n terms.now f.level set.now st.count out.old }
+    requires splits { Splits f.panel.n terms.now f.level set.now m.e }
+    requires means { Means f.cancels terms.now list.old }
     ensures { (d : ℕ) (finds : Finds) → f.level - length (tabled set.now) ≤ d → Shown finds st.count out.old →
         Tells result out.new
         (run f.limit (length out.old / set_bytes)
@@ -192,46 +177,32 @@ fn pairs(
     let mut at = passes::start(m);
     loop {
         let p = passes::find(f.panel.n, set, m, all, at);
-        if !p.some {
+        let Some(held) = p.held else {
             if all {
-                return Turn::Going(cur);
+                return Ok(cur);
             }
             return pass_by(f.limit, cur, passes::left(m, p.at.listed));
-        }
-        let taken = cur.steps;
-        if f.limit <= taken {
-            return Turn::Spent;
-        }
-        let seen = cur.count;
-        cur = State {
-            steps: taken + 1,
-            count: seen,
         };
+        if f.limit <= cur.steps {
+            return Err(Stop::Spent);
+        }
+        cur.steps += 1;
         let a = p.at.a;
-        let t = children::offer(f.level, f.panel, set, &mut child, a, m.over(a), p.held);
-        if t.go {
+        if let Some(len) = children::offer(
+            f.level,
+            f.panel,
+            set,
+            &mut child,
+            a,
+            m.over(a),
+            held,
+        ) {
             // Made anew for the call: handed on as it came, it would lie twice in the frame of each opening.
             let below = Frame {
-                panel: Panel {
-                    n: f.panel.n,
-                    marks: f.panel.marks,
-                    degree: f.panel.degree,
-                },
-                level: f.level,
-                limit: f.limit,
-                cancels: f.cancels,
+                panel: Panel { ..f.panel },
+                ..f
             };
-            match open(terms, out, list, below, &child[..WIDTH * t.len], cur) {
-                Turn::Going(s) => {
-                    cur = s;
-                }
-                Turn::Spent => {
-                    return Turn::Spent;
-                }
-                Turn::Full(s) => {
-                    return Turn::Full(s);
-                }
-            }
+            cur = open(terms, out, list, below, &child[..WIDTH * len], cur)?;
         }
         at = passes::behind(m, p.at);
     }

@@ -11,45 +11,44 @@ use Rattle.wiring.specs.declared.reply.Reply.{Reply}
 use Rattle.walk.specs.Plan.{planned}
 use Rattle.thin.specs.Thin.{thinned}
 use Rattle.desktop.specs.Read.{read_listing}
-use Rattle.lines.specs.Text.{Stands}
 use Rattle.lines.specs.Case.{case_line}
 use Rattle.lines.proofs.text.Laws.{stands_one}
 use Rattle.compare.specs.declared.head.Head.{Head}
 use Rattle.compare.specs.Answer.{Case, filler, outcome_case, read_case, case_of, Answers}
 
 -- a reply and a buffer, told as they are
-told : (r : Reply) (o : Outcome) (five bytes : List ℕ) {end : ℕ} {l m : List ℕ} → outcome r bytes ≡ o
-    → five ≡ in_order (numbers r) → Stands (case_line five bytes) end l m → Answers (outcome_case o) end l m bytes
-told r o five bytes {end} {l} {m} e f s = subst (λ (x : Outcome). Answers (outcome_case x) end l m bytes) e (rw f at s, refl)
+told : (r : Reply) (o : Outcome) (five bytes : List ℕ) {m : List ℕ} → outcome r bytes ≡ o
+    → five ≡ in_order (numbers r) → m ≡ case_line five bytes → Answers (outcome_case o) m bytes
+told r o five bytes {m} e f s = subst (λ (x : Outcome). Answers (outcome_case x) m bytes) e (record { text = rw f at s; bytes = refl })
 
-module _ (h : Head) (terms given : List ℕ) (size now : ℕ) (same : now ≡ size) {end : ℕ} {l m : List ℕ} where
+module _ (h : Head) (terms given : List ℕ) (size now : ℕ) (same : now ≡ size) {m : List ℕ} where
   pub plan_told : h.operation ≡ 1 → (r : Reply) (five bytes : List ℕ)
       → outcome r bytes ≡ planned (panel_of h.n h.marks h.degree) h.cap h.limit terms now → five ≡ in_order (numbers r)
-      → Stands (case_line five bytes) end l m → Answers (case_of h terms given size) end l m bytes
+      → m ≡ case_line five bytes → Answers (case_of h terms given size) m bytes
   unfolding case_of
   plan_told p r five bytes e f s = rw (eq-eqb h.operation 1 p) (told r _ five bytes (rw same at e) f s)
 
   pub wire_told : (h.operation ≡ 1 → ⊥) → h.operation ≡ 2 → (r : Reply) (five bytes : List ℕ)
       → outcome r bytes ≡ wired (panel_of h.n h.marks h.degree) terms given now → five ≡ in_order (numbers r)
-      → Stands (case_line five bytes) end l m → Answers (case_of h terms given size) end l m bytes
+      → m ≡ case_line five bytes → Answers (case_of h terms given size) m bytes
   unfolding case_of
   wire_told p q r five bytes e f s = rw (ne_eqb h.operation 1 p, eq-eqb h.operation 2 q) (told r _ five bytes (rw same at e) f s)
 
   pub thin_told : (h.operation ≡ 1 → ⊥) → (h.operation ≡ 2 → ⊥) → h.operation ≡ 3 → (r : Reply) (five bytes : List ℕ)
       → outcome r bytes ≡ thinned (panel_of h.n h.marks h.degree) terms given now → five ≡ in_order (numbers r)
-      → Stands (case_line five bytes) end l m → Answers (case_of h terms given size) end l m bytes
+      → m ≡ case_line five bytes → Answers (case_of h terms given size) m bytes
   unfolding case_of
   thin_told p q o r five bytes e f s = rw (ne_eqb h.operation 1 p, ne_eqb h.operation 2 q, eq-eqb h.operation 3 o) (told r _ five bytes (rw same at e) f s)
 
   -- reading leaves the buffer as it was filled, and the set in the line
   pub read_told : (h.operation ≡ 1 → ⊥) → (h.operation ≡ 2 → ⊥) → (h.operation ≡ 3 → ⊥) → (r : Reply) (five set bytes : List ℕ)
       → outcome r set ≡ read_listing (panel_of h.n h.marks h.degree) terms given → five ≡ in_order (numbers r) → bytes ≡ replicate size filler
-      → Stands (case_line five set) end l m → Answers (case_of h terms given size) end l m bytes
+      → m ≡ case_line five set → Answers (case_of h terms given size) m bytes
   unfolding case_of
   read_told p q o r five set bytes e f b s =
       rw (ne_eqb h.operation 1 p, ne_eqb h.operation 2 q, ne_eqb h.operation 3 o)
-      (subst (λ (x : Outcome). Answers (read_case x size) end l m bytes) e (rw f at s, b))
+      (subst (λ (x : Outcome). Answers (read_case x size) m bytes) e (record { text = rw f at s; bytes = b }))
 
 -- two answers that the promise allows are equal
-pub answer_determined : (c : Case) {e f : ℕ} {l m n b d : List ℕ} → Answers c e l m b → Answers c f l n d → (e ≡ f) × (m ≡ n) × (b ≡ d)
-answer_determined c x y = let one = stands_one x.0 y.0 in (one.0, one.1, x.1 ∙ sym y.1)
+pub answer_determined : (c : Case) {m n b d : List ℕ} → Answers c m b → Answers c n d → (m ≡ n) × (b ≡ d)
+answer_determined c x y = (stands_one x.text y.text, x.bytes ∙ sym y.bytes)

@@ -74,9 +74,6 @@ module _ (may : Mono → Bool) (v : List Mono) (often : ℕ) where
       pub low : met ≤ cap
       pub says : up_to cap (met + news (take i l) (drop i l)) ≡ up_to cap (news [] l)
 
-    pub finding_start : Finding 0 0
-    finding_start = record { within = omega arith; low = omega arith; says = ap (up_to cap) (omega arith) }
-
     module _ {i met : ℕ} (s : Finding i met) where
       pub finding_next : (d : Mono) (met' : ℕ) → i < length l
           → met' ≡ up_to cap (met + length (keep (begins may v often (take i l) (drop (i + 1) l) (get_or l i d)) v)) → Finding (i + 1) met'

@@ -77,9 +77,6 @@ module _ {A : Type 0} (f : A → Bool) (l : List A) (cap many : ℕ) where
     pub low : met ≤ cap
     pub says : up_to cap (met + length (keep f (drop j l))) ≡ up_to cap (many + length (keep f l))
 
-  pub tallying_start : many ≤ cap → Tallying 0 many
-  tallying_start h = record { within = omega arith; low = h; says = refl }
-
   module _ {j met : ℕ} (s : Tallying j met) where
     pub tallying_full : cap ≤ met → met ≡ up_to cap (many + length (keep f l))
     tallying_full h =

@@ -4,10 +4,12 @@ use mathlib.Core.Bool.{Bool, true, false}
 use mathlib.Core.List.Memᴰ
 use mathlib.Core.List.{List, [], ◌∷◌, map}
 use mathlib.Core.Logic.{⊎_elim}
-use Prim.Native.Nat.{ℕ, suc, ◌+◌, ◌-◌, ◌*◌, ◌/◌, ◌<◌, ◌≤◌}
+use Prim.Native.Nat.{ℕ, zero, suc, ◌+◌, ◌-◌, ◌*◌, ◌/◌, ◌<◌, ◌≤◌}
 use native.Mathlib.Omega.{arith}
 use native.Mathlib.Numerals.{add-one}
-use native.Mathlib.Nat.{le_trans, mul-le-mul_left, mul-le-mul_right, mul-div-le, div-one}
+use native.Mathlib.Nat.{mul_comm}
+use Rattle.std.specs.Int.{div_ceil}
+use Rattle.std.proofs.lemmas.Grind.{div_ceil_times}
 use borrow.Author.Tests.{lt-ltb, le-ltb, ltb-false}
 use lib.Dec.{T, ltb, ltb→lt, lt→ltb, leb→le}
 use lib.ListN.{length, take, length-map}
@@ -94,9 +96,6 @@ module _ (may : Mono → Bool) (v l : List Mono) where
     pub summing_start : (wanted : ℕ) → Summing wanted wanted 1
     summing_start wanted = record { level = 0; is = refl; low = omega arith; says = ap (λ (k : ℕ). ltb k wanted) above_all }
 
-    pub summing_end : {wanted left often : ℕ} → Summing wanted left often → left ≤ 0 → false ≡ ltb (sum (take room tally)) wanted
-    summing_end {left = left} s h = sym (le-ltb (above s.level) left (omega arith)) ∙ s.says
-
     module _ {wanted left often : ℕ} (s : Summing wanted left often) (many : ℕ) (is : many ≡ up_to room (frequent may v l often)) where
       next : above s.level ≡ many + above often
       next =
@@ -155,16 +154,23 @@ module _ (may : Mono → Bool) (v l : List Mono) where
           closes_sum false (sym (le-ltb (sum (take room tally)) wanted (omega arith)))
 
 -- ---- the numbers of the rule
--- what the monomials make by twos stays small
-pub twos_small : (room most : ℕ) → room ≤ most → room * (room + 1) ≤ most * (most + 1)
-twos_small room most h = le_trans (mul-le-mul_left room (add_le h)) (mul-le-mul_right (most + 1) h)
-  where
-    add_le : room ≤ most → room + 1 ≤ most + 1
-    add_le k = omega arith
-
 -- the share of each, if together they are to come to what is wanted
-pub share_less : (wanted room : ℕ) → 0 < wanted → room * ((wanted - 1) / room) < wanted
-share_less wanted room h = let k : room * ((wanted - 1) / room) ≤ wanted - 1 = mul-div-le (wanted - 1) room in omega arith
+module _ (wanted room : ℕ) (some : 0 < wanted) (roomy : 0 < room) where
+  pub share_some : 0 < div_ceil wanted room
+  share_some = go (div_ceil wanted room) (div_ceil_times wanted room roomy).0
+    where
+      go : (d : ℕ) → wanted ≤ d * room → 0 < d
+      go zero h = let z : ⊥ = omega arith in absurd z
+      go (suc d) h = omega arith
 
-pub share_whole : (wanted room : ℕ) → room ≡ 1 → wanted ≤ suc ((wanted - 1) / room)
-share_whole wanted room e = let k : (wanted - 1) / room ≡ wanted - 1 = ap (λ (r : ℕ). (wanted - 1) / r) e ∙ div-one (wanted - 1) in omega arith
+  module _ (share : ℕ) (is : div_ceil wanted room ≡ suc share) where
+    pub share_less : room * share < wanted
+    share_less =
+        let high : suc share * room < wanted + room = subst (λ (d : ℕ). d * room < wanted + room) is (div_ceil_times wanted room roomy).1 in
+        omega (arith, mul_comm room share)
+
+    pub share_whole : room ≡ 1 → wanted ≤ suc share
+    share_whole e =
+        let low : wanted ≤ suc share * room = subst (λ (d : ℕ). wanted ≤ d * room) is (div_ceil_times wanted room roomy).0 in
+        let alone : suc share * room ≡ suc share * 1 = ap (λ (r : ℕ). suc share * r) e in
+        omega arith

@@ -12,7 +12,7 @@ use Rattle.monomial.specs.Lists.{any, gather}
 use Rattle.monomial.specs.Monomial.{Mono, one, width}
 use Rattle.monomial.specs.Order.{same}
 use Rattle.monomial.specs.Claims.{◌∈◌, ◌⊆◌, Different, Rearranged}
-use Rattle.monomial.proofs.Tests.{is→T, is→n_t, is_not}
+use Rattle.monomial.proofs.Tests.{is→T, is→n_t}
 use Rattle.monomial.proofs.Members.{there, append_sub, append_turned, gather_in, gather_out}
 use Rattle.monomial.proofs.Counting.{at_in}
 use Rattle.monomial.proofs.Rearranged.{rearranged_in, rearranged_out, rearranged_length}
@@ -26,13 +26,13 @@ use Rattle.wiring.specs.Terms.{Record, system}
 use Rattle.wiring.specs.Quadratic.{unmet, nonsquares}
 use Rattle.wiring.specs.Signals.{tabled, listed}
 use Rattle.wiring.specs.Choice.{cheaper, Picked, Best, Offered}
-use Rattle.wiring.specs.declared.choice.Pick.{Pick}
+use Rattle.std.specs.Prelude.{Option, Some}
+use Rattle.monomial.specs.declared.Monomial.{Monomial}
 use Rattle.wiring.proofs.signals.Tables.{tabled_none, tabled_length, tabled_more}
 use Rattle.wiring.proofs.quadratic.Laws.{nonsquares_in, nonsquares_out, nonsquares_asc}
 use Rattle.wiring.proofs.quadratic.Records.{outside, passing, offering, offered_in, offered_sub, passing_sub, passing_unmet, met, met_all, meets_none, meets_one}
 use Rattle.wiring.proofs.choice.Laws.{picked}
-use Rattle.counting.specs.declared.gathering.Gathered.{Gathered}
-use Rattle.counting.specs.Gathering.{Lent, Holds, Exceeds, Notes, Lists, Gathers}
+use Rattle.counting.specs.Gathering.{Lent, Holds, Exceeds, Lists}
 
 -- ---- the bytes
 -- the listed monomials lie in the list
@@ -108,14 +108,6 @@ module _ {most len : ℕ} {bytes : List ℕ} (w : Lent most len bytes) (m : Mono
           all = λ y k. subst (λ (l : List Mono). y ∈ l) (sym is) (append_turned (m ∷ []) old y k);
         }
 
--- ---- what is answered
-module _ {l : List Mono} {most : ℕ} {bytes : List ℕ} (g : Gathered) where
-  pub notes_all : g.over ≡ false → Holds l most g.len bytes → Notes l most g bytes
-  notes_all o h = record { all = λ e. h; more = λ e. absurd (is_not g.over e o) }
-
-  pub notes_more : g.over ≡ true → Exceeds l most → Notes l most g bytes
-  notes_more o x = record { all = λ e. absurd (is_not g.over o e); more = λ e. x }
-
 -- ---- monomials more on top of what the list held
 module _ {met : List Mono} {most len : ℕ} {bytes : List ℕ} (h : Holds met most len bytes) (new : List Mono) where
   same_new : new ⊆ new
@@ -170,20 +162,20 @@ module _ (l0 : List Mono) where
         (passing_sub (outside v) rs z y (subst (λ (l : List Mono). y ∈ l) (sym (passing_unmet v rs z)) h))
 
     -- what a record offers is one of them
-    offered_lacks : (r : Record) (p : Pick) → Offered (offering (outside v) rs z r) (image r z) p → p.some ≡ true → p.m.e ∈ lacked
-    offered_lacks r p o t =
-        let given : image r z ∈ passing (outside v) rs z = offered_in (outside v) rs z r (is→T (offering (outside v) rs z r) (sym o.told ∙ t)) in
-        subst (λ (l : List Mono). p.m.e ∈ l) (passing_unmet v rs z) (Memᴰ.cast (o.is t) given)
+    offered_lacks : (r : Record) (m : Monomial) → Offered (offering (outside v) rs z r) (image r z) (Some m) → m.e ∈ lacked
+    offered_lacks r m o =
+        let given : image r z ∈ passing (outside v) rs z = offered_in (outside v) rs z r (is→T (offering (outside v) rs z r) (sym o.told)) in
+        subst (λ (l : List Mono). m.e ∈ l) (passing_unmet v rs z) (Memᴰ.cast o.is given)
 
     module _ {most len : ℕ} {bytes : List ℕ} {t : ℕ} (c : Meeting most len bytes t) where
       -- one of them is too many
-      pub meeting_over : (r : Record) (p : Pick) → Offered (offering (outside v) rs z r) (image r z) p → p.some ≡ true
-          → Exceeds (p.m.e ∷ listed len bytes) most → Exceeds (lacked ++ l0) most
-      meeting_over r p o s x = exceeds_over c.holds (p.m.e ∷ []) (lacked ++ l0) one so_far x
+      pub meeting_over : (r : Record) (m : Monomial) → Offered (offering (outside v) rs z r) (image r z) (Some m)
+          → Exceeds (m.e ∷ listed len bytes) most → Exceeds (lacked ++ l0) most
+      meeting_over r m o x = exceeds_over c.holds (m.e ∷ []) (lacked ++ l0) one so_far x
         where
-          one : (p.m.e ∷ []) ⊆ (lacked ++ l0)
+          one : (m.e ∷ []) ⊆ (lacked ++ l0)
           one y k =
-              ⊎_elim (λ q. Memᴰ.append_left l0 (Memᴰ.cast q (offered_lacks r p o s))) (λ n. absurd (Memᴰ.not-nil n)) (Memᴰ.cases_cons k)
+              ⊎_elim (λ q. Memᴰ.append_left l0 (Memᴰ.cast q (offered_lacks r m o))) (λ n. absurd (Memᴰ.not-nil n)) (Memᴰ.cases_cons k)
 
           so_far : (gather giving (take t rs) ++ l0) ⊆ (lacked ++ l0)
           so_far = beside (gather giving (take t rs)) lacked (λ y k. given_in y (collecting_sub giving rs t y k))
@@ -217,22 +209,18 @@ module _ (v : List Mono) (d : Mono → Poly Mono) where
       gathering_next len' now k = collecting_down unmet_of v c i (one width) h (λ m b. rw here (holds_over b (unmet_of z) len' now k))
 
       -- or one of them is too many
-      pub gathering_over : (g : Gathered) (now : List ℕ) → g.over ≡ true → Exceeds (unmet_of z ++ listed len bytes) most → Gathers most ns g now
-      gathering_over g now o x =
-          record {
-            all = λ e. absurd (is_not g.over o e);
-            more = λ e.
-                let y : Exceeds ns most = exceeds_over c.holds (unmet_of z) ns own (λ m k. gathered_in m (collecting_behind unmet_of v j m k)) x in
-                let long : length y.some ≤ length ns = different_length y.some ns y.different y.inside in
-                omega (arith, y.many);
-          }
+      pub gathering_over : Exceeds (unmet_of z ++ listed len bytes) most → most < length ns
+      gathering_over x =
+          let y : Exceeds ns most = exceeds_over c.holds (unmet_of z) ns own (λ m k. gathered_in m (collecting_behind unmet_of v j m k)) x in
+          let long : length y.some ≤ length ns = different_length y.some ns y.different y.inside in
+          omega (arith, y.many)
         where
           own : unmet_of z ⊆ ns
           own m k = nonsquares_in plain mono_order v d z m (subst (λ (x : Mono). x ∈ v) here (at_in v i (one width) (omega (arith, c.within)))) k
 
   module _ {most len : ℕ} {bytes : List ℕ} (c : Gathering most len bytes 0) where
-    pub gathering_ends : width * most ≤ length bytes → Gathers most ns (record { len = len; over = false }) bytes
-    gathering_ends r = record { all = λ t. lists; more = λ t. absurd (is→T false t) }
+    pub gathering_ends : width * most ≤ length bytes → Lists ns most len bytes
+    gathering_ends r = record { few = held.few; many = sym (rearranged_length ns (listed len bytes) are ∙ lent_length (holds_lent held r)); are = are }
       where
         held : Holds ns most len bytes
         held = holds_members most len bytes (gather unmet_of v) ns gathered_in gathered_out (collecting_whole unmet_of v c)
@@ -242,9 +230,6 @@ module _ (v : List Mono) (d : Mono → Poly Mono) where
             different_rearranged ns (listed len bytes) (ascending_different mono_order ns (nonsquares_asc plain mono_order v d)) held.different
             held.all held.inside
 
-        lists : Lists ns most len bytes
-        lists = record { few = held.few; many = sym (rearranged_length ns (listed len bytes) are ∙ lent_length (holds_lent held r)); are = are }
-
 -- ---- the cheapest of the listed nonsquares is the one that is split
-pub picked_of : (l r : List Mono) (p : Pick) → Rearranged l r → Best cheaper r p → Picked l p
+pub picked_of : (l r : List Mono) (p : Option Monomial) → Rearranged l r → Best cheaper r p → Picked l p
 picked_of l r p q b = picked l r p (rearranged_out l r q) (rearranged_in l r q) b

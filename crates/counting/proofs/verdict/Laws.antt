@@ -1,5 +1,5 @@
 -- What follows for an opened set below its level: the nonsquares that a list need hold, and the answers. Assumes nothing.
-use mathlib.Core.Path.{◌≡◌, refl, sym, ap, ◌∙◌}
+use mathlib.Core.Path.{◌≡◌, refl, sym, ap}
 use mathlib.Core.Bool.{Bool, true, false}
 use mathlib.Core.List.Memᴰ
 use mathlib.Core.List.{List, [], ◌∷◌, map}
@@ -15,8 +15,7 @@ use Rattle.monomial.specs.Monomial.{Mono, width}
 use Rattle.monomial.specs.Order.{same, before}
 use Rattle.monomial.specs.Product.{mul}
 use Rattle.monomial.specs.Claims.{◌∈◌, ◌⊆◌, Ascending, Different, Rearranged}
-use Rattle.monomial.proofs.Tests.{is_not}
-use Rattle.monomial.proofs.Members.{keep_out, keep_none, Gathered, gather_out, no_length}
+use Rattle.monomial.proofs.Members.{keep_out, keep_none, Gathered, gather_out}
 use Rattle.monomial.proofs.Different.{different_length, different_keep, ascending_different}
 use Rattle.monomial.proofs.order.Laws.{mono_order}
 use Rattle.monomial.proofs.order.Ascending.{arrange_out}
@@ -24,12 +23,12 @@ use Rattle.wiring.specs.Claims.{Wide}
 use Rattle.wiring.specs.Panel.{cards}
 use Rattle.wiring.specs.Signals.{signals_at}
 use Rattle.wiring.specs.Choice.{Picked}
-use Rattle.wiring.specs.declared.choice.Pick.{Pick}
+use Rattle.std.specs.Prelude.{Option, Some, None, IsSome}
+use Rattle.monomial.specs.declared.Monomial.{Monomial}
 use Rattle.wiring.proofs.signals.Tables.{tabled_length}
 use Rattle.wiring.proofs.signals.Laws.{signals_at_length, signals_at_wide}
 use Rattle.counting.specs.Counting.{quotients_of, count, least_from, needed, shares, hits, frequent, closes}
-use Rattle.counting.specs.Verdict.{most_listed, Weighing, Split, Judged}
-use Rattle.counting.specs.declared.verdict.Verdict.{Verdict}
+use Rattle.counting.specs.Verdict.{most_listed, Weighing, Split}
 use Rattle.counting.proofs.Largest.{closes_rearranged}
 use Rattle.counting.proofs.counting.Laws.{Shared, share_out}
 use Rattle.counting.proofs.counting.Quotients.{IsQuotient, quotient_out, quotient_count}
@@ -121,25 +120,14 @@ module _ {terms set : List ℕ} {n room : ℕ} {cancels : Bool} (w : Weighing te
     pub list_closes : (l : List Mono) → Rearranged ns l → closes may room (signals_at n set) l ≡ closes may room (signals_at n set) ns
     list_closes l r = sym (closes_rearranged may room (signals_at n set) ns l r)
 
--- ---- the answers
-module _ (may : Mono → Bool) (room : ℕ) (v ns : List Mono) (r : Verdict) where
-  pub judged_found : r.found ≡ true → length ns ≡ 0 → Judged may room v ns r
-  judged_found f e = record { finds = λ t. no_length ns e; shuts = λ t u. absurd (is_not r.found f t); splits = λ t u. absurd (is_not r.found f t) }
+-- where there are nonsquares, one of them is split
+pub picked_some : (ns : List Mono) (p : Option Monomial) → 0 < length ns → Picked ns p → IsSome p
+picked_some [] p h q = let z : ⊥ = omega arith in absurd z
+picked_some (x ∷ l) None h q = absurd q
+picked_some (x ∷ l) (Some m) h q = refl
 
-  pub judged_closed : r.found ≡ false → r.split ≡ false → closes may room v ns ≡ true → Judged may room v ns r
-  judged_closed f s e = record {
-    finds = λ t. absurd (is_not r.found t f);
-    shuts = λ t u. e;
-    splits = λ t u. absurd (is_not r.split u s);
-  }
-
-  pub judged_split : (p : Pick) → r.found ≡ false → r.split ≡ true → r.m.e ≡ p.m.e → 0 < length ns → closes may room v ns ≡ false → Picked ns p → Judged may room v ns r
-  judged_split p f s m some on picked = record {
-    finds = λ t. absurd (is_not r.found t f);
-    shuts = λ t u. absurd (is_not r.split s u);
-    splits = λ t u. go ns refl picked;
-  }
-    where
-      go : (l : List Mono) → ns ≡ l → Picked l p → Split may room v ns r.m.e
-      go [] e q = let z : ⊥ = omega (arith, ap length e) in absurd z
-      go (x ∷ l) e q = record { first = x; others = l; are = e; on = on; is = m ∙ q.1 }
+-- ---- the cheapest of some nonsquares is split
+module _ (may : Mono → Bool) (room : ℕ) (v : List Mono) where
+  pub split_cheapest : (ns : List Mono) (p : Option Monomial) (m : Monomial) → p ≡ Some m → 0 < length ns → closes may room v ns ≡ false → Picked ns p → Split may room v ns m.e
+  split_cheapest [] p m e some on picked = let z : ⊥ = omega arith in absurd z
+  split_cheapest (x ∷ l) p m e some on picked = record { first = x; others = l; are = refl; on = on; is = rw e at picked }

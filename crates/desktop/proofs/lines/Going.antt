@@ -21,7 +21,7 @@ use Rattle.wiring.specs.Terms.{records, system}
 use Rattle.wiring.proofs.signals.Laws.{signals_length}
 use Rattle.wiring.specs.declared.signals.Signals.{Signals}
 use Rattle.reader.specs.Reader.{run, heard, noted}
-use Rattle.reader.specs.declared.Verdict.TheVariants.{Whole, Broken}
+use Rattle.reader.specs.Said.{whole, broken}
 use Rattle.reader.proofs.Loop.{noting_ends}
 use Rattle.reader.proofs.Places.{run_dead}
 use Rattle.listing.specs.Counted.{Counts, InLines}
@@ -108,13 +108,16 @@ module _ (known : Known) (terms : List ℕ) (v : Signals) (text : List ℕ) (j :
 
   module _ {g : Reading} {t : Telling} {sums : Sums} {line i : ℕ} (a : Going g t sums line i) where
     -- ---- the text is read on
-    module _ (h : i < length text) (x : ℕ) (e : x ≡ get_or text i 0) where
+    module _ (h : i < length text) where
+      abbrev x : ℕ
+      x = get_or text i 0
+
       abbrev σ : Saying
       σ = saying known g x
 
       reads_on : ends (run (listing known) (eat known g x) (drop (i + 1) text)) ≡ true
       unfolding run
-      reads_on = rw (e, add-one i) (rw (drop-cons text i 0 h) at a.reads)
+      reads_on = rw (add-one i) (rw (drop-cons text i 0 h) at a.reads)
 
       awake : alive (eat known g x) ≡ true
       awake = go (test (alive (eat known g x)))
@@ -162,7 +165,7 @@ module _ (known : Known) (terms : List ℕ) (v : Signals) (text : List ℕ) (j :
         going_ended b e = ap ends_line (sym heard_so) ∙ sym e
 
       next : Following known text (eat known g x) (i + 1) (named σ a.notes) (told σ a.told)
-      next = following_next known text a.follows j.few h x e
+      next = following_next known text a.follows j.few h x refl
 
       -- ---- where a line ends
       module _ (c : ends_line σ ≡ true) where
@@ -177,6 +180,9 @@ module _ (known : Known) (terms : List ℕ) (v : Signals) (text : List ℕ) (j :
         going_here =
             ⊎_elim (λ z. absurd (omega (arith, ends_counts σ c))) (λ l. rw (a.counted, ← ap length all_named) l)
             (line_here known (length a.notes.whole) (length a.told.lines) g x a.follows.counts in-lines)
+
+        pub going_there : (c' : ℕ) → c' ≡ count → line < length (lefts known c')
+        going_there c' n = rw n going_here
 
         pub going_low : line < known.n + count
         going_low = omega (arith, going_here, lefts_length known count)
@@ -249,7 +255,7 @@ module _ (known : Known) (terms : List ℕ) (v : Signals) (text : List ℕ) (j :
             let longer = length-append (told σ a.told).lines m.rest in
             rw m.is (omega (arith, longer), get_or-append (told σ a.told).lines m.rest [] k o)
 
-        pub going_false : line_true (signals_of v) fs (left_of known count line) so_far ≡ false → Broken (count + 3 + line) ≡ lines_said known fs text
+        pub going_false : line_true (signals_of v) fs (left_of known count line) so_far ≡ false → broken (count + 3 + line) ≡ lines_said known fs text
         unfolding lines_said false_line
         going_false off =
             let here = all_lines line (omega (arith, a.counted, lines_longer)) in
@@ -303,7 +309,7 @@ module _ (known : Known) (terms : List ℕ) (v : Signals) (text : List ℕ) (j :
       unfolding line_tests
       long = pointwise_length (line_true (signals width known.n (names known text)) fs) (lefts known count) (lines known text) one_each
 
-      pub going_ends : Whole ≡ lines_said known fs text
+      pub going_ends : whole ≡ lines_said known fs text
       unfolding lines_said
       going_ends = rw (all_on (line_tests known fs text) each)
         where

@@ -4,52 +4,14 @@ use mathlib.Core.Bool.{Bool, true, false, not}
 use mathlib.Core.List.{List, [], ◌∷◌, ◌++◌}
 use Prim.Native.Nat.{ℕ, zero, suc, ◌<◌}
 use native.Mathlib.Omega.{arith}
-use denote.Enum.Declared.{tag_of}
-use types.Run.{OneOf, miss}
 use lib.ListN.{length, get_or}
 use Rattle.monomial.specs.Lists.{all, place}
 use Rattle.listing.specs.Counted.{line_ends}
 use Rattle.listing.specs.Meaning.{term, told}
 use Rattle.listing.specs.declared.saying.Saying.{Saying}
 use Rattle.listing.specs.declared.saying.Saying.TheVariants.{Silence, Variable, Raised, Digit, NameEnds, Minus, Number, Name, Again, TermEnds, LineEnds, ZeroLine}
-use Rattle.listing.specs.contracts.saying.Saying as kinds
-use Rattle.desktop.specs.Lines.{Notes, Says, product_of, ends_term, ends_line, with_term}
+use Rattle.desktop.specs.Lines.{Notes, Says, product_of, ends_line, with_term}
 use Rattle.desktop.specs.declared.lines.Telling.{Telling}
-
--- ---- the sayings that end no term, and those that end no line, by their tags
-abbrev in_term : List ℕ
-in_term = 0 ∷ 1 ∷ 2 ∷ 3 ∷ 4 ∷ 5 ∷ 6 ∷ 7 ∷ 8 ∷ 11 ∷ []
-
-pub ends_no_term : (σ : Saying) → OneOf in_term (tag_of kinds.the_type σ) → false ≡ ends_term σ
-ends_no_term Silence h = refl
-ends_no_term (Variable v) h = refl
-ends_no_term Raised h = refl
-ends_no_term (Digit d) h = refl
-ends_no_term NameEnds h = refl
-ends_no_term Minus h = refl
-ends_no_term (Number v) h = refl
-ends_no_term (Name s) h = refl
-ends_no_term Again h = refl
-ends_no_term TermEnds h = absurd (miss in_term 9 tt h)
-ends_no_term LineEnds h = absurd (miss in_term 10 tt h)
-ends_no_term ZeroLine h = refl
-
-abbrev in_line : List ℕ
-in_line = 0 ∷ 1 ∷ 2 ∷ 3 ∷ 4 ∷ 5 ∷ 6 ∷ 7 ∷ 8 ∷ 9 ∷ []
-
-pub ends_no_line : (σ : Saying) → OneOf in_line (tag_of kinds.the_type σ) → false ≡ ends_line σ
-ends_no_line Silence h = refl
-ends_no_line (Variable v) h = refl
-ends_no_line Raised h = refl
-ends_no_line (Digit d) h = refl
-ends_no_line NameEnds h = refl
-ends_no_line Minus h = refl
-ends_no_line (Number v) h = refl
-ends_no_line (Name s) h = refl
-ends_no_line Again h = refl
-ends_no_line TermEnds h = refl
-ends_no_line LineEnds h = absurd (miss in_line 10 tt h)
-ends_no_line ZeroLine h = absurd (miss in_line 11 tt h)
 
 pub ends_counts : (σ : Saying) → ends_line σ ≡ true → line_ends σ ≡ 1
 ends_counts Silence e = cc

@@ -1,5 +1,5 @@
 -- A loop over a text that notes its new names. Assumes nothing.
-use mathlib.Core.Path.{◌≡◌, ap, ◌∙◌}
+use mathlib.Core.Path.{◌≡◌, refl, ap, ◌∙◌}
 use mathlib.Core.Logic.{◌⊎◌, inl, inr}
 use mathlib.Core.List.{List, map}
 use Prim.Native.Nat.{ℕ, ◌+◌, ◌≤◌, ◌<◌}
@@ -60,11 +60,11 @@ module _ (r : Known) (text : List ℕ) where
         room : (k.names.len + name_ends (saying r g x) ≤ cards) ⊎ (name_ends (saying r g x) ≡ 0)
         room = rw (h.holds.size, ← six) (carded r _ _ g x h.follows.stands h.follows.counts)
 
-    pub hearing_next : r.n ≤ width → i < length text → (x : ℕ) → x ≡ get_or text i 0 → (k' : Naming) → ((q : Notes) → Holds q k → Holds (named (saying r g x) q) k') → Hearing (eat r g x) (i + 1) k'
-    hearing_next few o x e k' f = record {
+    pub hearing_next : r.n ≤ width → i < length text → (k' : Naming) → ((q : Notes) → Holds q k → Holds (named (saying r g (get_or text i 0)) q) k') → Hearing (eat r g (get_or text i 0)) (i + 1) k'
+    hearing_next few o k' f = let x = get_or text i 0 in record {
       notes = named (saying r g x) h.notes;
       lines = told (saying r g x) h.lines;
-      follows = following_next r text h.follows few o x e;
+      follows = following_next r text h.follows few o x refl;
       holds = f h.notes h.holds;
     }
 

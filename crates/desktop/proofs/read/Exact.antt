@@ -1,5 +1,6 @@
 -- Exactly when each reply of reading is given, for all numbers n, all records and all texts, and the set record that it leaves. The cases are all, and no two
 -- replies meet the promise. Assumes nothing.
+use Rattle.std.specs.Prelude.{Ok, Err, Result, ⊤}
 use mathlib.Core.Path.{◌≡◌, refl, sym, ap, ap₂, ◌∙◌, subst}
 use mathlib.Core.Logic.{inl, inr, ⊎_elim, ◌↔◌}
 use mathlib.Core.Bool.{Bool, true, false}
@@ -27,16 +28,16 @@ use Rattle.wiring.specs.declared.panel.Panel.{Panel}
 use Rattle.wiring.specs.declared.reply.Reply.{Reply}
 use Rattle.wiring.specs.declared.reply.Reply.TheVariants.{Done, Setting, Length, Term, Twice, Nothing, Full, Spent, BadSet, NotQuadratic, Unreadable, FalseLine}
 use Rattle.wiring.specs.declared.terms.Fault.{Fault}
-use Rattle.wiring.specs.declared.terms.Fault.TheVariants.{Clean, Wrong, Repeated}
+use Rattle.wiring.specs.declared.terms.Fault.TheVariants.{Wrong, Repeated}
 use Rattle.wiring.proofs.reply.Laws.{same_reply}
 use Rattle.wiring.proofs.signals.Laws.{signals_length}
 use Rattle.wiring.proofs.sockets.Slopes.{slope_is}
 use Rattle.wiring.proofs.terms.Exact.{length_exact, wrong_exact, repeated_exact, clean_exact}
 use Rattle.wiring.proofs.answers.Exact.{panel-in, panel_out}
 use Rattle.reader.specs.Reader.{Readable}
-use Rattle.reader.specs.Said.{said}
-use Rattle.reader.specs.declared.Verdict.{Verdict}
-use Rattle.reader.specs.declared.Verdict.TheVariants.{Whole, Broken}
+use Rattle.std.specs.Prelude.{Ok, Err}
+use Rattle.reader.specs.Said.{Verdict, whole, said}
+use Rattle.reader.specs.Said as verdicts
 use Rattle.reader.proofs.Exact.{whole_exact}
 use Rattle.listing.specs.Lines.{lefts, left_of}
 use Rattle.listing.specs.Meaning.{Product}
@@ -128,29 +129,29 @@ module _ (panel : Panel) (terms text : List ℕ) where
       test_not : (LineRight panel terms text i → ⊥) → get_or tests i false ≡ false
       test_not f = n_t→is (get_or tests i false) (λ t. f (test_out (T→is _ t)))
 
-    lines_right : ((i : ℕ) → i < length (lines_in panel text) → LineRight panel terms text i) → Whole ≡ lines_said k fs text
+    lines_right : ((i : ℕ) → i < length (lines_in panel text) → LineRight panel terms text i) → whole ≡ lines_said k fs text
     unfolding lines_said
     lines_right f = rw (all_on tests (λ j h. let l : j < length (lines_in panel text) = omega (arith, tests_long) in test_in j l (f j l)))
 
-    lines_wrong : (p : ℕ) → FirstWrong panel terms text p → Broken p ≡ lines_said k fs text
+    lines_wrong : (p : ℕ) → FirstWrong panel terms text p → verdicts.broken p ≡ lines_said k fs text
     unfolding lines_said false_line
     lines_wrong p b =
         let i = b.number in
         let h : i < length (lines_in panel text) = b.counted in
         let first = first_off tests i (omega (arith, tests_long)) (λ j l. test_in j (omega arith) (b.before j l)) (test_not i h b.wrong) in
-        rw (first.0, first.1) (ap Broken b.place)
+        rw (first.0, first.1) (ap verdicts.broken b.place)
 
   -- ---- what holds is said
-  faulty : Ranged panel → Sizes terms text → (f : Fault) → fault panel (records terms) ≡ f
+  faulty : Ranged panel → Sizes terms text → (f : Result ⊤ Fault) → fault panel (records terms) ≡ f
       → read_listing panel terms text ≡ unless_fault refusal f (unless_broken Unreadable (said (listing k) text) (judged panel fs text))
   faulty r s f e = sym (said_rest panel terms text (panel-in panel r) ((length_exact terms).1 s.measured) s.short f (sym e))
 
   prepared_reads : Prepared panel terms text → (x : Verdict) → said (listing k) text ≡ x → read_listing panel terms text ≡ unless_broken Unreadable x (judged panel fs text)
   prepared_reads w x e =
-      faulty w.ranged w.sizes Clean ((clean_exact panel (records terms) beyond).1 w.flawless) ∙ ap (λ (y : Verdict). unless_broken Unreadable y (judged panel fs text)) e
+      faulty w.ranged w.sizes (Ok tt) ((clean_exact panel (records terms) beyond).1 w.flawless) ∙ ap (λ (y : Verdict). unless_broken Unreadable y (judged panel fs text)) e
 
   readable_judged : Prepared panel terms text → Readable (listing k) text → read_listing panel terms text ≡ judged panel fs text
-  readable_judged w r = prepared_reads w Whole ((whole_exact (listing k) text).1 r)
+  readable_judged w r = prepared_reads w whole ((whole_exact (listing k) text).1 r)
 
   wide_names : Prepared panel terms text → Readable (listing k) text → (m : Mono) → m ∈ found → length m ≡ width
   wide_names w r = (ended_of k text w.ranged.high r).wide
@@ -174,15 +175,15 @@ module _ (panel : Panel) (terms text : List ℕ) where
   says : (r : Reply) → ReadSays panel terms text r → read_listing panel terms text ≡ outcome r (read_leaves panel text r)
   says Setting h = sym (said_setting panel terms text (n_t→is (panel_right panel) (λ t. h (panel_out panel t))))
   says Length h = ⊎_elim (unmeasured h.0) (overlong h.0) h.1
-  says (Term p) h = faulty h.0 h.1 (Wrong p) ((wrong_exact panel (records terms) beyond p).1 h.2)
-  says (Twice p) h = faulty h.0 h.1 (Repeated p) ((repeated_exact panel (records terms) beyond p).1 h.2)
+  says (Term p) h = faulty h.0 h.1 (Err (Wrong p)) ((wrong_exact panel (records terms) beyond p).1 h.2)
+  says (Twice p) h = faulty h.0 h.1 (Err (Repeated p)) ((repeated_exact panel (records terms) beyond p).1 h.2)
   says (Unreadable p) h =
       let r = h.0.ranged in
-      prepared_reads h.0 (Broken p) ((broken k (fair_known panel r.low r.high) text p).1 (h.1, h.2))
+      prepared_reads h.0 (verdicts.broken p) ((broken k (fair_known panel r.low r.high) text p).1 (h.1, h.2))
   says BadSet h = readable_judged h.0 h.1 ∙ sym (judged_bad panel fs text (n_t→is (forms_set panel found) (λ t. h.2 (right_names panel found t))))
-  says (FalseLine p) h = named_judged h.0 (Broken p) (lines_wrong h.0 p h.1)
+  says (FalseLine p) h = named_judged h.0 (verdicts.broken p) (lines_wrong h.0 p h.1)
   says (Done o c s) h =
-      named_judged h.0 Whole (lines_right h.0 h.1) ∙ ap (λ (i : ℕ). outcome (Done i 0 0) (set_record (arranged found))) (sym h.2)
+      named_judged h.0 whole (lines_right h.0 h.1) ∙ ap (λ (i : ℕ). outcome (Done i 0 0) (set_record (arranged found))) (sym h.2)
       ∙ ap₂ (λ (i j : ℕ). outcome (Done o i j) (set_record (arranged found))) (sym h.3) (sym h.4)
   says (Nothing o s) h = absurd h
   says (Full o s) h = absurd h
@@ -226,16 +227,16 @@ module _ (panel : Panel) (terms text : List ℕ) where
       go (failed e) = record { reply = BadSet; holds = (w, r, λ q. is→n_t (forms_set panel found) e ((forms_exact panel found (wide_names w r)).1 q)) }
 
   told_text : Prepared panel terms text → (x : Verdict) → said (listing k) text ≡ x → Told
-  told_text w Whole e = told_names w ((whole_exact (listing k) text).0 e)
-  told_text w (Broken p) e =
+  told_text w (Ok o) e = told_names w ((whole_exact (listing k) text).0 e)
+  told_text w (Err b) e =
       let r = w.ranged in
-      let b = (broken k (fair_known panel r.low r.high) text p).0 e in
-      record { reply = Unreadable p; holds = (w, b.0, b.1) }
+      let places = (broken k (fair_known panel r.low r.high) text b.place).0 e in
+      record { reply = Unreadable b.place; holds = (w, places.0, places.1) }
 
-  told_fault : Ranged panel → Sizes terms text → (f : Fault) → fault panel (records terms) ≡ f → Told
-  told_fault r s (Wrong p) e = record { reply = Term p; holds = (r, s, (wrong_exact panel (records terms) beyond p).0 e) }
-  told_fault r s (Repeated p) e = record { reply = Twice p; holds = (r, s, (repeated_exact panel (records terms) beyond p).0 e) }
-  told_fault r s Clean e =
+  told_fault : Ranged panel → Sizes terms text → (f : Result ⊤ Fault) → fault panel (records terms) ≡ f → Told
+  told_fault r s (Err (Wrong p)) e = record { reply = Term p; holds = (r, s, (wrong_exact panel (records terms) beyond p).0 e) }
+  told_fault r s (Err (Repeated p)) e = record { reply = Twice p; holds = (r, s, (repeated_exact panel (records terms) beyond p).0 e) }
+  told_fault r s (Ok _) e =
       told_text (record { ranged = r; sizes = s; flawless = (clean_exact panel (records terms) beyond).0 e }) (said (listing k) text) refl
 
   told_sizes : Ranged panel → Told

@@ -1,5 +1,6 @@
 -- Reading, step by step: what each test of the code says of the outcome; and capped names form a set exactly where the names do, and are then the names.
 -- Assumes nothing.
+use Rattle.std.specs.Prelude.{Ok, Result, ⊤}
 use mathlib.Core.Path.{◌≡◌, refl, sym, ap, ap₂, ◌∙◌, subst}
 use mathlib.Core.Bool.{true, false}
 use mathlib.Core.List.Memᴰ
@@ -28,13 +29,11 @@ use Rattle.wiring.specs.declared.reply.Reply.TheVariants.{Done, Setting, Length,
 use Rattle.wiring.specs.declared.sets.Set.{Set}
 use Rattle.wiring.specs.declared.signals.Signals.{Signals}
 use Rattle.wiring.specs.declared.terms.Fault.{Fault}
-use Rattle.wiring.specs.declared.terms.Fault.TheVariants.{Clean}
 use Rattle.wiring.proofs.signals.Laws.{signals_fitting}
 use Rattle.wiring.proofs.terms.Laws.{clean_for}
 use Rattle.wiring.proofs.answers.Exact.{panel_out}
 use Rattle.reader.specs.Reader.{Readable}
-use Rattle.reader.specs.Said.{said}
-use Rattle.reader.specs.declared.Verdict.{Verdict}
+use Rattle.reader.specs.Said.{Verdict, said}
 use Rattle.listing.specs.Held.{Fair}
 use Rattle.listing.specs.Meaning.{names}
 use Rattle.listing.specs.Readable.{listing}
@@ -155,18 +154,18 @@ module _ (panel : Panel) (terms text : List ℕ) where
     unfolding read_listing
     said_text_length h k = rw (e, h, lt-leb (length text) most_text k)
 
-    pub said_rest : length_right terms ≡ true → length text ≤ most_text → (f : Fault) → f ≡ fault panel (records terms)
+    pub said_rest : length_right terms ≡ true → length text ≤ most_text → (f : Result ⊤ Fault) → f ≡ fault panel (records terms)
         → unless_fault refusal f (unless_broken Unreadable (said (listing (known_to panel)) text) (judged panel (system (records terms)) text)) ≡ read_listing panel terms text
     unfolding read_listing
     said_rest h k f q = rw (e, h, le-leb (length text) most_text k, q)
 
     -- what is not refused is read
-    pub said_read : length_right terms ≡ true → length text ≤ most_text → Clean ≡ fault panel (records terms) → (answer : Outcome)
+    pub said_read : length_right terms ≡ true → length text ≤ most_text → Ok tt ≡ fault panel (records terms) → (answer : Outcome)
         → answer ≡ unless_broken Unreadable (said (listing (known_to panel)) text) (judged panel (system (records terms)) text) → answer ≡ read_listing panel terms text
-    said_read h k q answer a = a ∙ said_rest h k Clean q
+    said_read h k q answer a = a ∙ said_rest h k (Ok tt) q
 
     -- what the text is read with
-    pub reading_of : length text ≤ most_text → fault panel (records terms) ≡ Clean → Reading panel terms text
+    pub reading_of : length text ≤ most_text → fault panel (records terms) ≡ Ok tt → Reading panel terms text
     reading_of k clean =
         let r = panel_out panel (is→T _ e) in
         record { low = r.low; high = r.high; clean = clean_for panel width terms r.high clean; short = k }

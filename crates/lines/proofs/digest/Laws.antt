@@ -1,21 +1,10 @@
--- The digest by halves: no product passes 64 bits. Assumes nothing.
-use Rattle.std.proofs.Common.{◌≡◌, ℕ, ◌+◌, ◌*◌, ◌/◌, ◌%◌, ◌^◌, ◌<◌, ◌≤◌, List, length, get_or, drop, sym, refl, ap, ◌∙◌, add-one, arith, drop_of_length-le, drop-cons}
-use native.Mathlib.Nat.{mod-add-mod, add-mul-mod_self_left}
+-- The digest byte by byte. Assumes nothing.
+use Rattle.std.proofs.Common.{◌≡◌, ℕ, ◌+◌, ◌%◌, ◌<◌, ◌≤◌, List, length, get_or, drop, refl, add-one, arith, drop_of_length-le, drop-cons}
 use lib.Bits.{bit_xor, xor_lt}
 use Rattle.lines.specs.Digest.{mixed, multiplied, digest_from, digest}
 
 pub mixed_fits : (h x : ℕ) → h < 18446744073709551616 → x < 256 → mixed h x < 18446744073709551616
 mixed_fits h x f g = let low : bit_xor (h % 256) x < 256 = xor_lt 8 (h % 256) x (omega arith) g in omega arith
-
--- 2^40 + 435 times h, of which whole 2^64s are left out early
-pub by_halves : (h s : ℕ) → s ≡ (h / 4294967296 * 435 % 4294967296 * 4294967296 + h % 4294967296 * 435) % 2 ^ 64
-    → (s + h % 16777216 * 1099511627776) % 2 ^ 64 ≡ multiplied h
-by_halves h s e =
-    let x : ℕ = h / 4294967296 * 435 % 4294967296 * 4294967296 + h % 4294967296 * 435 in
-    let y : ℕ = h % 16777216 * 1099511627776 in
-    let k : ℕ = h / 16777216 + h / 4294967296 * 435 / 4294967296 in
-    let parts : h * 1099511628211 ≡ x + y + 18446744073709551616 * k = omega arith in
-    rw e (mod-add-mod x (2 ^ 64) y ∙ sym (ap (λ n. n % 2 ^ 64) parts ∙ add-mul-mod_self_left (x + y) (2 ^ 64) k))
 
 -- ---- a loop over the bytes: what is left gives what the whole gives
 pub record Digesting (bytes : List ℕ) (h i : ℕ) : Type 0 where

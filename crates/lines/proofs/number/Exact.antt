@@ -7,15 +7,15 @@ use Rattle.monomial.proofs.Members.{all_in, all_out}
 use Rattle.monomial.proofs.Tests.{Tested, passed, failed, test, T→is, is→T, and_l, and_r, and_i}
 use Rattle.lines.specs.Text.{decimal_within, decimal}
 use Rattle.lines.specs.Number.{is_digit, extended, number_from, number_of}
-use Rattle.lines.specs.declared.number.Number.TheVariants.{Of, Nothing}
+use Rattle.std.specs.Prelude.{Some, None}
 use Rattle.lines.specs.Claims.{IsNumber, bound}
 use Rattle.lines.proofs.number.Laws.{longer, digit_is}
 
-chosen : (b : Bool) (n v : ℕ) → cond b (Of n) Nothing ≡ Of v → b ≡ true
+chosen : (b : Bool) (n v : ℕ) → cond b (Some n) None ≡ Some v → b ≡ true
 chosen true n v e = refl
 chosen false n v e = cc
 
-chosen_is : (b : Bool) (n v : ℕ) → cond b (Of n) Nothing ≡ Of v → n ≡ v
+chosen_is : (b : Bool) (n v : ℕ) → cond b (Some n) None ≡ Some v → n ≡ v
 chosen_is true n v e = cc
 chosen_is false n v e = cc
 
@@ -26,7 +26,7 @@ digit_out word t x m =
 digits_in : (word : List ℕ) → ((x : ℕ) → x ∈ word → (48 ≤ x) × (x ≤ 57)) → T (all is_digit word)
 digits_in word h = all_in is_digit word (λ x m. is→T (is_digit x) (digit_is x (h x m).0 (h x m).1))
 
-is_number : (word : List ℕ) (v : ℕ) → number_of word ≡ Of v → IsNumber word v
+is_number : (word : List ℕ) (v : ℕ) → number_of word ≡ Some v → IsNumber word v
 unfolding number_of number_from some
 is_number [] v e = let never : ◌≡◌ {A = ℕ} 0 1 = cc in absurd (omega arith)
 is_number (x ∷ word) v e =
@@ -41,13 +41,13 @@ is_number (x ∷ word) v e =
       fits = rw same at small;
     }
 
-number_is : (word : List ℕ) (v : ℕ) → IsNumber word v → number_of word ≡ Of v
+number_is : (word : List ℕ) (v : ℕ) → IsNumber word v → number_of word ≡ Some v
 unfolding number_of number_from some
 number_is [] v h = absurd (omega arith)
 number_is (x ∷ word) v h =
     rw (T→is (all is_digit (x ∷ word)) (digits_in (x ∷ word) h.digits), h.value, lt-ltb v bound h.fits)
 
-pub number_exact : (word : List ℕ) (v : ℕ) → (number_of word ≡ Of v) ↔ IsNumber word v
+pub number_exact : (word : List ℕ) (v : ℕ) → (number_of word ≡ Some v) ↔ IsNumber word v
 number_exact word v = (is_number word v, number_is word v)
 
 -- ---- a number that is written in decimal is that number
@@ -92,7 +92,7 @@ unfolding decimal_within
 written zero n h = absurd (omega arith)
 written (suc more) n h = written_step n (decimal_within more (n / 10)) (λ k. written more (n / 10) (omega arith)) (test (ltb n 10))
 
-pub decimal_number : (n : ℕ) → n < bound → number_of (decimal n) ≡ Of n
+pub decimal_number : (n : ℕ) → n < bound → number_of (decimal n) ≡ Some n
 unfolding decimal
 decimal_number n h =
     let w = written (suc n) n (omega arith) in

@@ -1,45 +1,44 @@
 -- Words beside the numbers that they are: one table, one claim. Assumes nothing.
-use Rattle.std.proofs.Common.{◌≡◌, List, [], ◌∷◌, map, refl}
+use Rattle.std.proofs.Common.{◌≡◌, ℕ, List, [], ◌∷◌, map, refl}
 use Prim.Native.String.{String}
 use Rattle.monomial.specs.Lists.{some, all}
 use Rattle.lines.proofs.Samples.{written}
 use Rattle.lines.specs.Number.{extended, number_from, number_of}
-use Rattle.lines.specs.declared.number.Number.{Number}
-use Rattle.lines.specs.declared.number.Number.TheVariants.{Of, Nothing}
+use Rattle.std.specs.Prelude.{Option, Some, None}
 
 record Row : Type 0 where
-  got : Number
-  want : Number
+  got : Option ℕ
+  want : Option ℕ
 
-row : String → Number → Row
+row : String → Option ℕ → Row
 row word want = record { got = number_of (written word); want = want }
 
 table : List Row
 table =
     -- leading zeros, and both sides of 2^64
-    row "0" (Of 0)
-    ∷ row "7" (Of 7)
-    ∷ row "007" (Of 7)
-    ∷ row "90" (Of 90)
-    ∷ row "1000000000" (Of 1000000000)
-    ∷ row "18446744073709551615" (Of 18446744073709551615)
-    ∷ row "000018446744073709551615" (Of 18446744073709551615)
-    ∷ row "18446744073709551616" Nothing
-    ∷ row "18446744073709551620" Nothing
-    ∷ row "18446744073709551625" Nothing
-    ∷ row "100000000000000000000" Nothing
-    ∷ row "184467440737095516160" Nothing
+    row "0" (Some 0)
+    ∷ row "7" (Some 7)
+    ∷ row "007" (Some 7)
+    ∷ row "90" (Some 90)
+    ∷ row "1000000000" (Some 1000000000)
+    ∷ row "18446744073709551615" (Some 18446744073709551615)
+    ∷ row "000018446744073709551615" (Some 18446744073709551615)
+    ∷ row "18446744073709551616" None
+    ∷ row "18446744073709551620" None
+    ∷ row "18446744073709551625" None
+    ∷ row "100000000000000000000" None
+    ∷ row "184467440737095516160" None
     -- no digit, a sign, a space, the bytes beside the digits, another base
-    ∷ row "" Nothing
-    ∷ row "-1" Nothing
-    ∷ row "+1" Nothing
-    ∷ row "1 " Nothing
-    ∷ row " 1" Nothing
-    ∷ row "1/" Nothing
-    ∷ row "1:" Nothing
-    ∷ row "12a" Nothing
-    ∷ row "1.0" Nothing
-    ∷ row "0x10" Nothing
+    ∷ row "" None
+    ∷ row "-1" None
+    ∷ row "+1" None
+    ∷ row "1 " None
+    ∷ row " 1" None
+    ∷ row "1/" None
+    ∷ row "1:" None
+    ∷ row "12a" None
+    ∷ row "1.0" None
+    ∷ row "0x10" None
     ∷ []
 
 sampled : map (λ r. r.got) table ≡ map (λ r. r.want) table

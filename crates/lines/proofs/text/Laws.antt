@@ -1,68 +1,13 @@
--- A piece put behind another is one piece (`adds`): each line is made by this law alone. Then what the pieces are: digits, signs, what is joined.
--- Assumes nothing.
-use Rattle.std.proofs.Common.{◌≡◌, ℕ, zero, suc, ◌+◌, ◌-◌, ◌*◌, ◌/◌, ◌%◌, ◌^◌, ◌<◌, ◌≤◌, true, false, leb, List, [], ◌∷◌, ◌++◌, length, get_or, take, drop, ℤ, pos, negsuc, ◌-ℤ◌, nat_abs}
-use Rattle.std.proofs.Common.{sym, refl, ap, ◌∙◌, append_assoc, append-nil, add-one, arith, lit<, lit≤, length-append, take-append-drop, length-take-le, take_all, take-suc, drop-drop, w32, SFits, to_z, of_z, le-ltb, lt-ltb, leb-false, leb-true}
+-- What the pieces of a line are: digits, signs, what is joined. Assumes nothing.
+use Rattle.std.proofs.Common.{◌≡◌, ℕ, zero, suc, ◌+◌, ◌-◌, ◌*◌, ◌/◌, ◌%◌, ◌^◌, ◌<◌, ◌≤◌, leb, List, [], ◌∷◌, ◌++◌, length, get_or, take, ℤ, pos, negsuc, unsigned_abs, int_lt, true, false}
+use Rattle.std.proofs.Common.{sym, refl, ap, ◌∙◌, append_assoc, append-nil, add-one, arith, lit<, lit≤, take_all, take-suc, le-ltb, lt-ltb, leb-false, leb-true, ltb-true}
 use native.Mathlib.Nat.{pow-succ', one-le-pow, pow-le-pow_right}
-use lib.Signed.{le_z}
-use lib.Seq.{paste, take-paste, drop-paste, length-paste, take-length}
-use mir.ValLaws.{to_z-of_z}
-use Rattle.io.specs.Counts.{IsPrefixLen}
 use Rattle.io.specs.Digits.{last_digits, IsDigitCount}
 use Rattle.monomial.specs.Lists.{gather}
-use Rattle.monomial.proofs.Tests.{Tested, passed, failed, test, is→n_t}
+use Rattle.monomial.proofs.Tests.{Tested, passed, failed, test}
 use Rattle.monomial.proofs.Members.{gather_append}
-use Rattle.wiring.proofs.coefficient.Laws.{minus_negsuc, bits_high_fits}
 use Rattle.lines.specs.Lengths.{number_bytes}
-use Rattle.lines.specs.Text.{minus, decimal_within, decimal, signed_text, joined, lead, Added, Stands}
-
--- ---- one piece behind the other
-module _ {p q l m n : List ℕ} {at mid end : ℕ} (a : Added p at mid l m) (b : Added q mid end m n) where
-  beyond : drop end m ≡ drop end l
-  beyond =
-      let e : end ≡ mid + length q = b.ends in
-      rw (e, ← drop-drop (length q) mid m, ← drop-drop (length q) mid l, a.rest)
-
-  pub adds : Added (p ++ q) at end l n
-  adds = record {
-    ends = simp length-append (omega (arith, a.ends, b.ends));
-    room = b.room;
-    long = b.long ∙ a.long;
-    front = b.front ∙ ap (λ x. x ++ q) a.front ∙ append_assoc (take at l) p q;
-    rest = b.rest ∙ beyond;
-  }
-
-pub adds_nothing : (l : List ℕ) (at : ℕ) → at ≤ length l → Added [] at at l l
-adds_nothing l at h = record { ends = omega arith; room = h; long = refl; front = sym (append-nil (take at l)); rest = refl }
-
--- the promise leaves nothing open: the end, and every byte of the line
-pub added_one : {p l m n : List ℕ} {at e f : ℕ} → Added p at e l m → Added p at f l n → (e ≡ f) × (m ≡ n)
-added_one {p} {l} {m} {n} {at} {e} {f} a b =
-    let ends : f ≡ e = omega (arith, a.ends, b.ends) in
-    let front : take e m ≡ take e n = a.front ∙ sym (rw ends at b.front) in
-    let rest : drop e m ≡ drop e n = a.rest ∙ sym (rw ends at b.rest) in
-    (sym ends, sym (take-append-drop e m) ∙ rw (front, rest) (take-append-drop e n))
-
--- the same of a text at the start of a line
-pub stands_one : {p l m n : List ℕ} {e f : ℕ} → Stands p e l m → Stands p f l n → (e ≡ f) × (m ≡ n)
-stands_one a b = added_one a.1 b.1
-
--- the bytes up to the end can be lent
-pub shown : {p l m : List ℕ} {at end : ℕ} → Added p at end l m → IsPrefixLen end m
-shown {p} {l} {m} {at} {end} a = (a.room, sym (length-take-le end m a.room))
-
--- nothing stands at the start of any line
-pub stands_nothing : (l : List ℕ) → Stands [] 0 l l
-stands_nothing l = let a = adds_nothing l 0 (omega arith) in (shown a, a)
-
--- a whole piece pasted over the line
-pub adds_pasted : (s l m : List ℕ) (at : ℕ) → at + length s ≤ length l → m ≡ paste l at s (length s) → Added s at (at + length s) l m
-adds_pasted s l m at h e = record {
-  ends = refl;
-  room = rw e (omega (arith, length-paste l at s (length s) h (omega arith)));
-  long = ap length e ∙ length-paste l at s (length s) h (omega arith);
-  front = rw e (take-paste l at s (length s) (omega arith) (omega arith) ∙ ap (λ x. take at l ++ x) (take-length s));
-  rest = rw e (drop-paste l at s (length s) (omega arith) (omega arith));
-}
+use Rattle.lines.specs.Text.{minus, decimal_within, decimal, signed_text, joined, lead}
 
 -- ---- the fewest digits are no more than any that hold the number
 pub fewest_most : (b w n k m : ℕ) → 0 < b → IsDigitCount b w n k → w ≤ m → n < b ^ m → k ≤ m
@@ -112,33 +57,16 @@ pub digits_are : (k n : ℕ) → IsDigitCount 10 1 n k → last_digits 10 k n �
 unfolding decimal
 digits_are k n f = digits_decimal k (suc n) n (omega arith) f
 
--- ---- signed numbers, as the machine takes them on 32 bits
-size_is : (z : ℤ) → le_z (pos 0) z ≡ false → nat_abs (negsuc 0 -ℤ z) + 1 ≡ nat_abs z
-size_is (pos n) e = absurd (omega (arith, leb-false 0 n e))
-size_is (negsuc n) e = rw (minus_negsuc n, add-one n)
-
-text_low : (z : ℤ) → le_z (pos 0) z ≡ true → decimal (nat_abs z) ≡ signed_text z
+-- ---- signed numbers
+pub text_plain : (z : ℤ) → int_lt z (pos 0) ≡ false → decimal (unsigned_abs z) ≡ signed_text z
 unfolding signed_text
-text_low (pos n) e = refl
-text_low (negsuc n) e = absurd (is→n_t true (sym e) tt)
+text_plain (pos n) e = refl
+text_plain (negsuc n) e = cc
 
-text_high : (z : ℤ) → le_z (pos 0) z ≡ false → minus ∷ decimal (nat_abs z) ≡ signed_text z
+pub text_signed : (z : ℤ) → int_lt z (pos 0) ≡ true → minus ∷ decimal (unsigned_abs z) ≡ signed_text z
 unfolding signed_text
-text_high (pos n) e = absurd (omega (arith, leb-false 0 n e))
-text_high (negsuc n) e = refl
-
-module _ (z : ℤ) (f : SFits w32 z) where
-  own : to_z w32 (of_z w32 z) ≡ z
-  own = to_z-of_z w32 z f
-
-  pub size_high : le_z (pos 0) (to_z w32 (of_z w32 z)) ≡ false → nat_abs (to_z w32 (of_z w32 (negsuc 0 -ℤ to_z w32 (of_z w32 z)))) + 1 ≡ nat_abs z
-  size_high e = rw (to_z-of_z w32 (negsuc 0 -ℤ to_z w32 (of_z w32 z)) (bits_high_fits z f e), own) (size_is z (rw own at e))
-
-  pub signed_low : le_z (pos 0) (to_z w32 (of_z w32 z)) ≡ true → decimal (nat_abs (to_z w32 (of_z w32 z))) ≡ signed_text z
-  signed_low e = rw own (text_low z (rw own at e))
-
-  pub signed_high : le_z (pos 0) (to_z w32 (of_z w32 z)) ≡ false → minus ∷ decimal (nat_abs (to_z w32 (of_z w32 z))) ≡ signed_text z
-  signed_high e = rw own (text_high z (rw own at e))
+text_signed (pos n) e = absurd (omega (arith, ltb-true n 0 e))
+text_signed (negsuc n) e = refl
 
 -- ---- pieces that are joined, up to piece i
 pub gather_next : {A : Type 0} (f : A → List ℕ) (l : List A) (d : A) (i : ℕ) → i < length l
@@ -161,21 +89,21 @@ pub lead_later : (i between : ℕ) → (i ≡ 0 → ⊥) → lead i between ≡ 
 lead_later zero between h = absurd (h refl)
 lead_later (suc i) between h = refl
 
--- ---- a loop that puts pieces, and has come to piece i
-pub record Joining (between : ℕ) (pieces : List (List ℕ)) (i at end : ℕ) (line after : List ℕ) : Type 0 where
-  pub within : i ≤ length pieces
-  pub text : Added (joined between (take i pieces)) at end line after
-
-pub joining_start : (between : ℕ) (pieces : List (List ℕ)) (at : ℕ) (l : List ℕ) → at ≤ length l → Joining between pieces 0 at at l l
+-- ---- a line to which pieces are put, and which has come to piece i
+pub joining_start : (between : ℕ) (pieces : List (List ℕ)) (line : List ℕ) → line ≡ line ++ joined between (take 0 pieces)
 unfolding joined
-joining_start between pieces at l h = record { within = omega arith; text = adds_nothing l at h }
+joining_start between pieces line = sym (append-nil line)
 
-module _ {between i at end : ℕ} {pieces : List (List ℕ)} {l m : List ℕ} (j : Joining between pieces i at end l m) where
-  pub joining_next : {a b : ℕ} {n o : List ℕ} (piece d : List ℕ) → i < length pieces → piece ≡ get_or pieces i d
-      → Added (lead i between) end a m n → Added piece a b n o → Joining between pieces (i + 1) at b l o
-  joining_next {a} {b} {n} {o} piece d h e x y =
-      let whole : Added (joined between (take i pieces) ++ (lead i between ++ piece)) at b l o = adds j.text (adds x y) in
-      record { within = omega arith; text = rw (e, joined_next between pieces d i h) at whole }
+pub joining_next : (between : ℕ) (pieces : List (List ℕ)) (i : ℕ) (start : List ℕ) {line more after : List ℕ} (piece d : List ℕ) → i < length pieces → piece ≡ get_or pieces i d
+    → line ≡ start ++ joined between (take i pieces) → more ≡ line ++ lead i between → after ≡ more ++ piece → after ≡ start ++ joined between (take (i + 1) pieces)
+joining_next between pieces i start piece d h e a b c =
+    let done : List ℕ = joined between (take i pieces) in
+    let before : List ℕ = lead i between in
+    rw (c, b, a) (append_assoc (start ++ done) before piece ∙ append_assoc start done (before ++ piece) ∙ ap (λ x. start ++ x) (rw e (joined_next between pieces d i h)))
 
-  pub joining_end : length pieces ≤ i → Added (joined between pieces) at end l m
-  joining_end h = rw (take_all i pieces h) at j.text
+pub joining_end : (between : ℕ) (pieces : List (List ℕ)) (i : ℕ) (start : List ℕ) {line : List ℕ} → length pieces ≤ i → line ≡ start ++ joined between (take i pieces) → line ≡ start ++ joined between pieces
+joining_end between pieces i start h a = rw (take_all i pieces h) at a
+
+-- ---- the promise of a line leaves nothing open: its text
+pub stands_one : {text l m : List ℕ} → l ≡ text → m ≡ text → l ≡ m
+stands_one a b = a ∙ sym b

@@ -3,6 +3,7 @@ use mathlib.Core.Path.{◌≡◌, refl, sym, ap, ◌∙◌, subst}
 use mathlib.Core.List.{List, [], ◌∷◌, ◌++◌, append-nil}
 use Prim.Native.Nat.{ℕ, zero, suc, ◌+◌, ◌*◌, ◌-◌, ◌≤◌, ◌<◌}
 use native.Mathlib.Omega.{arith}
+use native.Mathlib.Numerals.{add-one}
 use borrow.Author.Tests.{eq-eqb, ne_eqb}
 use lib.ListN.{length, get_or, take, drop, replicate}
 use lib.Seq.{paste, take-length, ext_get_or}
@@ -24,9 +25,7 @@ use Rattle.wiring.proofs.signals.Laws.{signals_length}
 use Rattle.wiring.proofs.wires.Correct.{list_at}
 use Rattle.wiring.proofs.answers.Limits.{well_right}
 use Rattle.wiring.proofs.answers.Wired.{wire_exact, wire_done, list_decodes}
-use Rattle.lines.specs.Text.{Added, Stands}
 use Rattle.lines.specs.Answer.{reply_line}
-use Rattle.lines.proofs.text.Laws.{shown}
 use Rattle.typed.specs.Typed.{listing_lines, wire_of, wire_at, wires_in, Listed}
 use Rattle.typed.proofs.typed.Laws.{wires_length, wires_at}
 use Rattle.typed.proofs.typed.Exact.{patch_listed}
@@ -141,10 +140,18 @@ module _ (t : Typing) (wires : List ℕ) where
   later zero h z = absurd (h refl)
   later (suc k) h z = rw (eq-eqb (numbers t.reply).code 0 z) (ap (λ (i : ℕ). get_or typed_listing i []) (omega arith))
 
-  pub listing_told : {k end : ℕ} {l m : List ℕ} → (k ≡ 0 → ⊥) → (numbers t.reply).code ≡ 0 → Stands (get_or typed_listing (k - 1) []) end l m
-      → Stands (get_or (typed_lines t wires) k []) end l m
+  pub listing_told : {k : ℕ} {line : List ℕ} → (k ≡ 0 → ⊥) → (numbers t.reply).code ≡ 0 → line ≡ get_or typed_listing (k - 1) [] → line ≡ get_or (typed_lines t wires) k []
   listing_told {k} h z told = rw (← later k h z) told
 
--- the line of a reply, made in a line of its own
-pub put_whole : {text first blank line after : List ℕ} {end r : ℕ} → Stands text end blank first → Added (take end first) 0 r line after → Stands text r line after
-put_whole a b = let c = rw a.1.front at b in (shown c, c)
+  -- how many there are
+  pub typed_some : 0 < length (typed_lines t wires)
+  unfolding typed_lines
+  typed_some = omega arith
+
+  pub typed_refused : ((numbers t.reply).code ≡ 0 → ⊥) → length (typed_lines t wires) ≡ 1
+  unfolding typed_lines
+  typed_refused f = rw (ne_eqb (numbers t.reply).code 0 f)
+
+  pub typed_done : (numbers t.reply).code ≡ 0 → length (typed_lines t wires) ≡ length typed_listing + 1
+  unfolding typed_lines
+  typed_done z = rw (eq-eqb (numbers t.reply).code 0 z, add-one)

@@ -13,14 +13,14 @@ use Rattle.wiring.specs.declared.panel.Panel.{Panel}
 use Rattle.wiring.specs.declared.reply.Reply.TheVariants.{Setting}
 use Rattle.wiring.proofs.answers.Exact.{panel_out, verdict_exact}
 use Rattle.lines.specs.Answer.{reply_line}
-use Rattle.lines.specs.declared.number.Number.TheVariants.{Nothing}
+use Rattle.std.specs.Prelude.{None}
 use Rattle.desktop.specs.Read.{read_listing}
 use Rattle.listed.specs.Words.{setting_of, WrongWord}
 use Rattle.listed.specs.Typing.{typing_lines}
 use Rattle.listed.specs.Reading.{heard_lines, reading_lines}
 use Rattle.listed.proofs.typing.Exact.{typing_said}
 
-word_marked : marked (setting_of Nothing) 6 ≡ true
+word_marked : marked (setting_of None) 6 ≡ true
 unfolding marked halved
 word_marked = refl
 
@@ -28,13 +28,13 @@ word_marked = refl
 pub word_out : (panel : Panel) → WrongWord panel → Ranged panel → ⊥
 word_out panel w r = ⊎_elim {C = ⊥} count (⊎_elim {C = ⊥} marks degree) w
   where
-    count : panel.n ≡ setting_of Nothing → ⊥
+    count : panel.n ≡ setting_of None → ⊥
     count e = omega (arith, r.high)
 
-    marks : panel.marks ≡ setting_of Nothing → ⊥
-    marks e = is_not (marked (setting_of Nothing) 6) word_marked (rw e at (r.known 6 (omega (arith, r.high))))
+    marks : panel.marks ≡ setting_of None → ⊥
+    marks e = is_not (marked (setting_of None) 6) word_marked (rw e at (r.known 6 (omega (arith, r.high))))
 
-    degree : panel.degree ≡ setting_of Nothing → ⊥
+    degree : panel.degree ≡ setting_of None → ⊥
     degree e = ⊎_elim {C = ⊥} (λ a. omega arith) (λ b. omega (arith, b.1)) r.kit
 
 module _ (panel : Panel) (w : WrongWord panel) where

@@ -1,7 +1,7 @@
 -- A pair is cheap where just one of the two adds something: exactly one of them is not in V, or they are one that is not. Assumes nothing.
 use mathlib.Core.Path.{◌≡◌, refl, sym, ap, ◌∙◌}
 use mathlib.Core.Logic.{◌⊎◌, inl, inr}
-use mathlib.Core.Bool.{Bool, true, false, cond, not, ◌||◌}
+use mathlib.Core.Bool.{Bool, true, false, cond, not, beq, ◌||◌}
 use mathlib.Core.List.{List}
 use Rattle.monomial.specs.Lists.{any, insert_by}
 use Rattle.monomial.specs.Monomial.{Mono}
@@ -9,7 +9,7 @@ use Rattle.monomial.specs.Order.{same, before}
 use Rattle.monomial.proofs.Tests.{is→T, is_not}
 use Rattle.monomial.proofs.order.Laws.{mono_order}
 use Rattle.lister.specs.declared.cheap.Held.{Held}
-use Rattle.lister.specs.Cheap.{added, cheap, of_kind, Holds}
+use Rattle.lister.specs.Cheap.{added, cheap, Holds}
 
 -- by three tests: whether V has the first and the second, and whether they are one
 module _ (v : List Mono) (a b : Mono) where
@@ -35,21 +35,18 @@ module _ (v : List Mono) (a b : Mono) where
       two true c = rw (p, q, e, c)
       two false c = rw (p, q, e, c)
 
--- as it was asked
-pub cheap_held : (v : List Mono) (p : Mono × Mono) (h : Held) → Holds v p h → cheap v p ≡ cond h.first (not h.second) h.second
-cheap_held v p h q =
-    cheap_by v p.0 p.1 (any (same p.0) v) (any (same p.1) v) (same p.0 p.1) refl refl refl
-    ∙ rw (q.first, q.second) refl
+-- just one of two tests
+just_one : (a b : Bool) → not (beq a b) ≡ cond a (not b) b
+just_one true true = refl
+just_one true false = refl
+just_one false true = refl
+just_one false false = refl
 
--- and of which kind it is, by either test
-pub kind_turned : (v : List Mono) (p : Mono × Mono) (rest c : Bool) → cheap v p ≡ c → cond c (not rest) rest ≡ of_kind v rest p
-kind_turned v p rest c e = turn rest c ∙ ap (λ (b : Bool). cond rest (not b) b) (sym e)
-  where
-    turn : (r b : Bool) → cond b (not r) r ≡ cond r (not b) b
-    turn true true = refl
-    turn true false = refl
-    turn false true = refl
-    turn false false = refl
+-- as it was asked
+pub cheap_held : (v : List Mono) (p : Mono × Mono) (h : Held) → Holds v p h → not (beq h.first h.second) ≡ cheap v p
+cheap_held v p h q =
+    just_one h.first h.second ∙ rw (q.first, q.second) refl
+    ∙ sym (cheap_by v p.0 p.1 (any (same p.0) v) (any (same p.1) v) (same p.0 p.1) refl refl refl)
 
 -- a pair of the rest adds nothing, or both of the two
 pub dear_out : (v : List Mono) (p : Mono × Mono) → cheap v p ≡ false

@@ -2,11 +2,12 @@
 -- Assumes nothing.
 use mathlib.Core.Path.{◌≡◌, refl, sym, ap, ap₂, ◌∙◌, subst}
 use mathlib.Core.Logic.{⊎_elim}
-use mathlib.Core.Bool.{true, false, not, ◌&&◌, ◌||◌}
+use mathlib.Core.Bool.{true, false, not, ◌&&◌}
 use mathlib.Core.List.Memᴰ
 use mathlib.Core.List.{List, [], ◌∷◌}
 use Prim.Native.Nat.{ℕ, ◌+◌, ◌<◌, ◌≤◌}
 use native.Mathlib.Omega.{arith}
+use Rattle.std.specs.Prelude.{Option, None, Some, IfSome, IsSomeAnd}
 use borrow.Author.Tests.{leb-true, leb-false}
 use lib.Dec.{T, T_not, not_T, leb}
 use lib.ListN.{length}
@@ -17,7 +18,7 @@ use Rattle.monomial.specs.Product.{mul}
 use Rattle.monomial.specs.Quotient.{quo, divides}
 use Rattle.monomial.specs.Divisors.{leads}
 use Rattle.monomial.specs.Claims.{◌∈◌, split}
-use Rattle.monomial.proofs.Tests.{Tested, passed, failed, test, T→is, n_t→is, is→T, is→n_t, is_not, and_l, and_r, or_e}
+use Rattle.monomial.proofs.Tests.{Tested, passed, failed, test, T→is, is→T, is→n_t, and_l, and_r}
 use Rattle.monomial.proofs.Members.{here}
 use Rattle.monomial.proofs.Counting.{in_at}
 use Rattle.monomial.proofs.order.Laws.{mono_order, level}
@@ -25,7 +26,7 @@ use Rattle.monomial.proofs.quotient.Laws.{mul_quo, quo_divides, quo_quo, one_div
 use Rattle.monomial.proofs.divisors.Pairs.{one_leads}
 use Rattle.lister.specs.declared.nearest.Near.{Near}
 use Rattle.lister.specs.Cheap.{Holds}
-use Rattle.lister.specs.Nearest.{root_of, lead_of, asked, CheapFrom, tried, NotBehind, Nearing, Nearest}
+use Rattle.lister.specs.Nearest.{root_of, lead_of, asked, CheapFrom, tried, ahead, NotBehind, Nearing, Nearest}
 use Rattle.lister.proofs.Order.{cheap_exact}
 
 -- ---- the root of a square
@@ -120,14 +121,8 @@ module _ (v : List Mono) (m a d : Mono) (c : CheapFrom v m a d) where
 
 -- ---- the loop over those that are asked
 module _ (v : List Mono) (m a : Mono) where
-  pub nearing_start : (near : Near) → near.some ≡ false → Nearing v m a near 0
-  nearing_start near e = record {
-    own = λ i. absurd (is_not near.some i e);
-    least = λ i h. let z : ⊥ = omega arith in absurd z;
-  }
-
   -- one more was tried
-  least_next : (near : Near) (j : ℕ) → ((i : ℕ) → i < j → NotBehind v m a near (tried v m i))
+  least_next : (near : Option Near) (j : ℕ) → ((i : ℕ) → i < j → NotBehind v m a near (tried v m i))
       → (NotBehind v m a near (tried v m j))
       → (i : ℕ) → i < j + 1 → NotBehind v m a near (tried v m i)
   least_next near j f g i h = go (test (leb (i + 1) j))
@@ -136,52 +131,43 @@ module _ (v : List Mono) (m a : Mono) where
       go (passed e) = f i (omega (arith, leb-true (i + 1) j e))
       go (failed e) = let is : i ≡ j = omega (arith, leb-false (i + 1) j e) in subst (λ (k : ℕ). NotBehind v m a near (tried v m k)) (sym is) g
 
-  module _ {near : Near} {j : ℕ} (w : Nearing v m a near j) where
+  module _ {near : Option Near} {j : ℕ} (w : Nearing v m a near j) where
     -- it is no cheap pair, or none from a on, or not before the nearest
     pub nearing_by : (NotBehind v m a near (tried v m j)) → Nearing v m a near (j + 1)
     nearing_by g = record { own = w.own; least = least_next near j w.least g }
 
     -- it is the nearest now
-    pub nearing_take : (now : Near) → now.some ≡ true → now.a.e ≡ tried v m j → CheapFrom v m a (tried v m j) → Holds v (split m (tried v m j)) now.held
-        → (near.some ≡ true → T (before (tried v m j) near.a.e)) → Nearing v m a now (j + 1)
-    nearing_take now e is c q nearer = record {
-      own = λ i. rw is (c, q);
-      least = least_next now j (λ i h x. (e, λ t. old i h x (subst (λ (y : Mono). T (before (tried v m i) y)) is t)))
-          (λ x. (e, λ t. mono_order.irrefl (tried v m j) (subst (λ (y : Mono). T (before (tried v m j) y)) is t)));
+    pub nearing_take : (now : Near) → now.a.e ≡ tried v m j → CheapFrom v m a (tried v m j) → Holds v (split m (tried v m j)) now.held
+        → IfSome near (λ n. T (before (tried v m j) n.a.e)) → Nearing v m a (Some now) (j + 1)
+    nearing_take now is c q nearer = record {
+      own = rw is (c, q);
+      least = least_next (Some now) j (λ i h x t. old i h x (subst (λ (y : Mono). T (before (tried v m i) y)) is t))
+          (λ x t. mono_order.irrefl (tried v m j) (subst (λ (y : Mono). T (before (tried v m j) y)) is t));
     }
       where
         old : (i : ℕ) → i < j → CheapFrom v m a (tried v m i) → T (before (tried v m i) (tried v m j)) → ⊥
-        old i h x t =
-            let k = w.least i h x in
-            k.1 (mono_order.trans (tried v m i) (tried v m j) near.a.e t (nearer k.0))
+        old i h x t = behind near (w.least i h x) nearer
+          where
+            behind : (o : Option Near) → IsSomeAnd o (λ n. T (before (tried v m i) n.a.e) → ⊥) → IfSome o (λ n. T (before (tried v m j) n.a.e)) → ⊥
+            behind None k b = k
+            behind (Some n) k b = k (mono_order.trans (tried v m i) (tried v m j) n.a.e t b)
 
     pub nearing_end : length (asked v m) ≤ j → Nearest v m a near
     nearing_end h = record { own = w.own; least = λ d c. found d c (cheap_asked v m a d c) }
       where
-        found : (d : Mono) (c : CheapFrom v m a d) → Asked v m a d c → (near.some ≡ true) × (T (before d near.a.e) → ⊥)
+        found : (d : Mono) (c : CheapFrom v m a d) → Asked v m a d c → IsSomeAnd near (λ n. T (before d n.a.e) → ⊥)
         found d c k =
             let at = in_at (asked v m) k.who (one width) k.member in
             let is : tried v m at.0 ≡ d = ap (lead_of m) at.2 ∙ k.lead in
-            let l = w.least at.0 (omega (arith, at.1)) (subst (CheapFrom v m a) (sym is) c) in
-            (l.0, λ t. l.1 (subst (λ (x : Mono). T (before x near.a.e)) (sym is) t))
+            subst (λ (x : Mono). IsSomeAnd near (λ n. T (before x n.a.e) → ⊥)) is (w.least at.0 (omega (arith, at.1)) (subst (CheapFrom v m a) (sym is) c))
 
 -- ---- what the test of the code says
-module _ (c a : Mono) (near : Near) where
-  pub nearer_out : (not (before c a) && (not near.some || before c near.a.e)) ≡ true
-      → (T (before c a) → ⊥) × (near.some ≡ true → T (before c near.a.e))
-  nearer_out e =
-      let t = is→T (not (before c a) && (not near.some || before c near.a.e)) e in (
-        T_not (before c a) (and_l (not (before c a)) (not near.some || before c near.a.e) t),
-        λ s. ⊎_elim (λ u. absurd (T_not near.some u (is→T near.some s))) (λ u. u) (or_e (not near.some) (before c near.a.e) (and_r (not (before c a)) (not near.some || before c near.a.e) t)),
-      )
-
-  pub nearer_not : (not (before c a) && (not near.some || before c near.a.e)) ≡ false → (T (before c a) → ⊥) → (near.some ≡ true) × (T (before c near.a.e) → ⊥)
-  nearer_not e l = go (test near.some) (test (before c near.a.e))
+module _ (c a : Mono) where
+  pub nearer_out : (near : Option Near) → (not (before c a) && ahead c near) ≡ true → (T (before c a) → ⊥) × IfSome near (λ n. T (before c n.a.e))
+  nearer_out near e =
+      let t = is→T (not (before c a) && ahead c near) e in
+      (T_not (before c a) (and_l (not (before c a)) (ahead c near) t), go near (and_r (not (before c a)) (ahead c near) t))
     where
-      later : before c a ≡ false
-      later = n_t→is (before c a) l
-
-      go : Tested near.some → Tested (before c near.a.e) → (near.some ≡ true) × (T (before c near.a.e) → ⊥)
-      go (passed s) (failed b) = (s, is→n_t (before c near.a.e) b)
-      go (passed s) (passed b) = absurd (is_not true refl (rw (later, s, b) at e))
-      go (failed s) b = absurd (is_not true refl (rw (later, s) at e))
+      go : (o : Option Near) → T (ahead c o) → IfSome o (λ n. T (before c n.a.e))
+      go None t = tt
+      go (Some n) t = t

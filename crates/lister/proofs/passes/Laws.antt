@@ -4,6 +4,7 @@ use mathlib.Core.Bool.{Bool, true, false, cond}
 use mathlib.Core.List.{List, [], ◌∷◌, ◌++◌, append-nil}
 use Prim.Native.Nat.{ℕ, suc, ◌+◌, ◌≤◌, ◌<◌}
 use native.Mathlib.Omega.{arith}
+use Rattle.std.specs.Prelude.{Option, None, Some, is_some, IfNone}
 use lib.Dec.{T}
 use lib.ListN.{length}
 use Rattle.monomial.specs.Lists.{keep}
@@ -16,8 +17,8 @@ use Rattle.monomial.proofs.Members.{no_length, keep_yes, keep_no, keep_length, k
 use Rattle.monomial.proofs.quotient.Laws.{one_divides}
 use Rattle.monomial.proofs.divisors.Following.{next_divides}
 use Rattle.monomial.proofs.divisors.Pairs.{leads_in, pairs_start, pairs_turn, pairs_end, none_between, none_later}
+use Rattle.lister.specs.declared.cheap.Held.{Held}
 use Rattle.lister.specs.declared.passes.Place.{Place}
-use Rattle.lister.specs.declared.passes.Hand.{Hand}
 use Rattle.lister.specs.declared.nearest.Near.{Near}
 use Rattle.lister.specs.Cheap.{cheap, of_kind, cheap_first, Holds}
 use Rattle.lister.specs.Nearest.{Nearest}
@@ -75,50 +76,51 @@ module _ (v : List Mono) (m : Mono) where
   pub standing_few : (rest : Bool) (a : Mono) (listed : ℕ) → Standing v m rest a listed → listed ≤ length (pairs m)
   standing_few rest a listed st = omega (arith, st.counted, keep_length (of_kind v rest) (pairs m))
 
-  module _ (from : Place) (st : Standing v m from.rest from.a.e from.listed) (h : Hand) (kept : h.at.rest ≡ from.rest) where
-    abbrev f : Pair → Bool
-    f = of_kind v from.rest
-
+  module _ (from : Place) (st : Standing v m from.rest from.a.e from.listed) (at : Place) (kept : at.rest ≡ from.rest) where
     -- the pass came to a pair, one more is listed
-    module _ (d : T (divides h.at.a.e m)) (l : T (leads m h.at.a.e)) (q : Holds v (split m h.at.a.e) h.held)
-        (comes : keep (of_kind v from.rest) (pairs_from m from.a.e) ≡ split m h.at.a.e ∷ keep (of_kind v from.rest) (pairs_from m (next m h.at.a.e)))
-        (one_more : h.at.listed ≡ from.listed + 1) (e : h.some ≡ true) where
-      later : Standing v m from.rest (next m h.at.a.e) h.at.listed
+    module _ (d : T (divides at.a.e m)) (l : T (leads m at.a.e)) (held : Held) (q : Holds v (split m at.a.e) held)
+        (comes : keep (of_kind v from.rest) (pairs_from m from.a.e) ≡ split m at.a.e ∷ keep (of_kind v from.rest) (pairs_from m (next m at.a.e)))
+        (one_more : at.listed ≡ from.listed + 1) where
+      later : Standing v m from.rest (next m at.a.e) at.listed
       later = record {
-        divisor = next_divides h.at.a.e m d;
+        divisor = next_divides at.a.e m d;
         counted = omega (arith, st.counted, ap length comes);
       }
 
-      pub sought_found : Sought v m from h
+      pub sought_found : Sought v m from (record { at = at; held = Some held })
       sought_found = record {
         kept = kept;
-        picked = λ i. record { divisor = d; leading = l; held = q; behind = subst (λ (b : Bool). Standing v m b (next m h.at.a.e) h.at.listed) (sym kept) later };
-        lists = λ i. comes;
-        none = λ i. absurd (is_not h.some e i);
-        over = λ i. absurd (is_not h.some e i);
+        picked = record { divisor = d; leading = l; held = q; behind = subst (λ (b : Bool). Standing v m b (next m at.a.e) at.listed) (sym kept) later };
+        lists = comes;
+        none = tt;
+        over = tt;
       }
 
     -- it came to its end
-    pub sought_none : keep (of_kind v from.rest) (pairs_from m from.a.e) ≡ [] → h.at.listed ≡ from.listed → h.some ≡ false → Sought v m from h
-    sought_none nothing no_more e = record {
+    pub sought_none : keep (of_kind v from.rest) (pairs_from m from.a.e) ≡ [] → at.listed ≡ from.listed → Sought v m from (record { at = at; held = None })
+    sought_none nothing no_more = record {
       kept = kept;
-      picked = λ i. absurd (is_not h.some i e);
-      lists = λ i. absurd (is_not h.some i e);
-      none = λ i. nothing;
-      over = λ i. omega (arith, st.counted, ap length nothing);
+      picked = tt;
+      lists = tt;
+      none = nothing;
+      over = omega (arith, st.counted, ap length nothing);
     }
 
   -- the first cheap pair from a on, as it was found by V
-  module _ (proper : Proper m) (a : Mono) (near : Near) (w : Nearest v m a near) where
-    pub nearest_comes : near.some ≡ true → keep (cheap v) (pairs_from m a) ≡ split m near.a.e ∷ keep (cheap v) (pairs_from m (next m near.a.e))
-    nearest_comes e =
-        let own = (w.own e).0 in
-        none_between m (cheap v) a near.a.e own.later (λ d t l c h. (w.least d (record { divisor = t; leading = l; cheap = c; later = h })).1)
+  module _ (proper : Proper m) (a : Mono) where
+    pub nearest_comes : (near : Near) → Nearest v m a (Some near) → keep (cheap v) (pairs_from m a) ≡ split m near.a.e ∷ keep (cheap v) (pairs_from m (next m near.a.e))
+    nearest_comes near w =
+        let own = w.own.0 in
+        none_between m (cheap v) a near.a.e own.later (λ d t l c h. w.least d (record { divisor = t; leading = l; cheap = c; later = h }))
         ∙ sought_here m proper (cheap v) near.a.e own.divisor own.leading (T→is (cheap v (split m near.a.e)) own.cheap)
 
-    pub nearest_none : near.some ≡ false → keep (cheap v) (pairs_from m a) ≡ []
-    nearest_none e =
-        none_later m (cheap v) a (λ d t l c h. is_not near.some (w.least d (record { divisor = t; leading = l; cheap = c; later = h })).0 e)
+    pub nearest_none : Nearest v m a None → keep (cheap v) (pairs_from m a) ≡ []
+    nearest_none w = none_later m (cheap v) a (λ d t l c h. w.least d (record { divisor = t; leading = l; cheap = c; later = h }))
+
+-- ---- what is said where there is none
+pub at_none : {A : Type 0} (o : Option A) {P : Type 0} → is_some o ≡ false → IfNone o P → P
+at_none None e p = p
+at_none (Some x) e p = absurd (is_not true refl e)
 
 -- ---- both passes
 module _ (v : List Mono) (m : Mono) (all : Bool) where
@@ -130,49 +132,56 @@ module _ (v : List Mono) (m : Mono) (all : Bool) where
   none_list true a e h = e
   none_list false a e h = rw (h refl) (ap (λ (ps : List Pair). ps ++ []) e)
 
-  module _ (from : Place) (ask : all ≡ false → from.rest ≡ false) (h : Hand) (w : Sought v m from h) where
+  module _ (from : Place) (ask : all ≡ false → from.rest ≡ false) (at : Place) where
     -- nothing more is sought: a pair was found, or of the rest none is left, or no more is asked for
-    pub found_of : (h.some ≡ false → from.rest ≡ false → all ≡ false) → Found v m all from.rest from.a.e h
-    found_of last = record {
+    pub found_of : (held : Option Held) → Sought v m from (record { at = at; held = held }) → (is_some held ≡ false → from.rest ≡ false → all ≡ false)
+        → Found v m all from.rest from.a.e (record { at = at; held = held })
+    found_of (Some held) w last = record {
       picked = w.picked;
-      lists = λ e. found_list from.rest from.a.e h.at.a.e (w.lists e) ∙ ap (λ (b : Bool). split m h.at.a.e ∷ list_from v m all b (next m h.at.a.e)) (sym w.kept);
-      none = λ e. none_list from.rest from.a.e (w.none e) (last e);
+      lists = found_list from.rest from.a.e at.a.e w.lists ∙ ap (λ (b : Bool). split m at.a.e ∷ list_from v m all b (next m at.a.e)) (sym w.kept);
+      none = tt;
       cheap_only = λ c. w.kept ∙ ask c;
-      over = λ c e. w.over e ∙ ap (λ (b : Bool). length (kind v m b)) (ask c);
+      over = λ c. tt;
+    }
+    found_of None w last = record {
+      picked = tt;
+      lists = tt;
+      none = none_list from.rest from.a.e w.none (last refl);
+      cheap_only = λ c. w.kept ∙ ask c;
+      over = λ c. w.over ∙ ap (λ (b : Bool). length (kind v m b)) (ask c);
     }
 
     -- the cheap ones are through, and there are no others
-    pub found_through : h.some ≡ false → from.rest ≡ false → length (pairs m) ≤ h.at.listed → Found v m all from.rest from.a.e h
-    found_through e b few = record {
-      picked = w.picked;
-      lists = λ i. absurd (is_not h.some i e);
-      none = λ i. rw b (ap₂ ◌++◌ (rw b at (w.none e)) (no_rest all));
+    pub found_through : (held : Option Held) → Sought v m from (record { at = at; held = held }) → is_some held ≡ false → from.rest ≡ false → length (pairs m) ≤ at.listed
+        → Found v m all from.rest from.a.e (record { at = at; held = held })
+    found_through (Some held) w e b few = absurd (is_not true refl e)
+    found_through None w e b few = record {
+      picked = tt;
+      lists = tt;
+      none = rw b (ap₂ ◌++◌ (rw b at w.none) (no_rest all));
       cheap_only = λ c. w.kept ∙ ask c;
-      over = λ c i. w.over i ∙ ap (λ (x : Bool). length (kind v m x)) (ask c);
+      over = λ c. w.over ∙ ap (λ (x : Bool). length (kind v m x)) (ask c);
     }
       where
         none_there : length (kind v m true) ≡ 0
-        none_there = omega (arith, kinds_count v m, w.over e, ap (λ (x : Bool). length (kind v m x)) b)
+        none_there = omega (arith, kinds_count v m, w.over, ap (λ (x : Bool). length (kind v m x)) b)
 
         no_rest : (c : Bool) → cond c (kind v m true) [] ≡ []
         no_rest true = no_length (kind v m true) none_there
         no_rest false = refl
 
     -- the cheap ones are through, and the rest is listed from its first pair on
-    pub found_on : h.some ≡ false → from.rest ≡ false → all ≡ true → (x : Mono) → x ≡ one (length m)
+    pub found_on : (held : Option Held) → Sought v m from (record { at = at; held = held }) → is_some held ≡ false → from.rest ≡ false → all ≡ true → (x : Mono) → x ≡ one (length m)
         → list_from v m all from.rest from.a.e ≡ list_from v m all true x
-    found_on e b c x i =
-        rw (b, c) (ap (λ (ps : List Pair). ps ++ kind v m true) (rw b at (w.none e)) ∙ sym (ap (keep (of_kind v true)) (ap (pairs_from m) i ∙ pairs_start m)))
+    found_on (Some held) w e b c x i = absurd (is_not true refl e)
+    found_on None w e b c x i =
+        rw (b, c) (ap (λ (ps : List Pair). ps ++ kind v m true) (rw b at w.none) ∙ sym (ap (keep (of_kind v true)) (ap (pairs_from m) i ∙ pairs_start m)))
 
   -- what is listed from a place on, where the same is listed from another
-  pub found_same : (rest rest' : Bool) (a a' : Mono) (h : Hand) → list_from v m all rest a ≡ list_from v m all rest' a' → Found v m all rest' a' h → Found v m all rest a h
-  found_same rest rest' a a' h e w = record {
-    picked = w.picked;
-    lists = λ i. e ∙ w.lists i;
-    none = λ i. e ∙ w.none i;
-    cheap_only = w.cheap_only;
-    over = w.over;
-  }
+  pub found_same : (rest rest' : Bool) (a a' : Mono) (at : Place) (held : Option Held) → list_from v m all rest a ≡ list_from v m all rest' a'
+      → Found v m all rest' a' (record { at = at; held = held }) → Found v m all rest a (record { at = at; held = held })
+  found_same rest rest' a a' at (Some held) e w = record { picked = w.picked; lists = e ∙ w.lists; none = tt; cheap_only = w.cheap_only; over = w.over }
+  found_same rest rest' a a' at None e w = record { picked = tt; lists = tt; none = e ∙ w.none; cheap_only = w.cheap_only; over = w.over }
 
   -- from the first cheap pair on all pairs are listed, or put off
   pub listed_first : (x : Mono) → x ≡ one (length m) → list_from v m all false x ++ put_off v m all ≡ cheap_first v m
@@ -184,5 +193,5 @@ module _ (v : List Mono) (m : Mono) (all : Bool) where
       go false = ap (λ (ps : List Pair). ps ++ kind v m true) (append-nil (kind v m false))
 
 -- ---- the pair in hand is a factor pair
-pub picked_member : (v : List Mono) (m : Mono) (h : Hand) → Picked v m h → split m h.at.a.e ∈ pairs m
-picked_member v m h k = leads_in h.at.a.e m k.divisor k.leading
+pub picked_member : (v : List Mono) (m : Mono) (at : Place) (held : Held) → Picked v m at held → split m at.a.e ∈ pairs m
+picked_member v m at held k = leads_in at.a.e m k.divisor k.leading

@@ -1,54 +1,13 @@
--- The places whose bytes say nothing, and the sayings that are of no name or of no term. Assumes nothing.
+-- The sayings that are of no name or of no term. Assumes nothing.
 use mathlib.Core.Path.{◌≡◌, refl}
 use mathlib.Core.List.{List, [], ◌∷◌}
 use Prim.Native.Nat.{ℕ}
 use denote.Enum.Declared.{tag_of}
 use types.Run.{OneOf, miss}
-use Rattle.listing.specs.Saying.{saying_at}
-use Rattle.listing.specs.declared.machine.Known.{Known}
-use Rattle.listing.specs.declared.machine.State.{State}
-use Rattle.listing.specs.declared.machine.Place.{Place}
-use Rattle.listing.specs.declared.machine.Place.TheVariants.{Heading, Names, NewName, Equals, Factor, Power, Star, Exponent, Digits, Next, Line, Left, Prime, Right, Zero, Term, Coefficient, First, X1, W1, One, Times, Square, X2, W2, Two, Sign, Gap}
 use Rattle.listing.specs.declared.saying.Saying.{Saying}
 use Rattle.listing.specs.declared.saying.Saying.TheVariants.{Silence, Variable, Raised, Digit, NameEnds, Minus, Number, Name, Again, TermEnds, LineEnds, ZeroLine}
 use Rattle.listing.specs.Meaning.{Naming, named, Telling, told}
-use Rattle.listing.specs.contracts.machine.Place.{the_type}
 use Rattle.listing.specs.contracts.saying.Saying as kinds
-
--- their tags
-abbrev quiets : List ℕ
-quiets = 0 ∷ 1 ∷ 2 ∷ 3 ∷ 9 ∷ 10 ∷ 11 ∷ 12 ∷ 17 ∷ 21 ∷ 27 ∷ []
-
-pub quiet : (r : Known) (x : ℕ) (s : State) (p : Place) → OneOf quiets (tag_of the_type p) → saying_at r x s p ≡ Silence
-unfolding saying_at
-quiet r x s Heading h = refl
-quiet r x s Names h = refl
-quiet r x s NewName h = refl
-quiet r x s Equals h = refl
-quiet r x s Factor h = absurd (miss quiets 4 tt h)
-quiet r x s Power h = absurd (miss quiets 5 tt h)
-quiet r x s Star h = absurd (miss quiets 6 tt h)
-quiet r x s Exponent h = absurd (miss quiets 7 tt h)
-quiet r x s Digits h = absurd (miss quiets 8 tt h)
-quiet r x s Next h = refl
-quiet r x s Line h = refl
-quiet r x s Left h = refl
-quiet r x s Prime h = refl
-quiet r x s Right h = absurd (miss quiets 13 tt h)
-quiet r x s Zero h = absurd (miss quiets 14 tt h)
-quiet r x s Term h = absurd (miss quiets 15 tt h)
-quiet r x s Coefficient h = absurd (miss quiets 16 tt h)
-quiet r x s First h = refl
-quiet r x s X1 h = absurd (miss quiets 18 tt h)
-quiet r x s W1 h = absurd (miss quiets 19 tt h)
-quiet r x s One h = absurd (miss quiets 20 tt h)
-quiet r x s Times h = refl
-quiet r x s Square h = absurd (miss quiets 22 tt h)
-quiet r x s X2 h = absurd (miss quiets 23 tt h)
-quiet r x s W2 h = absurd (miss quiets 24 tt h)
-quiet r x s Two h = absurd (miss quiets 25 tt h)
-quiet r x s Sign h = absurd (miss quiets 26 tt h)
-quiet r x s Gap h = refl
 
 -- the tags of the sayings that are of no name
 abbrev nameless : List ℕ

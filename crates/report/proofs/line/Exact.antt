@@ -1,30 +1,25 @@
 -- What the contract of `line_of` says to a caller: none is told exactly behind the last line, and two outcomes are equal.
 -- Assumes nothing.
-use mathlib.Core.Path.{◌≡◌, ◌∙◌}
+use mathlib.Core.Path.{◌≡◌}
 use mathlib.Core.Logic.{◌↔◌}
 use mathlib.Core.Bool.{cond}
 use mathlib.Core.List.{List, [], ◌++◌}
-use Prim.Native.Nat.{ℕ, suc, ◌+◌, ◌/◌, ◌≤◌, ◌<◌, min}
-use native.Mathlib.Omega.{arith}
+use Prim.Native.Nat.{ℕ, ◌≤◌, ◌<◌}
 use lib.Dec.{eqb}
-use lib.ListN.{length, take, length-take, length-append}
+use lib.ListN.{length}
 use Rattle.monomial.proofs.Tests.{cond_cases}
 use Rattle.wiring.specs.Panel.{set_bytes, wire_bytes}
 use Rattle.wiring.specs.Reply.{in_order}
-use Rattle.lines.specs.Text.{Stands}
 use Rattle.lines.specs.Answer.{reply_line, set_line, wire_line}
 use Rattle.lines.proofs.Told.{Filled, filled_none, filled_first, filled_both, filled_made}
 use Rattle.lines.proofs.Told as of_lines
 use Rattle.lines.proofs.text.Laws.{stands_one}
 use Rattle.lines.proofs.answer.Laws.{reply_some, wire_some, set_some}
-use Rattle.report.specs.declared.prepare.Prepared.{Prepared}
-use Rattle.report.specs.Prepare.{Results, results_in}
+use Rattle.report.specs.Prepare.{Results}
 use Rattle.report.specs.Report.{slots, set_lines, wire_lines, lines_of, line_at}
-use Rattle.report.proofs.line.Laws.{shown_sets, shown_wires, sets_length, wires_length}
 
--- ---- the promise leaves nothing open: the length of the line, and every byte that was lent
-pub line_determined : (lines : List (List ℕ)) (k : ℕ) {e f : ℕ} {l m n : List ℕ}
-    → Stands (line_at lines k) e l m → Stands (line_at lines k) f l n → (e ≡ f) × (m ≡ n)
+-- ---- the promise leaves nothing open: the text of the line
+pub line_determined : (lines : List (List ℕ)) (k : ℕ) {l m : List ℕ} → l ≡ line_at lines k → m ≡ line_at lines k → l ≡ m
 line_determined lines k a b = stands_one a b
 
 module _ (r : Results) where
@@ -42,28 +37,11 @@ module _ (r : Results) where
       filled_first (reply_line (in_order r.listed.said)) (cond (eqb r.listed.said.code 0) later []) (reply_some (in_order r.listed.said))
       (cond_cases Filled (eqb r.listed.said.code 0) later [] (λ _. both) (λ _. filled_none))
 
-  -- as many as the buffers hold, and the reply
-  pub lines_most : length (lines_of r) ≤ suc (length r.listed.bytes / set_bytes + length r.wiring.bytes / wire_bytes)
-  unfolding lines_of
-  lines_most =
-      let both : length later ≡ shown_sets r + shown_wires r =
-      length-append (set_lines r.listed) (wire_lines r.wiring) ∙ omega (arith, sets_length r, wires_length r) in
-      let most : ℕ = length r.listed.bytes / set_bytes + length r.wiring.bytes / wire_bytes in
-      let rest : length (cond (eqb r.listed.said.code 0) later []) ≤ most =
-      cond_cases (λ l. length l ≤ most) (eqb r.listed.said.code 0) later [] (λ _. omega arith) (λ _. omega arith) in
-      omega arith
-
-  module _ (k : ℕ) {end : ℕ} {l m : List ℕ} (s : Stands (line_at (lines_of r) k) end l m) where
+  module _ (k : ℕ) {text : List ℕ} (s : text ≡ line_at (lines_of r) k) where
     -- none is told exactly behind the last line
-    pub line_none : (end ≡ 0) ↔ (length (lines_of r) ≤ k)
+    pub line_none : (text ≡ []) ↔ (length (lines_of r) ≤ k)
     line_none = of_lines.line_none (lines_of r) lines_filled k s
 
     -- a line that is told is one of the report
-    pub line_told : (end ≡ 0 → ⊥) → k < length (lines_of r)
+    pub line_told : (text ≡ [] → ⊥) → k < length (lines_of r)
     line_told = of_lines.line_told (lines_of r) lines_filled k s
-
--- so the number of a line is small beside that of the lent bytes
-pub lines_few : (p : Prepared) (sets wires : List ℕ) → length (lines_of (results_in p sets wires)) ≤ suc (length sets + length wires)
-lines_few p sets wires =
-    let part : length (take p.lent sets) ≡ min p.lent (length sets) = length-take p.lent sets in
-    omega (arith, lines_most (results_in p sets wires))

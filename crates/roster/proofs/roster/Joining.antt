@@ -4,11 +4,12 @@ use mathlib.Core.Logic.{⊎_elim}
 use mathlib.Core.Bool.{Bool, true, false, not, ◌&&◌}
 use mathlib.Core.List.Memᴰ
 use mathlib.Core.List.{List, [], ◌∷◌}
+use Rattle.std.specs.Prelude.{Some}
 use Prim.Native.Nat.{ℕ, zero, suc, ◌+◌, ◌≤◌}
 use native.Mathlib.Omega.{arith}
 use native.Mathlib.Numerals.{add-one}
 use lib.Dec.{T, T_not}
-use lib.ListN.{length, get_or, drop, replicate, drop_of_length-le}
+use lib.ListN.{length, get_or, drop, drop_of_length-le}
 use lib.Seq.{drop-cons}
 use Rattle.monomial.specs.Lists.{any, all, insert_by, arrange_by}
 use Rattle.monomial.specs.Monomial.{Mono}
@@ -17,13 +18,12 @@ use Rattle.monomial.specs.Claims.{Ascending}
 use Rattle.monomial.proofs.Tests.{T→is, n_t→is, is→T, is→n_t, and_r, and_true, same_test}
 use Rattle.monomial.proofs.order.Laws.{mono_order}
 use Rattle.monomial.proofs.order.Ascending.{among_in, among_out, arrange_asc, arrange_in, arrange_out}
-use Rattle.wiring.specs.Panel.{cards, set_bytes}
+use Rattle.wiring.specs.Panel.{cards}
 use Rattle.wiring.specs.Sets.{monomial_right, monomials_of, set_record}
 use Rattle.wiring.specs.Claims.{Wide}
 use Rattle.wiring.specs.declared.panel.Panel.{Panel}
 use Rattle.wiring.specs.declared.sets.Set.{Set}
 use Rattle.roster.specs.Roster.{distinct, forms_set, arranged, Forms, Entering, Entered}
-use Rattle.roster.specs.declared.roster.Formed.{Formed}
 
 -- ---- one name more
 exchange : (a b c d : Bool) → (a && b) && (c && d) ≡ (a && c) && (b && d)
@@ -118,17 +118,6 @@ module _ {panel : Panel} {l : List Mono} {set : Set} {j : ℕ} (c : Joining pane
 pub joining_wide : {panel : Panel} {l : List Mono} {set : Set} {i : ℕ} → Joining panel l set i → Wide (monomials_of set)
 joining_wide {panel} {l} {set} {i} c m h = c.wide m (arrange_out mono_order (drop i l) (rw c.held at h))
 
--- ---- what is said at the end, and where a name is refused
-pub joined : {panel : Panel} {l : List Mono} {set : Set} → Joining panel l set 0 → (r : Formed) → r.good ≡ true → r.record ≡ set_record (monomials_of set) → Forms panel l r
-joined {panel} {l} {set} c r good made = record {
-  right = good ∙ sym (T→is (forms_set panel l) c.right);
-  holds = λ g. made ∙ ap (λ (s : List Mono). set_record s) c.held;
-  none = λ b. absurd (is→n_t r.good b (is→T r.good good));
-}
-
-pub refused : (panel : Panel) (l : List Mono) (r : Formed) → r.good ≡ false → r.record ≡ replicate set_bytes 0 → forms_set panel l ≡ false → Forms panel l r
-refused panel l r bad zeros f = record {
-  right = bad ∙ sym f;
-  holds = λ g. absurd (is→n_t r.good bad (is→T r.good g));
-  none = λ b. zeros;
-}
+-- ---- what is said at the end
+pub joined : {panel : Panel} {l : List Mono} {set : Set} → Joining panel l set 0 → (bytes : List ℕ) → bytes ≡ set_record (monomials_of set) → Forms panel l (Some bytes)
+joined {panel} {l} {set} c bytes made = (T→is (forms_set panel l) c.right, made ∙ ap (λ (s : List Mono). set_record s) c.held)

@@ -1,13 +1,11 @@
 -- The signals as an array holds them: their places, and products of two of them. Assumes nothing.
 use mathlib.Core.Path.{◌≡◌, sym, ap₂, ◌∙◌, subst}
-use mathlib.Core.Bool.{true}
 use Prim.Native.Nat.{ℕ, ◌+◌, ◌*◌, ◌≤◌, ◌<◌}
 use native.Mathlib.Omega.{arith}
 use lib.Dec.{T}
 use lib.ListN.{length}
 use Rattle.monomial.specs.Monomial.{Mono}
 use Rattle.monomial.specs.Product.{mul, AtMost, FitsBytes}
-use Rattle.monomial.proofs.Tests.{T→is}
 use Rattle.monomial.proofs.product.Laws.{at_most_mul, at_most_weaken}
 use Rattle.wiring.specs.Panel.{set_exponent, most_signals}
 use Rattle.wiring.specs.Poly.{plain}
@@ -16,16 +14,17 @@ use Rattle.wiring.specs.Signals.{Fitting, signals_of}
 use Rattle.wiring.specs.Wires.{signal, FirstPair}
 use Rattle.wiring.specs.declared.signals.Signals.{Signals}
 use Rattle.wiring.specs.declared.wires.Pair.{Pair}
+use Rattle.std.specs.Prelude.{Option, Some}
 use Rattle.wiring.proofs.signals.Arrays.{entry, front_length, front_at, entry_fits}
 use Rattle.truth.specs.Sums.{cell, pair_cells}
 use Rattle.truth.proofs.truth.Cells.{signals-in}
 
 -- the cell of the pair that is found
-pub cell_found : (v : _) (m : Mono) (p : Pair) → FirstPair v m p → T (in_v2 plain v m) → (most_signals * p.a + p.b ≡ cell v m) × (most_signals * p.a + p.b < pair_cells)
+pub cell_found : (v : _) (m : Mono) (r : Option Pair) (p : Pair) → r ≡ Some p → FirstPair v m r → (most_signals * p.a + p.b ≡ cell v m) × (most_signals * p.a + p.b < pair_cells)
 unfolding cell
-cell_found v m p f t =
-    let some : p.some ≡ true = f.told ∙ T→is (in_v2 plain v m) t in
-    (ap₂ (λ (a b : ℕ). most_signals * a + b) (f.first some) (f.second some), omega (arith, f.a_small, f.b_small))
+cell_found v m r p e f =
+    let pair = (rw e at f).pair in
+    (ap₂ (λ (a b : ℕ). most_signals * a + b) pair.first pair.second, omega (arith, pair.a_small, pair.b_small))
 
 module _ (v : Signals) (room : length v.m ≡ most_signals) (few : v.len ≤ most_signals) (wide : Fitting set_exponent (signals_of v)) where
   pub long : length (signals_of v) ≡ v.len

@@ -17,7 +17,6 @@ use Rattle.wiring.specs.Wires.{Wire}
 use Rattle.wiring.specs.Claims.{signals_in, row_of, Decodes, Patch}
 use Rattle.wiring.specs.declared.panel.Panel.{Panel}
 use Rattle.lines.proofs.Told.{Filled, filled_none, filled_first, filled_both, filled_made, line_none, line_told}
-use Rattle.lines.specs.Text.{Stands}
 use Rattle.reader.specs.Bytes.{newline}
 use Rattle.listing.specs.Bytes.{heading}
 use Rattle.listing.specs.Lines.{lefts}
@@ -80,13 +79,13 @@ module _ (k : Known) (s : List Mono) (ws : List Wire) where
       filled_first heading (name_lines k 0 s ++ ((newline ∷ []) ∷ derivatives)) (omega arith)
       (filled_both (name_lines k 0 s) ((newline ∷ []) ∷ derivatives) (names_filled k 0 s) rest)
 
-  module _ (j : ℕ) {end : ℕ} {l m : List ℕ} (told : Stands (get_or (listing_lines k s ws) j []) end l m) where
+  module _ (j : ℕ) {text : List ℕ} (told : text ≡ get_or (listing_lines k s ws) j []) where
     -- a line that is told is one of the listing
-    pub typed_told : (end ≡ 0 → ⊥) → j < length (listing_lines k s ws)
+    pub typed_told : (text ≡ [] → ⊥) → j < length (listing_lines k s ws)
     typed_told = line_told (listing_lines k s ws) lines_filled j told
 
     -- none is told exactly behind the last line
-    pub typed_none : (end ≡ 0) ↔ (length (listing_lines k s ws) ≤ j)
+    pub typed_none : (text ≡ []) ↔ (length (listing_lines k s ws) ≤ j)
     typed_none = line_none (listing_lines k s ws) lines_filled j told
 
 -- ---- the records that wiring leaves in a buffer are its list

@@ -1,42 +1,31 @@
 -- The pieces of a line: names, coefficients, signs, terms one behind the other, powers one behind the other. Assumes nothing.
 use mathlib.Core.Path.{◌≡◌, refl, sym, ap, ◌∙◌}
-use mathlib.Core.Bool.{Bool, true, false, cond}
+use mathlib.Core.Bool.{Bool, true, cond}
 use mathlib.Core.List.{List, [], ◌∷◌, ◌++◌, map, append-nil, append_assoc, map-append, map-id}
-use Prim.Native.Nat.{ℕ, zero, suc, ◌+◌, ◌*◌, ◌-◌, ◌≤◌, ◌<◌}
+use Prim.Native.Nat.{ℕ, zero, suc, ◌+◌, ◌*◌, ◌≤◌, ◌<◌}
 use native.Mathlib.Omega.{arith}
 use native.Mathlib.Numerals.{add-one}
-use borrow.Author.Tests.{eq-eqb, ne_eqb, eqb-true, leb-false}
+use borrow.Author.Tests.{eq-eqb, ne_eqb, eqb-true, le-ltb}
 use lib.Dec.{T, eqb, leb}
 use lib.IntN.{ℤ, pos, negsuc}
-use lib.Signed.{le_z}
+use Rattle.std.specs.Prelude.{int_lt}
 use lib.ListN.{length, take, drop, get_or, length-append, length-map}
 use lib.Seq.{take-suc, take_all, get_or-take, get_or-drop}
-use mir.Syntax.{w32}
-use mir.Val.{SFits, to_z, of_z}
-use mir.ValLaws.{to_z-of_z}
 use Rattle.monomial.specs.Lists.{gather, keep, below}
 use Rattle.monomial.specs.Monomial.{Mono}
-use Rattle.monomial.proofs.Tests.{T→is, is→n_t, cond_cases}
+use Rattle.monomial.proofs.Tests.{T→is, cond_cases}
 use Rattle.monomial.proofs.Members.{gather_append, keep_append}
 use Rattle.monomial.proofs.Counting.{below_length, below_at}
 use Rattle.wiring.specs.Panel.{wire_bytes}
 use Rattle.wiring.specs.Coefficient.{word, signed}
 use Rattle.wiring.specs.Wires.{Wire}
 use Rattle.wiring.specs.Claims.{row_of}
-use Rattle.lines.specs.Text.{decimal, joined, lead, Added, Stands}
-use Rattle.lines.proofs.text.Laws.{adds, adds_nothing, shown}
-use Rattle.reader.specs.Bytes.{newline, blank, minus, nought}
-use Rattle.listing.specs.Bytes.{star, plus, prime}
-use Rattle.listing.specs.Lines.{digit_of}
+use Rattle.lines.specs.Text.{decimal, joined, lead}
+use Rattle.reader.specs.Bytes.{blank, minus, nought}
+use Rattle.listing.specs.Bytes.{star, plus}
 use Rattle.listing.specs.declared.machine.Known.{Known}
-use Rattle.grammar.specs.Grammar.{Factor, Names, none, alone, square, both, Term, signal_text, names_text, body_text, exponent_text, factor_text, first_text, next_text, right_text, line_text}
+use Rattle.grammar.specs.Grammar.{Factor, Names, none, alone, square, both, Term, names_text, body_text, exponent_text, factor_text, first_text, next_text, right_text}
 use Rattle.typed.specs.Typed.{power_of, factor_at, factors_of, names_of, written_of, negative_of, term_of, terms_of, sign_text, term_text, wire_at, wires_in}
-
--- ---- the digit of a signal is a byte
-pub digit_small : (k : Known) (s : ℕ) → s ≤ 18 → digit_of k s < 256
-unfolding digit_of
-digit_small k s h =
-    cond_cases (λ x. x < 256) (leb s k.n) (nought + s) (nought + (s - (k.n + 1))) (λ t. omega arith) (λ u. omega arith)
 
 -- ---- the product of two signals
 module _ (a b : ℕ) where
@@ -112,26 +101,11 @@ unfolding sign_text
 sign_later zero negative f = absurd (f refl)
 sign_later (suc i) negative f = refl
 
--- a signed number as the machine takes it on 32 bits
-low_is : (z : ℤ) → le_z (pos 0) z ≡ true → false ≡ negative_of z
+-- a number below 0
+pub negative_is : (z : ℤ) → int_lt z (pos 0) ≡ negative_of z
 unfolding negative_of
-low_is (pos n) e = refl
-low_is (negsuc n) e = absurd (is→n_t true (sym e) tt)
-
-high_is : (z : ℤ) → le_z (pos 0) z ≡ false → true ≡ negative_of z
-unfolding negative_of
-high_is (pos n) e = absurd (omega (arith, leb-false 0 n e))
-high_is (negsuc n) e = refl
-
-module _ (z : ℤ) (f : SFits w32 z) where
-  own : to_z w32 (of_z w32 z) ≡ z
-  own = to_z-of_z w32 z f
-
-  pub sign_low : le_z (pos 0) (to_z w32 (of_z w32 z)) ≡ true → false ≡ negative_of z
-  sign_low e = low_is z (rw own at e)
-
-  pub sign_high : le_z (pos 0) (to_z w32 (of_z w32 z)) ≡ false → true ≡ negative_of z
-  sign_high e = high_is z (rw own at e)
+negative_is (pos n) = le-ltb n 0 (omega arith)
+negative_is (negsuc n) = refl
 
 -- ---- a record by its bytes
 module _ (bytes : List ℕ) (j : ℕ) where
@@ -197,30 +171,36 @@ module _ (ws : List Wire) (l j : ℕ) (d : Wire) (h : j < length ws) where
   terms_next e = sym (terms_more ∙ rw (eq-eqb (get_or ws j d).left l e))
 
 -- a loop that puts the terms of signal l, has come to record j and has put i of them
-pub record Summing (k : Known) (l : ℕ) (ws : List Wire) (j i at end : ℕ) (line after : List ℕ) : Type 0 where
+pub record Summing (k : Known) (l : ℕ) (ws : List Wire) (j i : ℕ) (line after : List ℕ) : Type 0 where
   pub within : j ≤ length ws
+  pub few : i ≤ j
+  pub short : length after ≤ length line + 29 * j
   pub counted : i ≡ length (terms_of (take j ws) l)
-  pub text : Added (sum_text k (terms_of (take j ws) l)) at end line after
+  pub text : after ≡ line ++ sum_text k (terms_of (take j ws) l)
 
-pub summing_start : (k : Known) (l : ℕ) (ws : List Wire) (at : ℕ) (line : List ℕ) → at ≤ length line → Summing k l ws 0 0 at at line line
+pub summing_start : (k : Known) (l : ℕ) (ws : List Wire) (line : List ℕ) → Summing k l ws 0 0 line line
 unfolding terms_of sum_text keep
-summing_start k l ws at line h = record { within = omega arith; counted = refl; text = adds_nothing line at h }
+summing_start k l ws line = record { within = omega arith; few = omega arith; short = omega arith; counted = refl; text = sym (append-nil line) }
 
-module _ {k : Known} {l j i at end : ℕ} {ws : List Wire} {line after : List ℕ} (s : Summing k l ws j i at end line after) where
-  pub summing_skip : (w d : Wire) → j < length ws → get_or ws j d ≡ w → (w.left ≡ l → ⊥) → Summing k l ws (j + 1) i at end line after
+module _ {k : Known} {l j i : ℕ} {ws : List Wire} {line after : List ℕ} (s : Summing k l ws j i line after) where
+  pub summing_skip : (w d : Wire) → j < length ws → get_or ws j d ≡ w → (w.left ≡ l → ⊥) → Summing k l ws (j + 1) i line after
   summing_skip w d h e f =
       let same = terms_skip ws l j d h (λ g. f (ap (λ (x : Wire). x.left) (sym e) ∙ g)) in
-      record { within = omega arith; counted = rw same at s.counted; text = rw same at s.text }
+      record { within = omega arith; few = omega (arith, s.few); short = omega (arith, s.short); counted = rw same at s.counted; text = rw same at s.text }
 
-  pub summing_next : {next : ℕ} {last : List ℕ} (w d : Wire) → j < length ws → get_or ws j d ≡ w → w.left ≡ l
-      → Added (term_text k i (term_of w)) end next after last → Summing k l ws (j + 1) (i + 1) at next line last
-  summing_next {next} {last} w d h e f put =
+  pub summing_next : {last : List ℕ} (w d : Wire) → j < length ws → get_or ws j d ≡ w → w.left ≡ l
+      → last ≡ after ++ term_text k i (term_of w) → length last ≤ length after + 29 → Summing k l ws (j + 1) (i + 1) line last
+  summing_next {last} w d h e f put more =
       let one = terms_next ws l j d h (ap (λ (x : Wire). x.left) e ∙ f) in
       let long : length (terms_of (take j ws) l) + 1 ≡ length (terms_of (take (j + 1) ws) l) =
       sym (length-append (terms_of (take j ws) l) (term_of (get_or ws j d) ∷ [])) ∙ ap length one in
-      let whole = adds s.text (rw (s.counted, ← e) at put) in
+      let done : List ℕ = sum_text k (terms_of (take j ws) l) in
+      let term : List ℕ = term_text k (length (terms_of (take j ws) l)) (term_of (get_or ws j d)) in
+      let whole : last ≡ line ++ (done ++ term) = rw (s.counted, ← e, s.text) at put ∙ append_assoc line done term in
       record {
         within = omega arith;
+        few = omega (arith, s.few);
+        short = omega (arith, s.short);
         counted = omega (arith, s.counted);
         text = rw (sum_next k (terms_of (take j ws) l) (term_of (get_or ws j d)), one) at whole;
       }
@@ -228,22 +208,17 @@ module _ {k : Known} {l j i at end : ℕ} {ws : List Wire} {line after : List �
   whole_row : length ws ≤ j → terms_of (take j ws) l ≡ terms_of ws l
   whole_row h = ap (λ (x : List Wire). terms_of x l) (take_all j ws h)
 
-  pub summing_none : {next : ℕ} {last : List ℕ} → length ws ≤ j → i ≡ 0 → Added (nought ∷ []) end next after last
-      → Added (right_text k (terms_of ws l)) at next line last
-  summing_none h e put =
+  pub summing_none : {last : List ℕ} → length ws ≤ j → i ≡ 0 → last ≡ after ++ (nought ∷ []) → last ≡ line ++ right_text k (terms_of ws l)
+  summing_none {last} h e put =
       let none : length (terms_of (take j ws) l) ≡ 0 = sym s.counted ∙ e in
-      rw (sum_none k (terms_of (take j ws) l) none, whole_row h) at (adds s.text put)
+      let done : List ℕ = sum_text k (terms_of (take j ws) l) in
+      let whole : last ≡ line ++ (done ++ (nought ∷ [])) = rw s.text at put ∙ append_assoc line done (nought ∷ []) in
+      rw (sum_none k (terms_of (take j ws) l) none, whole_row h) at whole
 
-  pub summing_end : length ws ≤ j → (i ≡ 0 → ⊥) → Added (right_text k (terms_of ws l)) at end line after
+  pub summing_end : length ws ≤ j → (i ≡ 0 → ⊥) → after ≡ line ++ right_text k (terms_of ws l)
   summing_end h f =
       let some : length (terms_of (take j ws) l) ≡ 0 → ⊥ = λ e. f (s.counted ∙ e) in
       rw (sum_some k (terms_of (take j ws) l) some, whole_row h) at s.text
-
--- ---- the line of a derivative
-pub line_stands : (k : Known) (l : ℕ) (ts : List Term) {a b c d : ℕ} {u v w x y : List ℕ} → Added (signal_text k l) 0 a u v → Added prime a b v w
-    → Added (right_text k ts) b c w x → Added (newline ∷ []) c d x y → Stands (line_text k l ts) d u y
-unfolding line_text
-line_stands k l ts name sign right end = let whole = adds name (adds sign (adds right end)) in (shown whole, whole)
 
 -- ---- a power
 module _ (k : Known) (i e : ℕ) where
@@ -292,42 +267,41 @@ module _ (m : Mono) (i : ℕ) (h : i < length m) where
       ap (λ l. factors_to m i ++ l) (sym one) ∙ factors_more
 
 -- a loop that puts the powers of m, has come to variable i and has put `some` of them; no text of a power asks what is known
-pub record Powering (m : Mono) (i some at end : ℕ) (line after : List ℕ) : Type 0 where
+pub record Powering (m : Mono) (i some : ℕ) (line after : List ℕ) : Type 0 where
   pub within : i ≤ length m
+  pub few : some ≤ i
+  pub short : length after ≤ length line + 25 * i
   pub counted : some ≡ length (factors_to m i)
-  pub text : (k : Known) → Added (joined star (map (factor_text k) (factors_to m i))) at end line after
+  pub text : (k : Known) → after ≡ line ++ joined star (map (factor_text k) (factors_to m i))
 
-pub powering_start : (m : Mono) (at : ℕ) (line : List ℕ) → at ≤ length line → Powering m 0 0 at at line line
+pub powering_start : (m : Mono) (line : List ℕ) → Powering m 0 0 line line
 unfolding joined gather
-powering_start m at line h = record { within = omega arith; counted = refl; text = λ k. adds_nothing line at h }
+powering_start m line = record { within = omega arith; few = omega arith; short = omega arith; counted = refl; text = λ k. sym (append-nil line) }
 
--- anything that may be known
-abbrev pub unknown : Known
-unknown = record { n = 0; marks = 0; cards = 0 }
-
-module _ {m : Mono} {i some at end : ℕ} {line after : List ℕ} (p : Powering m i some at end line after) where
-  pub powering_long : length after ≡ length line
-  powering_long = (p.text unknown).long
-
-  pub powering_skip : i < length m → get_or m i 0 ≡ 0 → Powering m (i + 1) some at end line after
+module _ {m : Mono} {i some : ℕ} {line after : List ℕ} (p : Powering m i some line after) where
+  pub powering_skip : i < length m → get_or m i 0 ≡ 0 → Powering m (i + 1) some line after
   powering_skip h e =
       let same = factors_skip m i h e in
-      record { within = omega arith; counted = rw same at p.counted; text = λ k. rw same at (p.text k) }
+      record { within = omega arith; few = omega (arith, p.few); short = omega (arith, p.short); counted = rw same at p.counted; text = λ k. rw same at (p.text k) }
 
-  pub powering_next : {a b : ℕ} {n o : List ℕ} → i < length m → (get_or m i 0 ≡ 0 → ⊥) → Added (lead some star) end a after n
-      → ((k : Known) → Added (factor_text k (power_of i (get_or m i 0))) a b n o) → Powering m (i + 1) (some + 1) at b line o
-  powering_next {a} {b} {n} {o} h f x y =
+  pub powering_next : {n o : List ℕ} → i < length m → (get_or m i 0 ≡ 0 → ⊥) → n ≡ after ++ lead some star
+      → ((k : Known) → o ≡ n ++ factor_text k (power_of i (get_or m i 0))) → length o ≤ length after + 25 → Powering m (i + 1) (some + 1) line o
+  powering_next {n} {o} h f x y more =
       let one = factors_next m i h f in
       let power = power_of i (get_or m i 0) in
       let long : length (factors_to m i) + 1 ≡ length (factors_to m (i + 1)) = sym (length-append (factors_to m i) (power ∷ [])) ∙ ap length one in
-      let text : (k : Known) → Added (joined star (map (factor_text k) (factors_to m (i + 1)))) at b line o = λ k.
-      let count : some ≡ length (map (factor_text k) (factors_to m i)) = p.counted ∙ sym (length-map (factors_to m i) (factor_text k)) in
-      let whole = adds (p.text k) (adds (rw count at x) (y k)) in
-      let behind = joined_behind star (map (factor_text k) (factors_to m i)) (factor_text k power) in
+      let text : (k : Known) → o ≡ line ++ joined star (map (factor_text k) (factors_to m (i + 1))) = λ k.
+      let pieces : List (List ℕ) = map (factor_text k) (factors_to m i) in
+      let count : some ≡ length pieces = p.counted ∙ sym (length-map (factors_to m i) (factor_text k)) in
+      let before : List ℕ = lead (length pieces) star in
+      let piece : List ℕ = factor_text k power in
+      let whole : o ≡ line ++ (joined star pieces ++ (before ++ piece)) =
+      y k ∙ rw (x, count, p.text k) (append_assoc (line ++ joined star pieces) before piece ∙ append_assoc line (joined star pieces) (before ++ piece)) in
+      let behind = joined_behind star pieces piece in
       let all = sym (map-append (factor_text k) (factors_to m i) (power ∷ [])) ∙ ap (map (factor_text k)) one in
       rw (behind, all) at whole in
-      record { within = omega arith; counted = omega (arith, p.counted); text = text }
+      record { within = omega arith; few = omega (arith, p.few); short = omega (arith, p.short); counted = omega (arith, p.counted); text = text }
 
-  pub powering_end : length m ≤ i → (k : Known) → Added (joined star (map (factor_text k) (factors_of m))) at end line after
+  pub powering_end : length m ≤ i → (k : Known) → after ≡ line ++ joined star (map (factor_text k) (factors_of m))
   unfolding factors_of
   powering_end h k = rw (take_all i (below (length m)) (rw (below_length (length m)) h)) at (p.text k)

@@ -22,7 +22,7 @@ use Rattle.monomial.proofs.order.Inserting.{insert_between, insert_same, front_b
 use Rattle.wiring.specs.Signals.{signals, tabled, listed}
 use Rattle.wiring.proofs.signals.Tables.{tabled_length, listed_length, listed_at, listed_less, listed_put, listed_copied}
 use Rattle.wiring.proofs.signals.Laws.{set-in}
-use Rattle.walk.specs.declared.children.Tried.{Tried}
+use Rattle.std.specs.Prelude.{Option, Some}
 use Rattle.lister.specs.Cheap.{added}
 use Rattle.walk.specs.Walk.{Rules, child, opens}
 use Rattle.walk.specs.Turns.{Child}
@@ -192,18 +192,13 @@ insert_more : (m : Mono) (s : List Mono) → any (same m) s ≡ false → length
 insert_more m s f = insert_length mono_order m s (λ k. is→n_t (any (same m) s) f (among_in mono_order k))
 
 -- ---- the child that is tried, in the bytes that are left: refused where the test fails, or made
-module _ (test : Bool) (c : List Mono) (t : Tried) (bytes : List ℕ) where
-  refused : t.go ≡ false → (T test → ⊥) → Child test c t bytes
-  refused e h =
-      let no : t.go ≡ true → ⊥ = λ d. is→n_t t.go e (is→T t.go d) in
-      record { go = e ∙ sym (n_t→is test h); is = λ d. absurd (no d); size = λ d. absurd (no d) }
-
-  made : t.go ≡ true → T test → listed t.len bytes ≡ c → t.len ≡ length c → Child test c t bytes
-  made e h is size = record { go = e ∙ sym (T→is test h); is = λ d. is; size = λ d. size }
+module _ (test : Bool) (c : List Mono) (bytes : List ℕ) where
+  made : (len : ℕ) → T test → listed len bytes ≡ c → len ≡ length c → Child test c (Some len) bytes
+  made len h is size = (T→is test h, record { is = is; size = size })
 
 -- the same child by another test that says the same
-pub same_child : {x y : Bool} {c d : List Mono} {t : Tried} {bytes : List ℕ} → y ≡ x → d ≡ c → Child x c t bytes → Child y d t bytes
-same_child {x} {y} {c} {d} {t} {bytes} u e w = subst (λ (z : Bool). Child z d t bytes) (sym u) (subst (λ (l : List Mono). Child x l t bytes) (sym e) w)
+pub same_child : {x y : Bool} {c d : List Mono} (t : Option ℕ) (bytes : List ℕ) → y ≡ x → d ≡ c → Child x c t bytes → Child y d t bytes
+same_child {x} {y} {c} {d} t bytes u e w = subst (λ (z : Bool). Child z d t bytes) (sym u) (subst (λ (l : List Mono). Child x l t bytes) (sym e) w)
 
 -- ---- of a set whose monomials lie side by side
 module _ (set : List ℕ) where
@@ -222,35 +217,34 @@ module _ (set : List ℕ) where
     copied = ap (λ (b : List ℕ). listed many b) copy ∙ listed_copied many out set (omega (arith, whole, size_is))
 
     -- the set as it comes
-    pub made_own : (t : Tried) → t.go ≡ true → t.len ≡ length set / width → Child true (tabled set) t bytes
-    made_own t e l = made true s t bytes e tt (ap (λ (k : ℕ). listed k bytes) l ∙ copied) (l ∙ sym size_is)
+    pub made_own : Child true (tabled set) (Some (length set / width)) bytes
+    made_own = made true s bytes many tt copied (sym size_is)
 
   -- with m, where it may be and there is room
-  module _ (may : Mono → Bool) (level : ℕ) (m : Mono) (t : Tried) (bytes : List ℕ) where
+  module _ (may : Mono → Bool) (level : ℕ) (m : Mono) where
     abbrev with_one : List Mono
     with_one = insert_by same before m s
 
     abbrev one_test : Bool
     one_test = may m && leb (length with_one) level
 
-    pub one_refused : t.go ≡ false → level ≤ length set / width → any (same m) s ≡ false → Child one_test with_one t bytes
-    one_refused e h f =
-        refused one_test with_one t bytes e (λ k.
+    pub one_refused : level ≤ length set / width → any (same m) s ≡ false → one_test ≡ false
+    one_refused h f =
+        n_t→is one_test (λ k.
         let l = leb→le (length with_one) level (and_r (may m) (leb (length with_one) level) k) in
         omega (arith, insert_more m s f, size_is))
 
-    pub one_barred : t.go ≡ false → may m ≡ false → Child one_test with_one t bytes
-    one_barred e h = refused one_test with_one t bytes e (λ k. is→n_t (may m) h (and_l (may m) (leb (length with_one) level) k))
+    pub one_barred : may m ≡ false → one_test ≡ false
+    one_barred h = n_t→is one_test (λ k. is→n_t (may m) h (and_l (may m) (leb (length with_one) level) k))
 
-    pub one_made : t.go ≡ true → t.len ≡ length set / width + 1 → length set / width < level → may m ≡ true
-        → (first : List ℕ) → listed (length set / width) first ≡ s → Inserted m (length set / width) first bytes → Ascending before s → any (same m) s ≡ false
-        → Child one_test with_one t bytes
-    one_made e n h q first held i a f =
+    pub one_made : length set / width < level → may m ≡ true
+        → (first bytes : List ℕ) → listed (length set / width) first ≡ s → Inserted m (length set / width) first bytes → Ascending before s → any (same m) s ≡ false
+        → Child one_test with_one (Some (length set / width + 1)) bytes
+    one_made h q first bytes held i a f =
         let l : length with_one ≤ level = omega (arith, insert_more m s f, size_is) in
         let is : listed (many + 1) bytes ≡ with_one = inserted_in m many first bytes s held i a f in
-        made one_test with_one t bytes e
-        (and_i (may m) (leb (length with_one) level) (is→T (may m) q) (le→leb (length with_one) level l))
-        (ap (λ (k : ℕ). listed k bytes) n ∙ is) (omega (arith, n, insert_more m s f, size_is))
+        made one_test with_one bytes (many + 1) (and_i (may m) (leb (length with_one) level) (is→T (may m) q) (le→leb (length with_one) level l)) is
+        (omega (arith, insert_more m s f, size_is))
 
     -- and with x
     module _ (x : Mono) (f : any (same m) s ≡ false) (g : any (same x) (insert_by same before m s) ≡ false) where
@@ -263,27 +257,27 @@ module _ (set : List ℕ) where
       both_more : length both ≡ suc (suc many)
       both_more = insert_more x with_one g ∙ ap suc (insert_more m s f ∙ ap suc size_is)
 
-      pub two_refused : t.go ≡ false → level ≤ length set / width + 1 → Child two_test both t bytes
-      two_refused e h =
-          refused two_test both t bytes e (λ k.
+      pub two_refused : level ≤ length set / width + 1 → two_test ≡ false
+      two_refused h =
+          n_t→is two_test (λ k.
           let l = leb→le (length both) level (and_r (may x && may m) (leb (length both) level) k) in
           omega (arith, both_more))
 
-      pub first_barred : t.go ≡ false → may x ≡ false → Child two_test both t bytes
-      first_barred e h = refused two_test both t bytes e (λ k. is→n_t (may x) h (search (and_l, and_r, k)))
+      pub first_barred : may x ≡ false → two_test ≡ false
+      first_barred h = n_t→is two_test (λ k. is→n_t (may x) h (search (and_l, and_r, k)))
 
-      pub second_barred : t.go ≡ false → may m ≡ false → Child two_test both t bytes
-      second_barred e h = refused two_test both t bytes e (λ k. is→n_t (may m) h (search (and_l, and_r, k)))
+      pub second_barred : may m ≡ false → two_test ≡ false
+      second_barred h = n_t→is two_test (λ k. is→n_t (may m) h (search (and_l, and_r, k)))
 
-      pub two_made : t.go ≡ true → t.len ≡ length set / width + 2 → length set / width + 1 < level → may x ≡ true → may m ≡ true
-          → (first next : List ℕ) → listed (length set / width) first ≡ s → Inserted m (length set / width) first next → Inserted x (length set / width + 1) next bytes
-          → Ascending before s → Child two_test both t bytes
-      two_made e n h p q first next held i j a =
+      pub two_made : length set / width + 1 < level → may x ≡ true → may m ≡ true
+          → (first next bytes : List ℕ) → listed (length set / width) first ≡ s → Inserted m (length set / width) first next → Inserted x (length set / width + 1) next bytes
+          → Ascending before s → Child two_test both (Some (length set / width + 2)) bytes
+      two_made h p q first next bytes held i j a =
           let half : listed (many + 1) next ≡ with_one = inserted_in m many first next s held i a f in
           let is : listed (many + 1 + 1) bytes ≡ both = inserted_in x (many + 1) next bytes with_one half j (insert_asc mono_order m s a) g in
-          let last : t.len ≡ many + 1 + 1 = n ∙ omega arith in
+          let last : many + 2 ≡ many + 1 + 1 = omega arith in
           let l : length both ≤ level = omega (arith, both_more) in
-          made two_test both t bytes e (rw (p, q) (le→leb (length both) level l)) (ap (λ (k : ℕ). listed k bytes) last ∙ is) (omega (arith, n, both_more))
+          made two_test both bytes (many + 2) (rw (p, q) (le→leb (length both) level l)) (ap (λ (k : ℕ). listed k bytes) last ∙ is) (omega (arith, both_more))
 
 -- ---- one monomial of a pair
 module _ (v : List Mono) (m : Mono) where

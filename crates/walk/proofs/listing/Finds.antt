@@ -2,8 +2,10 @@
 use mathlib.Core.Path.{◌≡◌, refl, sym, ap, ap₂, subst, ◌∙◌}
 use mathlib.Core.Logic.{⊎_elim}
 use mathlib.Core.Bool.{true, false, not}
+use mathlib.Core.List.Memᴰ
 use mathlib.Core.List.{List, [], ◌∷◌, ◌++◌}
-use Prim.Native.Nat.{ℕ, ◌+◌, ◌*◌, ◌-◌, ◌<◌, ◌≤◌}
+use lib.Dec.{T}
+use Prim.Native.Nat.{ℕ, zero, suc, ◌+◌, ◌*◌, ◌-◌, ◌<◌, ◌≤◌}
 use native.Mathlib.Omega.{arith}
 use borrow.Author.Tests.{le-leb, lt-leb}
 use lib.ListN.{length, get_or, take, drop, replicate, length-take, length-drop, replicate-append-replicate}
@@ -11,12 +13,13 @@ use lib.Seq.{paste}
 use Rattle.monomial.specs.Lists.{any, place, gather, insert_by}
 use Rattle.monomial.specs.Monomial.{Mono}
 use Rattle.monomial.specs.Order.{same, before, same_set, before_set}
-use Rattle.monomial.specs.Claims.{◌∈◌}
-use Rattle.monomial.proofs.Tests.{is→n_t}
+use Rattle.monomial.specs.Claims.{◌∈◌, Ascending}
+use Rattle.monomial.proofs.Loops.{Seeking}
+use Rattle.monomial.proofs.Tests.{is→n_t, n_t→is}
 use Rattle.monomial.proofs.Strips.{strip_at}
 use Rattle.monomial.proofs.Counting.{at_in}
-use Rattle.monomial.proofs.order.Laws.{set_order}
-use Rattle.monomial.proofs.order.Ascending.{insert_out, insert_asc, insert_length, among_in}
+use Rattle.monomial.proofs.order.Laws.{set_order, behind, not_both}
+use Rattle.monomial.proofs.order.Ascending.{head_first, tail_asc, insert_out, insert_asc, insert_length, among_in, among_out}
 use Rattle.monomial.proofs.order.Inserting.{insert_place}
 use Rattle.wiring.specs.Panel.{set_bytes}
 use Rattle.wiring.specs.Sets.{set_record}
@@ -24,12 +27,19 @@ use Rattle.wiring.proofs.sets.Exact.{record_length}
 use Rattle.walk.specs.Walk.{Finds, kept}
 use Rattle.walk.specs.Plan.{sets_bytes}
 use Rattle.walk.specs.Listing.{Recorded, Shown, KeptAs}
-use Rattle.walk.specs.declared.listing.Kept.TheVariants.{Held, NoRoom}
+use Rattle.std.specs.Prelude.{Some, None}
 use Rattle.walk.proofs.listing.Laws.{gather_more}
 use Rattle.walk.proofs.listing.Records.{record_before, record_same}
 
 recorded_length : (s : List Mono) → Recorded s → length (set_record s) ≡ set_bytes
 recorded_length s r = record_length s r.few r.wide
+
+-- what stands before the entry at place i of an ascending list is none of those from there on
+absent : (i : ℕ) (l : Finds) → Ascending before_set l → i < length l → (x : List Mono) → T (before_set x (get_or l i [])) → x ∈ drop i l → ⊥
+absent i [] a h x t m = omega arith
+absent zero (y ∷ l) a h x t m =
+    ⊎_elim (λ e. set_order.irrefl y (subst (λ (z : List Mono). T (before_set z y)) e t)) (λ k. not_both set_order x y t (head_first a x k)) (Memᴰ.cases_cons m)
+absent (suc i) (y ∷ l) a h x t m = absent i l (tail_asc a) (omega arith) x t m
 
 -- the bytes of record number i, as a part of the buffer is cut out
 abbrev pub cut : List ℕ → ℕ → List ℕ
@@ -59,6 +69,13 @@ module _ {finds : Finds} {count : ℕ} {out : List ℕ} (s : Shown finds count o
 
     pub shown_before : before (cut out i) (set_record x) ≡ before_set (get_or finds i []) x
     shown_before = ap (λ (b : List ℕ). before b (set_record x)) (shown_at i h) ∙ record_before (get_or finds i []) x found r
+
+    -- the find at place i stands neither before x nor is it x, and none before it is: none is
+    pub shown_passed : Seeking (same_set x) finds i → same_set x (get_or finds i []) ≡ false → before_set (get_or finds i []) x ≡ false → any (same_set x) finds ≡ false
+    shown_passed k unlike later =
+        let y = get_or finds i [] in
+        let ahead : T (before_set x y) = behind set_order y x (is→n_t (before_set y x) later) (λ t. is→n_t (same_set x y) unlike (subst (λ (z : List Mono). T (same_set x z)) (sym (set_order.same_eq y x t)) (set_order.same_refl x))) in
+        sym k.rest ∙ n_t→is (any (same_set x) (drop i finds)) (λ t. absent i finds s.ascending (omega (arith, s.counted)) x ahead (among_out set_order x (drop i finds) t))
 
   -- ---- one find more, in its place
   module _ (x : List Mono) (r : Recorded x) (new : any (same_set x) finds ≡ false) (free : set_bytes * count + set_bytes ≤ length out) where
@@ -108,15 +125,15 @@ module _ {finds : Finds} {count : ℕ} {out : List ℕ} (s : Shown finds count o
 
   -- ---- keeping a set
   module _ (x : List Mono) (taken room : ℕ) where
-    pub keeps_old : any (same_set x) finds ≡ true → KeptAs (Held count) taken out (kept room x taken finds)
+    pub keeps_old : any (same_set x) finds ≡ true → KeptAs (Some count) taken out (kept room x taken finds)
     unfolding kept
     keeps_old e = (finds, s, rw e)
 
-    pub keeps_none : any (same_set x) finds ≡ false → room ≤ count → KeptAs NoRoom taken out (kept room x taken finds)
+    pub keeps_none : any (same_set x) finds ≡ false → room ≤ count → KeptAs None taken out (kept room x taken finds)
     unfolding kept
     keeps_none e h = rw (e, le-leb room (length finds) (omega (arith, s.counted)))
 
     pub keeps_new : any (same_set x) finds ≡ false → count < room → (out' : List ℕ) → Shown (insert_by same_set before_set x finds) (count + 1) out'
-        → KeptAs (Held (count + 1)) taken out' (kept room x taken finds)
+        → KeptAs (Some (count + 1)) taken out' (kept room x taken finds)
     unfolding kept
     keeps_new e h out' t = (insert_by same_set before_set x finds, t, rw (e, lt-leb room (length finds) (omega (arith, s.counted))))

@@ -1,5 +1,6 @@
 -- Exactly when each reply of planning is given, for all settings, all bytes and a buffer of any size, and what the buffer then holds: each refusal
 -- in plain equations and inequalities, in the order of document 01, then the four endings of the walk. Assumes nothing.
+use Rattle.std.specs.Prelude.{Ok, Err, Result, ⊤}
 use mathlib.Core.Path.{◌≡◌, refl, sym, ap, ◌∙◌, subst}
 use mathlib.Core.Logic.{◌⊎◌, ◌↔◌}
 use mathlib.Core.Bool.{true, false}
@@ -27,7 +28,7 @@ use Rattle.wiring.specs.Answers.{unless_fault, wired}
 use Rattle.wiring.specs.declared.reply.Reply.{Reply}
 use Rattle.wiring.specs.declared.reply.Reply.TheVariants.{Done, Setting, Length, Term, Twice, Nothing, Full, Spent, BadSet, NotQuadratic, Unreadable, FalseLine}
 use Rattle.wiring.specs.declared.terms.Fault.{Fault}
-use Rattle.wiring.specs.declared.terms.Fault.TheVariants.{Clean, Wrong, Repeated}
+use Rattle.wiring.specs.declared.terms.Fault.TheVariants.{Wrong, Repeated}
 use Rattle.wiring.specs.Claims.{Wide, Measured, Breaks, Repeats, beyond, Buildable, derivative_in, list_in}
 use Rattle.wiring.proofs.reply.Laws.{same_reply, code_done}
 use Rattle.wiring.proofs.terms.Exact.{length_exact, wrong_exact, repeated_exact, clean_exact}
@@ -81,14 +82,14 @@ module _ (panel : Panel) (cap limit : ℕ) (terms : List ℕ) (size : ℕ) where
     unfolding planned
     with_length e = rw (range_in panel cap limit r, e)
 
-    with_fault : Measured terms → (f : Fault) → fault panel (records terms) ≡ f → planned panel cap limit terms size ≡ unless_fault (λ x. refused x size) f rest
+    with_fault : Measured terms → (f : Result ⊤ Fault) → fault panel (records terms) ≡ f → planned panel cap limit terms size ≡ unless_fault (λ x. refused x size) f rest
     unfolding planned
     with_fault m f e = rw (range_in panel cap limit r, (length_exact terms).1 m, e)
 
   -- accepted input is answered as its walk ends
   pub planned_walk : Accepted panel cap limit terms
       → planned panel cap limit terms size ≡ said (plan (rules_of panel) panel.n (system (records terms)) limit (size / set_bytes) cap) size
-  planned_walk a = with_fault a.range a.measured Clean ((clean_exact panel (records terms) beyond).1 a.flawless)
+  planned_walk a = with_fault a.range a.measured (Ok tt) ((clean_exact panel (records terms) beyond).1 a.flawless)
 
   with_ending : Accepted panel cap limit terms → (e : Ending) → Fate (rules_of panel) panel.n fs limit (size / set_bytes) cap e → planned panel cap limit terms size ≡ said e size
   with_ending a e f = planned_walk a ∙ ap (λ (x : Ending). said x size) ((fate_exact (rules_of panel) panel.n fs limit (size / set_bytes) cap e).1 f)
@@ -97,8 +98,8 @@ module _ (panel : Panel) (cap limit : ℕ) (terms : List ℕ) (size : ℕ) where
   unfolding said
   planned_is Setting h = with_setting (n_t→is (settings_right panel cap limit) (λ t. h (range_out panel cap limit t)))
   planned_is Length h = with_length h.0 (n_t→is (length_right terms) (λ t. h.1 ((length_exact terms).0 (T→is (length_right terms) t))))
-  planned_is (Term p) h = with_fault h.0 h.1 (Wrong p) ((wrong_exact panel (records terms) beyond p).1 h.2)
-  planned_is (Twice p) h = with_fault h.0 h.1 (Repeated p) ((repeated_exact panel (records terms) beyond p).1 h.2)
+  planned_is (Term p) h = with_fault h.0 h.1 (Err (Wrong p)) ((wrong_exact panel (records terms) beyond p).1 h.2)
+  planned_is (Twice p) h = with_fault h.0 h.1 (Err (Repeated p)) ((repeated_exact panel (records terms) beyond p).1 h.2)
   planned_is (Done o c k) h =
       with_ending h.0 (done o k (sets_at panel terms o)) h.2
       ∙ ap (λ (x : ℕ). outcome (Done o x k) (sets_bytes (sets_at panel terms o) ++ replicate (size - set_bytes * x) 0)) (sym h.1)
@@ -124,10 +125,10 @@ module _ (panel : Panel) (cap limit : ℕ) (terms : List ℕ) (size : ℕ) where
   told_ending a (full_at o k) f = record { reply = Full o k; holds = (a, f) }
   told_ending a (spent_at o k) f = record { reply = Spent o k; holds = (a, f) }
 
-  told_fault : InRange panel cap limit → Measured terms → (f : Fault) → fault panel (records terms) ≡ f → Told
-  told_fault r m (Wrong p) e = record { reply = Term p; holds = (r, m, (wrong_exact panel (records terms) beyond p).0 e) }
-  told_fault r m (Repeated p) e = record { reply = Twice p; holds = (r, m, (repeated_exact panel (records terms) beyond p).0 e) }
-  told_fault r m Clean e =
+  told_fault : InRange panel cap limit → Measured terms → (f : Result ⊤ Fault) → fault panel (records terms) ≡ f → Told
+  told_fault r m (Err (Wrong p)) e = record { reply = Term p; holds = (r, m, (wrong_exact panel (records terms) beyond p).0 e) }
+  told_fault r m (Err (Repeated p)) e = record { reply = Twice p; holds = (r, m, (repeated_exact panel (records terms) beyond p).0 e) }
+  told_fault r m (Ok _) e =
       told_ending (record { range = r; measured = m; flawless = (clean_exact panel (records terms) beyond).0 e })
       (plan (rules_of panel) panel.n fs limit (size / set_bytes) cap) (fate (rules_of panel) panel.n fs limit (size / set_bytes) cap)
 
@@ -209,7 +210,7 @@ module _ (panel : Panel) (cap limit : ℕ) (terms : List ℕ) (a : Accepted pane
   abbrev system_of : List (Poly Mono)
   system_of = system (records terms)
 
-  clean_of : fault panel (records terms) ≡ Clean
+  clean_of : fault panel (records terms) ≡ Ok tt
   clean_of = (clean_exact panel (records terms) beyond).1 a.flawless
 
   pub accepted_clean : CleanTerms terms

@@ -1,5 +1,6 @@
 -- With the full kit planning is that of a panel without a limit: the settings ask nothing more, and the walk is the one that asks for no degree. The
 -- tests of the records are those of `FullKit`. Assumes nothing.
+use Rattle.std.specs.Prelude.{Ok, Err, Result, ⊤}
 use mathlib.Core.Path.{◌≡◌, refl, sym, ap, ◌∙◌}
 use mathlib.Core.Bool.{Bool, cond, ◌&&◌}
 use mathlib.Core.List.{List}
@@ -12,7 +13,7 @@ use Rattle.wiring.specs.Sockets.{panel_of, halved, count_right, free}
 use Rattle.wiring.specs.declared.panel.Panel.{Panel}
 use Rattle.wiring.specs.declared.reply.Reply.TheVariants.{Setting, Length}
 use Rattle.wiring.specs.declared.terms.Fault.{Fault}
-use Rattle.wiring.specs.declared.terms.Fault.TheVariants.{Clean, Wrong, Repeated}
+use Rattle.wiring.specs.declared.terms.Fault.TheVariants.{Wrong, Repeated}
 use Rattle.wiring.specs.Reply.{Outcome, refused}
 use Rattle.wiring.specs.Terms.{records, length_right, fault, system}
 use Rattle.wiring.specs.Answers.{unless_fault}
@@ -36,10 +37,10 @@ module _ (n marks cap limit : ℕ) (terms : List ℕ) (size : ℕ) where
   unlimited = said (plan (counted (cheaply (allowing (free marks)))) n (system (records terms)) limit (size / set_bytes) cap) size
 
   -- of clean records both are one
-  read_same : InRange full cap limit → (f : Fault) → fault full (records terms) ≡ f → unless_fault (λ r. refused r size) f limited ≡ unless_fault (λ r. refused r size) f unlimited
-  read_same r (Wrong p) e = refl
-  read_same r (Repeated p) e = refl
-  read_same r Clean e = ap (λ x. said x size) (full_plan n marks terms (clean_for full width terms r.ranged.high e) cap r.capped limit (size / set_bytes))
+  read_same : InRange full cap limit → (f : Result ⊤ Fault) → fault full (records terms) ≡ f → unless_fault (λ r. refused r size) f limited ≡ unless_fault (λ r. refused r size) f unlimited
+  read_same r (Err (Wrong p)) e = refl
+  read_same r (Err (Repeated p)) e = refl
+  read_same r (Ok _) e = ap (λ x. said x size) (full_plan n marks terms (clean_for full width terms r.ranged.high e) cap r.capped limit (size / set_bytes))
 
   settings_full : settings_right full cap limit ≡ count_right n && eqb (halved marks n) 0 && leb cap cards && leb 1 limit && leb limit most_steps
   unfolding settings_right

@@ -1,4 +1,5 @@
 -- Planning, step by step: what each level leaves to the levels above it, and what each check says of the outcome. Assumes nothing.
+use Rattle.std.specs.Prelude.{Ok, Err}
 use mathlib.Core.Path.{◌≡◌, refl, sym, ap, ap₂, ◌∙◌, subst}
 use mathlib.Core.Bool.{true, false}
 use mathlib.Core.List.Memᴰ
@@ -20,16 +21,17 @@ use Rattle.wiring.specs.Sockets.{panel_right}
 use Rattle.wiring.specs.declared.panel.Panel.{Panel}
 use Rattle.wiring.specs.declared.reply.Reply.{Reply}
 use Rattle.wiring.specs.declared.reply.Reply.TheVariants as reply
-use Rattle.wiring.specs.declared.terms.Fault.TheVariants.{Clean, Wrong, Repeated}
+use Rattle.wiring.specs.declared.terms.Fault.{Fault}
+use Rattle.wiring.specs.Answers.{reply_of}
 use Rattle.wiring.proofs.answers.Laws.{panel_few}
 use Rattle.wiring.proofs.terms.Laws.{clean_for}
 use Rattle.walk.specs.declared.walk.State.{State}
-use Rattle.walk.specs.declared.walk.Turn.{Turn}
-use Rattle.walk.specs.declared.walk.Turn.TheVariants.{Going, Spent, Full}
+use Rattle.walk.specs.declared.walk.Stop.TheVariants.{Spent, Full}
+use Rattle.std.specs.Prelude.{Ok, Err}
 use Rattle.walk.specs.Walk.{Finds, Rules, kit_rules, opened, level, Run, ended, spent, full, run}
 use Rattle.walk.specs.Plan.{Ending, done, none, full_at, settled, levels, plan, sets_bytes, said, settings_right, planned}
 use Rattle.walk.specs.Listing.{Shown}
-use Rattle.walk.specs.Turns.{Ended, Tells}
+use Rattle.walk.specs.Turns.{Ended, Turn, Tells}
 use Rattle.walk.proofs.Kit.{kit_plan}
 use Rattle.walk.proofs.Steps.{level_opens}
 use Rattle.walk.proofs.Begins.{plan_begins}
@@ -134,16 +136,17 @@ module _ {r : Rules} {n : ℕ} {fs : List (Poly Mono)} {limit cap size k steps :
   Says reply bytes = outcome reply bytes ≡ said (climbed r n fs limit cap size) size
 
   -- above the cap nothing is left
-  pub climb_none : cap < k → Says (reply.Nothing k steps) out
+  pub climb_none : cap + 1 ≤ k → Says (reply.Nothing (cap + 1) steps) out
   unfolding said levels
   climb_none h =
+      let last : cap + 1 ≡ k = omega (arith, c.low) in
       let e : 0 ≡ cap + 1 - k = omega arith in
       let zeros : out ≡ replicate size 0 = c.blank ∙ ap (λ (i : ℕ). replicate i 0) c.long in
       let rest : none k steps ≡ climbed r n fs limit cap size = ap (λ (i : ℕ). from r n fs limit cap size i k steps) e ∙ c.rest in
-      ap (outcome (reply.Nothing k steps)) zeros ∙ ap (λ (x : Ending). said x size) rest
+      ap₂ (λ (i : ℕ) (b : List ℕ). outcome (reply.Nothing i steps) b) last zeros ∙ ap (λ (x : Ending). said x size) rest
 
   -- after level k
-  module _ (h : k ≤ cap) (turn : Turn) (out' : List ℕ) (o : Opening r n fs limit cap size k steps out turn out') (kept : length out' ≡ length out) where
+  module _ (h : k < cap + 1) (turn : Turn) (out' : List ℕ) (o : Opening r n fs limit cap size k steps out turn out') (kept : length out' ≡ length out) where
     abbrev here : Run
     here = run limit (size / set_bytes) (level r n fs k) steps []
 
@@ -167,9 +170,9 @@ module _ {r : Rules} {n : ℕ} {fs : List (Poly Mono)} {limit cap size k steps :
         sym (turned r n fs limit cap size (cap - k) k steps x e) ∙ ap (λ (i : ℕ). from r n fs limit cap size i k steps) left ∙ c.rest
 
     -- no find: the next level
-    pub climb_on : (st : State) → turn ≡ Going st → st.count ≤ 0 → Climbing r n fs limit cap size (k + 1) st.steps out'
+    pub climb_on : (st : State) → turn ≡ Ok st → st.count ≤ 0 → Climbing r n fs limit cap size (k + 1) st.steps out'
     climb_on st g z =
-        let e : Ended st out' here = told_as (Going st) g in
+        let e : Ended st out' here = told_as (Ok st) g in
         let blank : length e.finds ≡ 0 = omega (arith, e.shown.counted) in
         let left : cap + 1 - (k + 1) ≡ cap - k = omega arith in
         let begun : length r.start ≤ k = c.begun in
@@ -184,10 +187,10 @@ module _ {r : Rules} {n : ℕ} {fs : List (Poly Mono)} {limit cap size k steps :
         }
 
     -- finds: this level is the last
-    pub climb_done : (st : State) → turn ≡ Going st → 0 < st.count → Says (reply.Done k st.count st.steps) out'
+    pub climb_done : (st : State) → turn ≡ Ok st → 0 < st.count → Says (reply.Done k st.count st.steps) out'
     unfolding said
     climb_done st g z =
-        let e : Ended st out' here = told_as (Going st) g in
+        let e : Ended st out' here = told_as (Ok st) g in
         let some : 0 < length e.finds = omega (arith, e.shown.counted) in
         let end = sym (settled_some limit k next e.finds st.steps some) ∙ whole (ended st.steps e.finds) e.is in
         let left : length out' - set_bytes * st.count ≡ size - set_bytes * length e.finds = omega (arith, e.shown.counted, long') in
@@ -199,13 +202,13 @@ module _ {r : Rules} {n : ℕ} {fs : List (Poly Mono)} {limit cap size k steps :
       cleared : zeros ≡ replicate size 0
       cleared = z ∙ ap (λ (i : ℕ). replicate i 0) long'
 
-      pub climb_spent : turn ≡ Spent → Says (reply.Spent k limit) zeros
+      pub climb_spent : turn ≡ Err Spent → Says (reply.Spent k limit) zeros
       unfolding said settled
-      climb_spent g = ap (outcome (reply.Spent k limit)) cleared ∙ ap (λ (x : Ending). said x size) (whole spent (told_as Spent g))
+      climb_spent g = ap (outcome (reply.Spent k limit)) cleared ∙ ap (λ (x : Ending). said x size) (whole spent (told_as (Err Spent) g))
 
-      pub climb_full : (taken : ℕ) → turn ≡ Full taken → Says (reply.Full k taken) zeros
+      pub climb_full : (taken : ℕ) → turn ≡ Err (Full taken) → Says (reply.Full k taken) zeros
       unfolding said settled
-      climb_full taken g = ap (outcome (reply.Full k taken)) cleared ∙ ap (λ (x : Ending). said x size) (whole (full taken) (told_as (Full taken) g))
+      climb_full taken g = ap (outcome (reply.Full k taken)) cleared ∙ ap (λ (x : Ending). said x size) (whole (full taken) (told_as (Err (Full taken)) g))
 
 -- ---- the checks in their order
 module _ (panel : Panel) (cap limit : ℕ) (e : settings_right panel cap limit ≡ true) where
@@ -218,7 +221,7 @@ module _ (panel : Panel) (cap limit : ℕ) (e : settings_right panel cap limit �
   settings_low = let t = is→T (settings_right panel cap limit) e in leb→le cap cards (search (and_l, and_r, t))
 
   -- what the climb asks of the records
-  pub settings_clean : (terms : List ℕ) → fault panel (records terms) ≡ Clean → CleanTerms terms
+  pub settings_clean : (terms : List ℕ) → fault panel (records terms) ≡ Ok tt → CleanTerms terms
   settings_clean terms = clean_for panel width terms settings_few
 
 module _ (panel : Panel) (cap limit : ℕ) (terms : List ℕ) (size : ℕ) where
@@ -233,17 +236,13 @@ module _ (panel : Panel) (cap limit : ℕ) (terms : List ℕ) (size : ℕ) where
       unfolding planned
       said_length h = rw (e, h, z)
 
-      pub said_wrong : length_right terms ≡ true → (place : ℕ) → fault panel (records terms) ≡ Wrong place → outcome (reply.Term place) zeros ≡ planned panel cap limit terms size
+      pub said_fault : length_right terms ≡ true → (f : Fault) → fault panel (records terms) ≡ Err f → outcome (reply_of f) zeros ≡ planned panel cap limit terms size
       unfolding planned
-      said_wrong h place q = rw (e, h, q, z)
-
-      pub said_repeated : length_right terms ≡ true → (place : ℕ) → fault panel (records terms) ≡ Repeated place → outcome (reply.Twice place) zeros ≡ planned panel cap limit terms size
-      unfolding planned
-      said_repeated h place q = rw (e, h, q, z)
+      said_fault h f q = rw (e, h, q, z)
 
   -- what is not refused is walked by the rules of the kit, in the buffer that was cleared
   pub said_walked : (answer : Outcome) (size' : ℕ) → answer ≡ said (plan (kit_rules panel) panel.n (system (records terms)) limit (size' / set_bytes) cap) size' → size' ≡ size
-      → settings_right panel cap limit ≡ true → length_right terms ≡ true → fault panel (records terms) ≡ Clean → answer ≡ planned panel cap limit terms size
+      → settings_right panel cap limit ≡ true → length_right terms ≡ true → fault panel (records terms) ≡ Ok tt → answer ≡ planned panel cap limit terms size
   unfolding planned
   said_walked answer size' a k e h q =
       let walk = kit_plan panel panel.n terms (settings_clean panel cap limit e terms q) cap (settings_low panel cap limit e) limit (size' / set_bytes) in

@@ -11,6 +11,7 @@ use lib.Dec.{T, leb}
 use lib.ListN.{length}
 use Rattle.monomial.specs.Lists.{some, gather}
 use Rattle.monomial.specs.Monomial.{Mono, width}
+use Rattle.monomial.specs.declared.Monomial.{Monomial}
 use Rattle.monomial.specs.Claims.{◌∈◌, Pair}
 use Rattle.monomial.proofs.Tests.{Tested, passed, failed, test, is→T, is→n_t}
 use Rattle.monomial.proofs.Members.{here, there, some_none}
@@ -23,13 +24,14 @@ use Rattle.wiring.specs.Choice.{chosen}
 use Rattle.wiring.specs.Terms.{records, system}
 use Rattle.wiring.proofs.choice.Laws.{chosen_best}
 use Rattle.wiring.proofs.signals.Laws.{signals_fitting}
-use Rattle.walk.specs.declared.walk.Opened.{Opened}
+use Rattle.std.specs.Prelude.{Option, Some, Ok, Err}
 use Rattle.walk.specs.declared.walk.State.{State}
-use Rattle.walk.specs.declared.walk.Turn.{Turn}
-use Rattle.walk.specs.declared.walk.Turn.TheVariants.{Going, Spent, Full}
+use Rattle.walk.specs.declared.walk.Opened.{Opened}
+use Rattle.walk.specs.declared.walk.Stop.{Stop}
+use Rattle.walk.specs.declared.walk.Stop.TheVariants.{Spent, Full}
 use Rattle.walk.specs.Walk.{Finds, Rules, child, Taken, pair, opening, Step, found, other, opens, ends, tried, tried_all, after, opened, Run, ended, spent, full, kept, onward, run}
 use Rattle.walk.specs.Listing.{Shown}
-use Rattle.walk.specs.Turns.{Walked, Ended, Tells, Showing, NothingFollows, PairsFollow, SteppedBy, Stepped, PassedBy}
+use Rattle.walk.specs.Turns.{Walked, Ended, Turn, Tells, Showing, PairsFollow, SteppedBy, PassedBy}
 use Rattle.walk.proofs.children.Laws.{walked_fits}
 use Rattle.walk.proofs.Steps.{run_append, run_stops, run_other, run_last, opened_found, opened_ends, opened_split}
 
@@ -186,13 +188,10 @@ pub choice_member : (ns : List Mono) (m first : Mono) (others : List Mono) → n
 choice_member ns m first others e i =
     subst (λ (l : List Mono). m ∈ l) (sym e) (subst (λ (x : Mono). x ∈ (first ∷ others)) (sym i) (chosen_best first others).0)
 
--- ---- what follows the step of an opening, by the word of the code
-module _ (r : Rules) (n : ℕ) (terms : List ℕ) (level limit : ℕ) (set : List ℕ) (st : State) (out₀ : List ℕ) (o : Opened) (out : List ℕ) where
-  pub nothing_follows : o.split ≡ false → Stepped r n terms level limit set st out₀ o out → NothingFollows r n terms level limit set st out₀ o.turn out
-  nothing_follows e j = subst (λ (b : Bool). SteppedBy r n terms level limit set st out₀ b o out) e j
-
-  pub pairs_follow : o.split ≡ true → Stepped r n terms level limit set st out₀ o out → PairsFollow r n terms level limit set st out₀ o.m.e out
-  pairs_follow e j = subst (λ (b : Bool). SteppedBy r n terms level limit set st out₀ b o out) e j
+-- ---- the pairs of the nonsquare that an opening gives follow
+pub pairs_follow : (r : Rules) (n : ℕ) (terms : List ℕ) (level limit : ℕ) (set : List ℕ) (st : State) (out₀ : List ℕ) (o : Opened) (m : Monomial) (out : List ℕ)
+    → o.split ≡ Some m → SteppedBy r n terms level limit set st out₀ o.split o.state out → PairsFollow r n terms level limit set st out₀ m.e o.state out
+pairs_follow r n terms level limit set st out₀ o m out e j = subst (λ (x : Option Monomial). SteppedBy r n terms level limit set st out₀ x o.state out) e j
 
 -- ---- the loop of the pair runner: the run of what is left is that of all pairs of m, for every depth and every list of finds that the buffer showed
 module _ (r : Rules) (n : ℕ) (terms : List ℕ) (level limit : ℕ) (set : List ℕ) (m : Mono) (st₀ : State) (out₀ : List ℕ) where
@@ -230,13 +229,13 @@ module _ (r : Rules) (n : ℕ) (terms : List ℕ) (level limit : ℕ) (set : Lis
       let x = u.stands (level - length (tabled set)) s.finds (omega arith) s.shown in
       record { finds = x.finds; shown = x.shown }
 
-  pub running_end : {cur : State} {out : List ℕ} → Running [] cur out → Ran (Going cur) out
+  pub running_end : {cur : State} {out : List ℕ} → Running [] cur out → Ran (Ok cur) out
   running_end u d finds h sh =
       let x = u.stands d finds h sh in
       record { finds = x.finds; shown = x.shown; is = stands_end r n fs level limit room (tabled set) x }
 
   module _ {p : Pair} {ps : List Pair} {cur : State} {out : List ℕ} (u : Running (p ∷ ps) cur out) where
-    pub running_spent : limit ≤ cur.steps → Ran Spent out
+    pub running_spent : limit ≤ cur.steps → Ran (Err Spent) out
     running_spent k d finds h sh = stands_spent r n fs level limit room (tabled set) (u.stands d finds h sh) k
 
     pub running_shut : (cur' : State) → cur'.steps ≡ cur.steps + 1 → cur'.count ≡ cur.count → cur.steps < limit
@@ -254,7 +253,7 @@ module _ (r : Rules) (n : ℕ) (terms : List ℕ) (level limit : ℕ) (set : Lis
       abbrev pub Told : Turn → List ℕ → Type 0
       Told turn out' = (d : ℕ) (finds : Finds) → level - size < d → Shown finds cur.count out → Tells turn out' (opened_child d finds)
 
-      pub running_going : (cur' : State) (out' : List ℕ) → length out' ≡ length out → Told (Going cur') out' → Running ps cur' out'
+      pub running_going : (cur' : State) (out' : List ℕ) → length out' ≡ length out → Told (Ok cur') out' → Running ps cur' out'
       running_going cur' out' e f = record {
         long = e ∙ u.long;
         stands = λ d finds h sh.
@@ -262,27 +261,25 @@ module _ (r : Rules) (n : ℕ) (terms : List ℕ) (level limit : ℕ) (set : Lis
             stands_going r n fs level limit room (tabled set) x k b cur' out' (f d x.finds (omega arith) x.shown);
       }
 
-      pub running_child_spent : (out' : List ℕ) → Told Spent out' → Ran Spent out'
-      running_child_spent out' f d finds h sh =
+      pub running_child_stops : (stop : Stop) (out' : List ℕ) → Told (Err stop) out' → Ran (Err stop) out'
+      running_child_stops Spent out' f d finds h sh =
           let x = u.stands d finds h sh in
           stands_child_spent r n fs level limit room (tabled set) x k b (f d x.finds (omega arith) x.shown)
-
-      pub running_child_full : (t : ℕ) (out' : List ℕ) → Told (Full t) out' → Ran (Full t) out'
-      running_child_full t out' f d finds h sh =
+      running_child_stops (Full t) out' f d finds h sh =
           let x = u.stands d finds h sh in
           stands_child_full r n fs level limit room (tabled set) x k b t (f d x.finds (omega arith) x.shown)
 
   -- the pairs that are left open nothing, and were passed by
   pub running_by : (ps : List Pair) (cur : State) (out : List ℕ) → Running ps cur out → ((p : Pair) → p ∈ ps → opens r n level (tabled set) p ≡ false)
       → (turn : Turn) → PassedBy limit cur (length ps) turn → Ran turn out
-  running_by [] cur out u shut (Going next) q d finds h sh =
+  running_by [] cur out u shut (Ok next) q d finds h sh =
       let x = running_end u d finds h sh in
       record { finds = x.finds; shown = rw q.1 x.shown; is = x.is ∙ ap (λ (t : ℕ). ended t x.finds) (omega (arith, q.0)) }
-  running_by (p ∷ ps) cur out u shut (Going next) q d finds h sh =
+  running_by (p ∷ ps) cur out u shut (Ok next) q d finds h sh =
       let x = stands_by r n fs level limit room (tabled set) (p ∷ ps) shut (q.2 (omega arith)) (u.stands d finds h sh) in
       record { finds = x.finds; shown = rw q.1 x.shown; is = stands_end r n fs level limit room (tabled set) x ∙ ap (λ (t : ℕ). ended t x.finds) (sym q.0) }
-  running_by ps cur out u shut Spent q d finds h sh = stands_over r n fs level limit room (tabled set) ps shut q.0 q.1 (u.stands d finds h sh)
-  running_by ps cur out u shut (Full t) q d finds h sh = absurd q
+  running_by ps cur out u shut (Err Spent) q d finds h sh = stands_over r n fs level limit room (tabled set) ps shut q.0 q.1 (u.stands d finds h sh)
+  running_by ps cur out u shut (Err (Full t)) q d finds h sh = absurd q
 
 -- ---- the exponents of a set of the walk are those that a set may have
 pub walked_fitting : (s : List Mono) → Walked s → Fitting set_exponent s

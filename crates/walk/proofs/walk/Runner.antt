@@ -25,12 +25,11 @@ use Rattle.wiring.proofs.signals.Tables.{tabled_none}
 use Rattle.lister.specs.Cheap.{cheap, of_kind}
 use Rattle.lister.specs.Passes.{kind}
 use Rattle.lister.proofs.cheap.Laws.{dear_out}
-use Rattle.walk.specs.declared.children.Tried.{Tried}
+use Rattle.std.specs.Prelude.{Some}
 use Rattle.walk.specs.declared.walk.State.{State}
-use Rattle.walk.specs.declared.walk.Turn.{Turn}
 use Rattle.walk.specs.Walk.{Finds, Rules, child, opens, Step, tried_all, opened, run}
 use Rattle.walk.specs.Listing.{Shown}
-use Rattle.walk.specs.Turns.{Child, Tells, Showing, Openable, Ready, Means, PairsFollow, Splits}
+use Rattle.walk.specs.Turns.{Child, Turn, Tells, Showing, Openable, Ready, Means, PairsFollow, Splits}
 use Rattle.walk.proofs.Rules.{opens_fits, below_its_level}
 use Rattle.walk.proofs.children.Laws.{not_both, split_longer, nonsquare_fits, child_walked, child_new, empty_walked}
 use Rattle.walk.proofs.children.Offers.{child_none, both_longer}
@@ -60,34 +59,34 @@ module _ (n : ℕ) (terms : List ℕ) (level : ℕ) (set : List ℕ) (m : Mono) 
     born_longer : length (tabled set) < length born
     born_longer = split_longer n (system (records terms)) (tabled set) m ready.opening.walked.recorded.ascending splits.member p i
 
-    module _ (rules : Rules) (r : Tried) (bytes : List ℕ) (c : Child (opens rules n level (tabled set) p) (child n (tabled set) p) r bytes) (go : r.go ≡ true) where
+    module _ (rules : Rules) (len : ℕ) (bytes : List ℕ) (c : Child (opens rules n level (tabled set) p) (child n (tabled set) p) (Some len) bytes) where
       born_within : length born ≤ level
-      born_within = opens_fits rules n level (tabled set) p (is→T (opens rules n level (tabled set) p) (sym c.go ∙ go))
+      born_within = opens_fits rules n level (tabled set) p (is→T (opens rules n level (tabled set) p) c.0)
 
       -- it is larger, and again a set of the walk
-      pub child_more : length (tabled set) < r.len
-      child_more = omega (arith, c.size go, born_longer)
+      pub child_more : length (tabled set) < len
+      child_more = omega (arith, c.1.size, born_longer)
 
-      pub child_within : r.len ≤ level
-      child_within = omega (arith, c.size go, born_within)
+      pub child_within : len ≤ level
+      child_within = omega (arith, c.1.size, born_within)
 
-      pub child_long : length (listed r.len bytes) ≡ r.len
-      child_long = ap length (c.is go) ∙ sym (c.size go)
+      pub child_long : length (listed len bytes) ≡ len
+      child_long = ap length c.1.is ∙ sym c.1.size
 
-      pub child_ready : set_bytes ≤ length bytes → (count' : ℕ) (out : List ℕ) → Showing count' out → Ready n terms level (take (width * r.len) bytes) count' out
+      pub child_ready : set_bytes ≤ length bytes → (count' : ℕ) (out : List ℕ) → Showing count' out → Ready n terms level (take (width * len) bytes) count' out
       child_ready room count' out showing =
           let few : length born ≤ cards = omega (arith, ready.opening.low, born_within) in
           let w = child_walked terms ready.opening.clean n (tabled set) ready.opening.walked m splits.member p i few in
-          let fits : width * r.len ≤ length bytes = omega (arith, child_within, ready.opening.low) in
+          let fits : width * len ≤ length bytes = omega (arith, child_within, ready.opening.low) in
           record {
             opening = record {
-              whole = length-take-le (width * r.len) bytes fits ∙ ap (λ (k : ℕ). width * k) (sym child_long);
+              whole = length-take-le (width * len) bytes fits ∙ ap (λ (k : ℕ). width * k) (sym child_long);
               within = omega (arith, child_long, child_within);
               low = ready.opening.low;
               few = ready.opening.few;
               clean = ready.opening.clean;
-              walked = rw (c.is go) w;
-              new = rw (c.is go) (child_new n (tabled set) p ready.opening.new);
+              walked = rw c.1.is w;
+              new = rw c.1.is (child_new n (tabled set) p ready.opening.new);
             };
             showing = showing;
           }
@@ -120,36 +119,36 @@ empty_openable n terms level low few clean = record {
 }
 
 -- what the opener says of the child, in the words of the runner
-pub told_as : (r : Rules) (n : ℕ) (terms : List ℕ) (level limit steps count len : ℕ) (s s' : List Mono) (out₀ out out' : List ℕ) (turn turn' : Turn)
-    → s' ≡ s → length s' ≡ len → length out ≡ length out₀ → turn ≡ turn'
+pub told_as : (r : Rules) (n : ℕ) (terms : List ℕ) (level limit steps count len : ℕ) (s s' : List Mono) (out₀ out out' : List ℕ) (turn : Turn)
+    → s' ≡ s → length s' ≡ len → length out ≡ length out₀
     → ((d : ℕ) (finds : Finds) → level - length s' < d → Shown finds count out
     → Tells turn out' (run limit (length out / set_bytes) (opened r n (system (records terms)) level d s') steps finds))
     → (d : ℕ) (finds : Finds) → level - len < d → Shown finds count out
-    → Tells turn' out' (run limit (length out₀ / set_bytes) (opened r n (system (records terms)) level d s) steps finds)
-told_as r n terms level limit steps count len s s' out₀ out out' turn turn' e long k same f d finds h sh =
-    subst (λ (u : Turn). said u (length out₀) s) same (subst (λ (b : ℕ). said turn b s) k (subst (said turn (length out)) e (f d finds (omega (arith, long)) sh)))
+    → Tells turn out' (run limit (length out₀ / set_bytes) (opened r n (system (records terms)) level d s) steps finds)
+told_as r n terms level limit steps count len s s' out₀ out out' turn e long k f d finds h sh =
+    subst (λ (b : ℕ). said b s) k (subst (said (length out)) e (f d finds (omega (arith, long)) sh))
   where
-    said : Turn → ℕ → List Mono → Type 0
-    said u size x = Tells u out' (run limit (size / set_bytes) (opened r n (system (records terms)) level d x) steps finds)
+    said : ℕ → List Mono → Type 0
+    said size x = Tells turn out' (run limit (size / set_bytes) (opened r n (system (records terms)) level d x) steps finds)
 
 -- what the runner says of the pairs, in the words of the opener
 module _ (r : Rules) (n : ℕ) (terms : List ℕ) (level limit : ℕ) (set : List ℕ) (st : State) (out₀ : List ℕ) (ready : Ready n terms level set st.count out₀)
-    (m : Mono) (out : List ℕ) (sp : PairsFollow r n terms level limit set st out₀ m out) where
+    (m : Mono) (next : State) (out : List ℕ) (sp : PairsFollow r n terms level limit set st out₀ m next out) where
   pub split_member : Splits n terms level set m
   split_member = record {
     below = omega (arith, below_its_level r n level (tabled set) (sp.goes.first ∷ sp.goes.others) sp.goes.on);
     member = choice_member _ m sp.goes.first sp.goes.others sp.goes.are sp.goes.is;
   }
 
-  pub split_ready : Ready n terms level set st.count out
-  split_ready = subst (Ready n terms level set st.count) (sym sp.kept) ready
+  pub split_ready : Ready n terms level set next.count out
+  split_ready = rw (sp.count, sp.kept) ready
 
   -- the steps of the pairs of y, at a bound on the depth
   abbrev pub split_steps : ℕ → Mono → List Step
   split_steps d y = tried_all r n (system (records terms)) level (opened r n (system (records terms)) level d) (tabled set) y
 
   pub split_tells : (turn : Turn) (out' : List ℕ)
-      → ((d : ℕ) (finds : Finds) → level - length (tabled set) ≤ d → Shown finds st.count out → Tells turn out' (run limit (length out / set_bytes) (split_steps d m) (st.steps + 1) finds))
+      → ((d : ℕ) (finds : Finds) → level - length (tabled set) ≤ d → Shown finds next.count out → Tells turn out' (run limit (length out / set_bytes) (split_steps d m) next.steps finds))
       → (d : ℕ) (finds : Finds) → level - length (tabled set) < d → Shown finds st.count out₀
       → Tells turn out' (run limit (length out₀ / set_bytes) (opened r n (system (records terms)) level d (tabled set)) st.steps finds)
   split_tells turn out' f d finds h sh =
@@ -159,5 +158,8 @@ module _ (r : Rules) (n : ℕ) (terms : List ℕ) (level limit : ℕ) (set : Lis
       said : List ℕ → Mono → ℕ → Type 0
       said o y g = Tells turn out' (run limit (length o / set_bytes) (split_steps g y) (st.steps + 1) finds)
 
-      follows : (g : ℕ) → (Shown finds st.count out → said out m g) → said out₀ (chosen sp.goes.first sp.goes.others) g
-      follows g q = subst (λ (y : Mono). said out₀ y g) sp.goes.is (subst (λ (o : List ℕ). Shown finds st.count o → said o m g) sp.kept q sh)
+      told : (g : ℕ) → (Shown finds next.count out → Tells turn out' (run limit (length out / set_bytes) (split_steps g m) next.steps finds)) → Shown finds st.count out → said out m g
+      told g q = rw (sp.steps, sp.count) at q
+
+      follows : (g : ℕ) → (Shown finds next.count out → Tells turn out' (run limit (length out / set_bytes) (split_steps g m) next.steps finds)) → said out₀ (chosen sp.goes.first sp.goes.others) g
+      follows g q = subst (λ (y : Mono). said out₀ y g) sp.goes.is (subst (λ (o : List ℕ). Shown finds st.count o → said o m g) sp.kept (told g q) sh)

@@ -8,12 +8,12 @@ use Rattle.asked.proofs.input.read_input.Goals as goal
 pub slice_bounds-read_full-end-2 : goal.slice_bounds-read_full-end-2
 slice_bounds-read_full-end-2 c =
     let input = c.args.input.now in
-    sym (length-take-le _ input (omega (arith, c.least-most.ensures)))
+    sym (length-take-le _ input (omega (arith, c.min-most.ensures)))
 
 pub returns : goal.returns
 returns c =
-    let most = c.least-most.ensures in
-    let front = length-take-le c.least-most.result c.args.input.now (omega (arith, most)) in
+    let most = c.min-most.ensures in
+    let front = length-take-le c.min-most.result c.args.input.now (omega (arith, most)) in
     let given = c.given_bytes-right.ensures.value in
     record {
       prefix_len = counts_front _ _ _ c.read_full.ensures;

@@ -1,9 +1,5 @@
 -- `frequent` meets its contract: one monomial of the list after the other (`Finding`), which comes to all quotients (`news_frequent`).
 -- Assumes nothing.
-use mathlib.Core.Path.{◌≡◌}
-use Prim.Native.Nat.{◌-◌, ◌/◌}
-use lib.ListN.{length}
-use Rattle.monomial.specs.Monomial.{width}
 use Rattle.wiring.specs.Signals.{tabled, signals_at}
 use Rattle.wiring.specs.Sockets.{can_build}
 use Rattle.counting.proofs.counting.Begins.{Finding}
@@ -11,7 +7,4 @@ use Rattle.counting.proofs.counting.frequent.Given as goal
 
 abbrev pub invariant-loop-i : goal.invariant-loop-i
 invariant-loop-i l =
-    (l.len ≡ length l.list / width) × Finding (can_build l.panel) (signals_at l.panel.n l.set) l.often (tabled l.list) l.cap l.i l.met
-
-abbrev pub decreases-loop-i : goal.decreases-loop-i
-decreases-loop-i l = l.len - l.i
+    Finding (can_build l.panel) (signals_at l.panel.n l.set) l.often (tabled l.list) l.cap l.i l.met

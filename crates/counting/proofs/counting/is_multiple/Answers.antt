@@ -11,20 +11,17 @@ use Rattle.counting.proofs.counting.Laws.{share_none, share_quotient}
 use borrow.Author.Rules.{rules}
 use Rattle.counting.proofs.counting.is_multiple.Goals as goal
 
-pub returns-then-not-divides : goal.returns-then-not-divides
-returns-then-not-divides c =
+pub returns-else-divides : goal.returns-else-divides
+returns-else-divides c =
     let a = c.args in
     let long : length a.q.e ≡ width = search rules in
-    share_none (signals_at a.n a.set.now) (signals_at_wide a.n a.set.now) a.q.e a.m.e long (sym c.divides.ensures ∙ c.if-not-divides.true)
+    c.if-divides.false ∙ share_none (signals_at a.n a.set.now) (signals_at_wide a.n a.set.now) a.q.e a.m.e long (sym c.divides.ensures ∙ c.if-divides.false)
 
-pub over-requires : goal.over-requires
-over-requires c = is→T _ (sym c.divides.ensures ∙ c.if-not-divides.false)
-
-pub returns : goal.returns
-returns c =
+pub returns-then-divides : goal.returns-then-divides
+returns-then-divides c =
     let a = c.args in
     let long : length a.q.e ≡ width = search rules in
     let at = c.divides in
-    let divided = is→T _ (sym at.ensures ∙ c.if-not-divides.false) in
+    let divided = is→T _ (sym at.ensures ∙ c.if-divides.true) in
     c.is_signal.ensures ∙ ap (λ (x : Mono). any (same x) (signals_at a.n a.set.now)) c.over.ensures
     ∙ share_quotient (signals_at a.n a.set.now) (signals_at_wide a.n a.set.now) a.q.e a.m.e long divided

@@ -1,33 +1,20 @@
 -- `stays_below` meets its contract: the quotients that occur once, twice, and so on are added up (`Summing`). Assumes nothing.
 use native.Mathlib.Omega.{arith}
-use Rattle.counting.proofs.counting.Sums.{summing_start, summing_enough, summing_none, summing_next, summing_end}
-use borrow.Author.Rules.{rules}
+use Rattle.counting.proofs.counting.Sums.{summing_start, summing_enough, summing_none, summing_next}
 use Rattle.counting.proofs.counting.stays_below.Goals as goal
 
-pub loop-left-init : goal.loop-left-init
-loop-left-init c = summing_start _ _ _ _ _
-
-pub frequent-many-requires : goal.frequent-many-requires
-frequent-many-requires c = (c.requires.0, (omega (arith, c.loop-left.invariant.is), c.requires.1.1))
+pub loop-often-init : goal.loop-often-init
+loop-often-init c = summing_start _ _ _ _ _
 
 pub returns-then-left-many : goal.returns-then-left-many
-returns-then-left-many c = summing_enough _ _ _ _ c.loop-left.invariant _ c.frequent-many.ensures (omega arith)
+returns-then-left-many c = summing_enough _ _ _ _ c.loop-often.invariant _ c.frequent-many.ensures (omega arith)
 
 pub returns-then-many-lt1 : goal.returns-then-many-lt1
 returns-then-many-lt1 c =
     let roomy = c.requires.1.0 in
-    summing_none _ _ _ _ c.loop-left.invariant _ c.frequent-many.ensures (omega arith) (omega arith) roomy
+    summing_none _ _ _ _ c.loop-often.invariant _ c.frequent-many.ensures (omega arith) (omega arith) roomy
 
-pub overflow_add-often : goal.overflow_add-often
-overflow_add-often c =
-    let k = c.loop-left in
-    let few = k.invariant.low in
-    search rules
-
-pub loop-left-preserved : goal.loop-left-preserved
-loop-left-preserved c =
-    let k = c.loop-left in
+pub loop-often-preserved : goal.loop-often-preserved
+loop-often-preserved c =
+    let k = c.loop-often in
     summing_next _ _ _ _ k.invariant _ c.frequent-many.ensures (omega arith) (omega arith)
-
-pub returns : goal.returns
-returns c = summing_end _ _ _ _ c.loop-left.invariant (omega arith)

@@ -4,8 +4,5 @@ use Rattle.wiring.specs.Sockets.{can_build}
 use Rattle.counting.proofs.counting.Sums.{Summing}
 use Rattle.counting.proofs.counting.stays_below.Given as goal
 
-abbrev pub invariant-loop-left : goal.invariant-loop-left
-invariant-loop-left l = Summing (can_build l.panel) (signals_at l.panel.n l.set) (tabled l.list) l.room l.wanted l.left l.often
-
-abbrev pub decreases-loop-left : goal.decreases-loop-left
-decreases-loop-left l = l.left
+abbrev pub invariant-loop-often : goal.invariant-loop-often
+invariant-loop-often l = Summing (can_build l.panel) (signals_at l.panel.n l.set) (tabled l.list) l.room l.wanted l.left l.often

@@ -8,25 +8,9 @@ use Rattle.wiring.specs.Signals.{tabled, signals_at}
 use Rattle.wiring.specs.Sockets.{can_build}
 use Rattle.wiring.proofs.signals.Laws.{signals_at_length}
 use Rattle.counting.specs.Counting.{begins}
-use Rattle.counting.proofs.counting.Hits.{tallying_start, tallying_full, tallying_end, tallying_hit, tallying_miss}
+use Rattle.counting.proofs.counting.Hits.{tallying_full, tallying_end, tallying_hit, tallying_miss}
 use Rattle.counting.proofs.counting.tally_at.Goals as goal
 use Rattle.counting.proofs.counting.tally_at.Goals.{then-begins_at, else-begins_at}
-
-pub loop-j-init : goal.loop-j-init
-loop-j-init c = (sym (signals_at_length _ _ c.requires.0), tallying_start _ _ _ _ c.requires.1.1.1)
-
-pub returns-then-cap-met : goal.returns-then-cap-met
-returns-then-cap-met c = tallying_full _ _ _ _ c.loop-j.invariant.1 (omega arith)
-
-pub signal-requires : goal.signal-requires
-signal-requires c =
-    let long = signals_at_length c.args.panel.n c.args.set.now c.requires.0 in
-    (c.requires.0, omega (arith, c.loop-j.invariant.0))
-
-pub begins_at-requires : goal.begins_at-requires
-begins_at-requires c =
-    let p = c.requires in
-    (p.1.0, p.1.1.0)
 
 pub loop-j-preserved : goal.loop-j-preserved
 loop-j-preserved c =
@@ -34,15 +18,16 @@ loop-j-preserved c =
     let a = c.args in
     let l = a.list.now in
     let v = signals_at a.panel.n a.set.now in
-    let few : k.j < length v = omega arith in
+    let few : k.j < length v = omega (arith, signals_at_length a.panel.n a.set.now c.requires.0) in
     let test = begins (can_build a.panel) v a.often (take a.i (tabled l)) (drop (a.i + 1) (tabled l)) (get_or (tabled l) a.i (one width)) in
-    let told = ap test (sym c.signal.ensures) ∙ sym c.begins_at.ensures in (
-      k.invariant.0,
-      elim c.if-begins_at.branch [
-        | then-begins_at w ↦ rw w.met-is (tallying_hit _ _ _ _ k.invariant.1 (one width) few (omega arith) (told ∙ w.if-begins_at.true))
-        | else-begins_at w ↦ rw w.met-is (tallying_miss _ _ _ _ k.invariant.1 (one width) few (told ∙ w.if-begins_at.false))
-      ],
-    )
+    let told = ap test (sym c.signal.ensures) ∙ sym c.begins_at.ensures in
+    elim c.if-begins_at.branch [
+      | then-begins_at w ↦ rw w.met-is (tallying_hit _ _ _ _ k.invariant (one width) few (omega arith) (told ∙ w.if-begins_at.true))
+      | else-begins_at w ↦ rw w.met-is (tallying_miss _ _ _ _ k.invariant (one width) few (told ∙ w.if-begins_at.false))
+    ]
 
-pub returns : goal.returns
-returns c = tallying_end _ _ _ _ c.loop-j.invariant.1 (omega (arith, c.loop-j.invariant.0))
+pub returns-then-cap-met : goal.returns-then-cap-met
+returns-then-cap-met c = tallying_full _ _ _ _ c.loop-j.invariant (omega arith)
+
+pub returns-after-loop-j : goal.returns-after-loop-j
+returns-after-loop-j c = tallying_end _ _ _ _ c.loop-j.invariant (omega (arith, signals_at_length c.args.panel.n c.args.set.now c.requires.0))

@@ -1,7 +1,6 @@
 -- `tally_at` meets its contract: the loop adds up the quotients that begin (`Tallying`). Assumes nothing.
-use mathlib.Core.Path.{◌≡◌}
-use Prim.Native.Nat.{◌+◌, ◌-◌}
-use lib.ListN.{length, get_or, take, drop}
+use Prim.Native.Nat.{◌+◌}
+use lib.ListN.{get_or, take, drop}
 use Rattle.monomial.specs.Monomial.{one, width}
 use Rattle.wiring.specs.Signals.{tabled, signals_at}
 use Rattle.wiring.specs.Sockets.{can_build}
@@ -11,8 +10,4 @@ use Rattle.counting.proofs.counting.tally_at.Given as goal
 
 abbrev pub invariant-loop-j : goal.invariant-loop-j
 invariant-loop-j l =
-    (l.len ≡ length (signals_at l.panel.n l.set))
-    × Tallying (begins (can_build l.panel) (signals_at l.panel.n l.set) l.often (take l.i (tabled l.list)) (drop (l.i + 1) (tabled l.list)) (get_or (tabled l.list) l.i (one width))) (signals_at l.panel.n l.set) l.cap l.many l.j l.met
-
-abbrev pub decreases-loop-j : goal.decreases-loop-j
-decreases-loop-j l = l.len - l.j
+    Tallying (begins (can_build l.panel) (signals_at l.panel.n l.set) l.often (take l.i (tabled l.list)) (drop (l.i + 1) (tabled l.list)) (get_or (tabled l.list) l.i (one width))) (signals_at l.panel.n l.set) l.cap l.many l.j l.met

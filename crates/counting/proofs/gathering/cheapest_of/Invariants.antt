@@ -1,16 +1,9 @@
 -- `cheapest_of` meets its contract: the loop keeps the cheapest of the monomials met (`Collecting`). Assumes nothing.
-use mathlib.Core.Path.{◌≡◌}
 use mathlib.Core.List.{[], ◌∷◌}
-use Prim.Native.Nat.{◌/◌, ◌-◌}
-use lib.ListN.{length}
-use Rattle.monomial.specs.Monomial.{width}
 use Rattle.monomial.proofs.Loops.{Collecting}
 use Rattle.wiring.specs.Signals.{tabled}
 use Rattle.wiring.specs.Choice.{cheaper, Best}
 use Rattle.counting.proofs.gathering.cheapest_of.Given as goal
 
 abbrev pub invariant-loop-i : goal.invariant-loop-i
-invariant-loop-i loop = (loop.count ≡ length loop.list / width) × Collecting (λ x. x ∷ []) (tabled loop.list) (λ l. Best cheaper l loop.best) loop.i
-
-abbrev pub decreases-loop-i : goal.decreases-loop-i
-decreases-loop-i l = l.count - l.i
+invariant-loop-i loop = Collecting (λ x. x ∷ []) (tabled loop.list) (λ l. Best cheaper l loop.best) loop.i

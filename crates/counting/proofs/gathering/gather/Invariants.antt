@@ -1,6 +1,6 @@
 -- `gather` meets its contract: two loops list the nonsquares of one signal's derivative after the other, from the last (`Gathering`). Assumes nothing.
 use mathlib.Core.Path.{◌≡◌}
-use Prim.Native.Nat.{◌+◌, ◌≤◌}
+use Prim.Native.Nat.{◌+◌}
 use lib.ListN.{length}
 use Rattle.wiring.specs.Poly.{plain}
 use Rattle.wiring.specs.Derivative.{derivative}
@@ -13,12 +13,6 @@ abbrev pub invariant-loop-i : goal.invariant-loop-i
 invariant-loop-i l =
     (length l.list ≡ length l.initial.list) × Gathering (signals_at l.n l.set) (derivative plain (system (records l.terms))) l.most l.len l.list (l.n + 1 + l.i)
 
-abbrev pub decreases-loop-i : goal.decreases-loop-i
-decreases-loop-i l = l.i
-
 abbrev pub invariant-loop-j : goal.invariant-loop-j
 invariant-loop-j l =
-    ((length l.list ≡ length l.initial.list) × (l.j ≤ l.n + 1)) × Gathering (signals_at l.n l.set) (derivative plain (system (records l.terms))) l.most l.len l.list l.j
-
-abbrev pub decreases-loop-j : goal.decreases-loop-j
-decreases-loop-j l = l.j
+    (length l.list ≡ length l.initial.list) × Gathering (signals_at l.n l.set) (derivative plain (system (records l.terms))) l.most l.len l.list l.j

@@ -1,8 +1,6 @@
 -- `gather_in` meets its contract: the loop lists what the records offer (`Meeting`). Assumes nothing.
 use mathlib.Core.Path.{◌≡◌}
-use Prim.Native.Nat.{◌/◌, ◌-◌}
 use lib.ListN.{length}
-use Rattle.wiring.specs.Panel.{term_bytes}
 use Rattle.wiring.specs.Signals.{listed, signals_at}
 use Rattle.wiring.specs.Terms.{records}
 use Rattle.counting.proofs.gathering.Laws.{Meeting}
@@ -10,7 +8,4 @@ use Rattle.counting.proofs.gathering.gather_in.Given as goal
 
 abbrev pub invariant-loop-t : goal.invariant-loop-t
 invariant-loop-t l =
-    (l.count ≡ length l.terms / term_bytes) × ((length l.list ≡ length l.initial.list) × Meeting (listed l.len l.initial.list) (signals_at l.n l.set) (records l.terms) l.z.e l.most l.held l.list l.t)
-
-abbrev pub decreases-loop-t : goal.decreases-loop-t
-decreases-loop-t l = l.count - l.t
+    (length l.list ≡ length l.initial.list) × Meeting (listed l.len l.initial.list) (signals_at l.n l.set) (records l.terms) l.z.e l.most l.held l.list l.t

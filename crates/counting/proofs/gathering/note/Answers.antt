@@ -1,29 +1,22 @@
 -- `note` meets its contract: m is listed already, or one too many, or written behind the last one. Assumes nothing.
-use mathlib.Core.Path.{◌≡◌, refl, sym, ◌∙◌}
+use mathlib.Core.Path.{◌≡◌, sym, ◌∙◌}
 use native.Mathlib.Omega.{arith}
 use lib.ListN.{length}
 use Rattle.monomial.specs.Monomial.{width}
-use Rattle.counting.proofs.gathering.Laws.{lent_part, note_old, note_full, note_new, notes_all, notes_more}
+use Rattle.counting.proofs.gathering.Laws.{note_old, note_full, note_new}
 use borrow.Author.Rules.{rules}
 use Rattle.counting.proofs.gathering.note.Goals as goal
 
-pub slice_bounds-is_among-end-2 : goal.slice_bounds-is_among-end-2
-slice_bounds-is_among-end-2 c = sym (lent_part c.requires)
-
 pub returns-then-is_among : goal.returns-then-is_among
 returns-then-is_among c =
-    notes_all _ refl (note_old c.requires c.args.m.e (sym c.is_among.ensures ∙ c.if-is_among.true))
+    note_old c.requires c.args.m.e (sym c.is_among.ensures ∙ c.if-is_among.true)
 
 pub returns-then-most-len : goal.returns-then-most-len
 returns-then-most-len c =
-    notes_more _ refl (note_full c.requires c.args.m.e (sym c.is_among.ensures ∙ c.if-is_among.false) c.if-most-len.true)
-
-pub write-requires : goal.write-requires
-write-requires c =
-    omega (arith, c.requires.room, c.if-most-len.false)
+    note_full c.requires c.args.m.e (sym c.is_among.ensures ∙ c.if-is_among.false) c.if-most-len.true
 
 pub returns : goal.returns
 returns c =
     let wide : length c.args.m.e ≡ width = search rules in
     let fresh = sym c.is_among.ensures ∙ c.if-is_among.false in
-    notes_all _ refl (note_new c.requires c.args.m.e fresh (omega (arith, c.if-most-len.false)) wide _ c.write.ensures)
+    note_new c.requires c.args.m.e fresh (omega (arith, c.if-most-len.false)) wide _ c.write.ensures

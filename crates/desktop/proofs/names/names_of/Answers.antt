@@ -4,22 +4,22 @@ use Rattle.desktop.proofs.names.Laws.{empty_holds}
 use Rattle.desktop.proofs.names.Hearing.{hearing_start, hearing_ready, hearing_next, hearing_ends}
 use Rattle.desktop.proofs.names.names_of.Goals as goal
 
-pub loop-i-init : goal.loop-i-init
-loop-i-init c = rw c.begin-g.ensures (hearing_start _ _ _ empty_holds)
+pub loop-x-init : goal.loop-x-init
+loop-x-init c = rw c.begin-g.ensures (hearing_start _ _ _ empty_holds)
 
 pub say-requires : goal.say-requires
-say-requires c = let k = c.loop-i in (c.requires.0, (k.invariant.follows.stands, c.wide-x.ensures.1))
+say-requires c = let k = c.loop-x in record { fair = c.requires.0; stands = k.invariant.follows.stands }
 
 pub note-k-requires : goal.note-k-requires
-note-k-requires c = let k = c.loop-i in rw c.say.ensures (hearing_ready _ _ k.invariant c.requires.1.1 _ c.wide-x.ensures.1)
+note-k-requires c = let k = c.loop-x in rw c.say.ensures (hearing_ready _ _ k.invariant c.requires.1.1 _ (omega arith))
 
 pub eat-g-requires : goal.eat-g-requires
-eat-g-requires c = let k = c.loop-i in (c.requires.0, k.invariant.follows.stands)
+eat-g-requires c = let k = c.loop-x in record { fair = c.requires.0; stands = k.invariant.follows.stands }
 
-pub loop-i-preserved : goal.loop-i-preserved
-loop-i-preserved c = let k = c.loop-i in
+pub loop-x-preserved : goal.loop-x-preserved
+loop-x-preserved c = let k = c.loop-x in
     let heard = c.say.ensures in
-    rw c.eat-g.ensures (hearing_next _ _ k.invariant c.requires.1.0 (omega arith) _ c.wide-x.ensures.0 _ (λ q h. rw (← heard) (c.note-k.ensures q h)))
+    rw c.eat-g.ensures (hearing_next _ _ k.invariant c.requires.1.0 (omega arith) _ (λ q h. rw (← heard) (c.note-k.ensures q h)))
 
 pub returns : goal.returns
-returns c = let k = c.loop-i in (hearing_ends _ _ k.invariant (omega arith), rw k.invariant.holds.size (omega (arith, k.invariant.follows.few, c.requires.1.1)))
+returns c = let k = c.loop-x in (hearing_ends _ _ k.invariant (omega arith), rw k.invariant.holds.size (omega (arith, k.invariant.follows.few, c.requires.1.1)))

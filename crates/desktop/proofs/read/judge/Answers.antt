@@ -4,7 +4,6 @@ use mathlib.Core.List.{List, map}
 use Prim.Native.Nat.{ℕ}
 use native.Mathlib.Omega.{arith}
 use borrow.Author.Rules.{rules}
-use borrow.Author.Tests.{not-true, not-false}
 use lib.ListN.{length}
 use Rattle.monomial.specs.Monomial.{Mono}
 use Rattle.wiring.specs.Panel.{cards}
@@ -13,7 +12,8 @@ use Rattle.wiring.specs.Sets.{set_record}
 use Rattle.wiring.specs.Terms.{records, system}
 use Rattle.wiring.specs.declared.reply.Reply.TheVariants.{Done}
 use Rattle.wiring.proofs.signals.Arrays.{array_length, front_length}
-use Rattle.reader.specs.declared.Verdict.TheVariants.{Whole, Broken}
+use Rattle.std.specs.Prelude.{Err}
+use Rattle.reader.specs.Said.{whole}
 use Rattle.listing.specs.Meaning.{names}
 use Rattle.listing.specs.declared.machine.Known.{Known}
 use Rattle.roster.specs.Roster.{arranged}
@@ -25,53 +25,48 @@ use Rattle.desktop.proofs.read.judge.Goals as goal
 pub names_of-names-requires : goal.names_of-names-requires
 names_of-names-requires c =
     let q = c.requires.0 in
-    rw c.known_to-known.ensures (fair_known c.args.panel q.low q.high, (q.high, refl))
+    rw c.from-known.ensures (fair_known c.args.panel q.low q.high, (q.high, refl))
 
-pub returns-then-not-formed : goal.returns-then-not-formed
-returns-then-not-formed c =
+pub returns-in_default : goal.returns-in_default
+returns-in_default c =
     let a = c.args in
-    let known = c.known_to-known in
+    let known = c.from-known in
     let found = c.names_of-names in
-    let formed = c.set_of-formed in
     let held = found.ensures.0 ∙ ap (λ (k : Known). map capped (names k a.text.now)) known.ensures in
-    let right = sym (names_right a.panel a.terms.now a.text.now c.requires.0 c.requires.1 found.result held) ∙ sym formed.ensures.right in
-    c.refused.ensures ∙ judged_bad a.panel (system (records a.terms.now)) a.text.now (right ∙ not-true _ c.if-not-formed.true)
+    let right = sym (names_right a.panel a.terms.now a.text.now c.requires.0 c.requires.1 found.result held) in
+    c.refused.ensures ∙ judged_bad a.panel (system (records a.terms.now)) a.text.now (right ∙ c.in_default.ensures)
 
 pub judge_lines-requires : goal.judge_lines-requires
 judge_lines-requires c =
     let room : length c.names_of-names.result.m ≡ cards = search (rules, array_length) in
     let a = c.args in
-    let known = c.known_to-known in
+    let known = c.from-known in
     let found = c.names_of-names in
-    let formed = c.set_of-formed in
     let held = found.ensures.0 ∙ ap (λ (k : Known). map capped (names k a.text.now)) known.ensures in
     let long = sym (front_length found.result.len found.result.m (omega (arith, found.ensures.1))) in
-    names_judging a.panel a.terms.now a.text.now c.requires.0 c.requires.1 found.result held (sym formed.ensures.right ∙ not-false _ c.if-not-formed.false)
+    names_judging a.panel a.terms.now a.text.now c.requires.0 c.requires.1 found.result held c.in-Some.ensures.0
     known.result known.ensures long found.ensures.1 c.signals_of-v.result c.signals_of-v.ensures.0 c.signals_of-v.ensures.1
 
-pub returns-in-Whole : goal.returns-in-Whole
-returns-in-Whole c =
+pub returns-in-Ok : goal.returns-in-Ok
+returns-in-Ok c =
     let room : length c.names_of-names.result.m ≡ cards = search (rules, array_length) in
     let a = c.args in
-    let known = c.known_to-known in
+    let known = c.from-known in
     let found = c.names_of-names in
-    let formed = c.set_of-formed in
     let held = found.ensures.0 ∙ ap (λ (k : Known). map capped (names k a.text.now)) known.ensures in
-    let right = sym (names_right a.panel a.terms.now a.text.now c.requires.0 c.requires.1 found.result held) ∙ sym formed.ensures.right in
+    let right = sym (names_right a.panel a.terms.now a.text.now c.requires.0 c.requires.1 found.result held) in
     let long = sym (front_length found.result.len found.result.m (omega (arith, found.ensures.1))) in
-    let good = not-false _ c.if-not-formed.false in
-    let own = names_held a.panel a.terms.now a.text.now c.requires.0 c.requires.1 found.result held (sym formed.ensures.right ∙ good) in
-    let whole = sym c.in-Whole.is ∙ c.judge_lines.ensures ∙ ap (λ (k : Known). lines_said k (system (records a.terms.now)) a.text.now) known.ensures in
-    ap₂ (λ (i : ℕ) (r : List ℕ). outcome (Done i 0 0) r) (long ∙ ap length own) (formed.ensures.holds good ∙ ap (λ (l : List Mono). set_record (arranged l)) own)
-    ∙ judged_lines a.panel (system (records a.terms.now)) a.text.now (right ∙ good) Whole whole
+    let own = names_held a.panel a.terms.now a.text.now c.requires.0 c.requires.1 found.result held c.in-Some.ensures.0 in
+    let told = sym c.in-Ok.is ∙ c.judge_lines.ensures ∙ ap (λ (k : Known). lines_said k (system (records a.terms.now)) a.text.now) known.ensures in
+    ap₂ (λ (i : ℕ) (r : List ℕ). outcome (Done i 0 0) r) (long ∙ ap length own) (c.in-Some.ensures.1 ∙ ap (λ (l : List Mono). set_record (arranged l)) own)
+    ∙ judged_lines a.panel (system (records a.terms.now)) a.text.now (right ∙ c.in-Some.ensures.0) whole told
 
-pub returns-in-Broken : goal.returns-in-Broken
-returns-in-Broken c =
+pub returns-in-Err : goal.returns-in-Err
+returns-in-Err c =
     let a = c.args in
-    let known = c.known_to-known in
+    let known = c.from-known in
     let found = c.names_of-names in
-    let formed = c.set_of-formed in
     let held = found.ensures.0 ∙ ap (λ (k : Known). map capped (names k a.text.now)) known.ensures in
-    let right = sym (names_right a.panel a.terms.now a.text.now c.requires.0 c.requires.1 found.result held) ∙ sym formed.ensures.right in
-    let broken = sym c.in-Broken.is ∙ c.judge_lines.ensures ∙ ap (λ (k : Known). lines_said k (system (records a.terms.now)) a.text.now) known.ensures in
-    c.refused-in-Broken.ensures ∙ judged_lines a.panel (system (records a.terms.now)) a.text.now (right ∙ not-false _ c.if-not-formed.false) (Broken c.in-Broken.place) broken
+    let right = sym (names_right a.panel a.terms.now a.text.now c.requires.0 c.requires.1 found.result held) in
+    let told = sym c.in-Err.is ∙ c.judge_lines.ensures ∙ ap (λ (k : Known). lines_said k (system (records a.terms.now)) a.text.now) known.ensures in
+    c.refused-in-Err.ensures ∙ judged_lines a.panel (system (records a.terms.now)) a.text.now (right ∙ c.in-Some.ensures.0) (Err c.in-Err.broken) told

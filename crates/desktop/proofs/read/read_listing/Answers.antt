@@ -1,8 +1,9 @@
 -- `read_listing` meets its contract: the checks run in their order, and then the text is read. Assumes nothing.
-use mathlib.Core.Path.{sym, ◌∙◌}
+use mathlib.Core.Path.{sym, ap, ◌∙◌}
 use native.Mathlib.Omega.{arith}
 use Rattle.wiring.specs.Sockets.{panel_of}
-use Rattle.wiring.specs.declared.terms.Fault.TheVariants.{Wrong, Repeated}
+use Rattle.std.specs.Prelude.{Err}
+use Rattle.desktop.specs.Read.{refusal}
 use Rattle.desktop.proofs.read.Laws.{said_setting, said_terms_length, said_text_length, said_rest, said_read, reading_of}
 use Rattle.desktop.proofs.read.read_listing.Goals as goal
 
@@ -32,29 +33,22 @@ read_text-requires c =
     let a = c.args in
     let panel = panel_of a.n a.marks a.degree in
     let known = sym c.panel_right.ensures ∙ c.if-not-panel_right.false in
-    reading_of panel a.terms.now a.text.now known (omega arith) (sym c.fault_of.ensures ∙ c.in-Clean.is)
+    reading_of panel a.terms.now a.text.now known (omega arith) (sym c.fault_of.ensures ∙ c.in-Ok.is)
 
-pub returns-in-Clean : goal.returns-in-Clean
-returns-in-Clean c =
+pub returns-in-Ok : goal.returns-in-Ok
+returns-in-Ok c =
     let a = c.args in
     let panel = panel_of a.n a.marks a.degree in
     let known = sym c.panel_right.ensures ∙ c.if-not-panel_right.false in
     let measured = sym c.length_right.ensures ∙ c.if-not-length_right.false in
-    let clean = sym c.in-Clean.is ∙ c.fault_of.ensures in
+    let clean = sym c.in-Ok.is ∙ c.fault_of.ensures in
     said_read panel a.terms.now a.text.now known measured (omega arith) clean _ c.read_text.ensures
 
-pub returns-in-Wrong : goal.returns-in-Wrong
-returns-in-Wrong c =
+pub returns-in-Err : goal.returns-in-Err
+returns-in-Err c =
     let a = c.args in
     let panel = panel_of a.n a.marks a.degree in
     let known = sym c.panel_right.ensures ∙ c.if-not-panel_right.false in
     let measured = sym c.length_right.ensures ∙ c.if-not-length_right.false in
-    c.refused-in-Wrong.ensures ∙ said_rest panel a.terms.now a.text.now known measured (omega arith) (Wrong c.in-Wrong.place) (sym c.in-Wrong.is ∙ c.fault_of.ensures)
-
-pub returns-in-Repeated : goal.returns-in-Repeated
-returns-in-Repeated c =
-    let a = c.args in
-    let panel = panel_of a.n a.marks a.degree in
-    let known = sym c.panel_right.ensures ∙ c.if-not-panel_right.false in
-    let measured = sym c.length_right.ensures ∙ c.if-not-length_right.false in
-    c.refused-in-Repeated.ensures ∙ said_rest panel a.terms.now a.text.now known measured (omega arith) (Repeated c.in-Repeated.place) (sym c.in-Repeated.is ∙ c.fault_of.ensures)
+    let rest = said_rest panel a.terms.now a.text.now known measured (omega arith) (Err c.in-Err.fault) (sym c.in-Err.is ∙ c.fault_of.ensures) in
+    c.refused-in-Err.ensures ∙ ap refusal c.from.ensures ∙ rest

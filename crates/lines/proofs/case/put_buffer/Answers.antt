@@ -1,22 +1,16 @@
 -- `put_buffer` meets its contract: by the buffer's length. Assumes nothing.
-use Rattle.std.proofs.Common.{arith}
-use Rattle.lines.proofs.text.Laws.{adds}
+use Rattle.std.proofs.Common.{arith, append_assoc}
+use Rattle.std.proofs.lemmas.Bool.Decides.{nat_tests}
 use Rattle.lines.proofs.case.Laws.{buffer_none, buffer_whole, buffer_digest}
 use Rattle.lines.proofs.case.put_buffer.Goals as goal
 
-pub returns-then-s-eq0 : goal.returns-then-s-eq0
-returns-then-s-eq0 c =
-    let put = c.put_text.ensures in
-    (rw (buffer_none c.args.s.now c.if-s-eq0.true) at put, omega (arith, put.ends))
+pub returns-then-is_empty-clause-text : goal.returns-then-is_empty-clause-text
+returns-then-is_empty-clause-text c = rw (← buffer_none c.args.s.now (grind (arith, nat_tests))) c.put_text.ensures
 
-pub returns-then-s-le-SHOWN_BYTES : goal.returns-then-s-le-SHOWN_BYTES
-returns-then-s-le-SHOWN_BYTES c =
-    let put = c.put_bytes.ensures in
-    (rw (buffer_whole _ c.if-s-eq0.false c.if-s-le-SHOWN_BYTES.true) at put.0, omega (arith, put.1))
+pub returns-then-s-le-SHOWN_BYTES-clause-text : goal.returns-then-s-le-SHOWN_BYTES-clause-text
+returns-then-s-le-SHOWN_BYTES-clause-text c = rw (← buffer_whole c.args.s.now (grind (arith, nat_tests)) c.if-s-le-SHOWN_BYTES.true) c.put_bytes.ensures.text
 
-pub returns : goal.returns
-returns c =
-    let mark = c.put_text-next.ensures in
-    let put = c.put_hex.ensures in
-    let whole = adds mark (rw c.digest.ensures at put.0) in
-    (rw (buffer_digest _ c.if-s-eq0.false c.if-s-le-SHOWN_BYTES.false) at whole, omega (arith, mark.ends, put.1))
+pub returns-else-s-le-SHOWN_BYTES-clause-text : goal.returns-else-s-le-SHOWN_BYTES-clause-text
+returns-else-s-le-SHOWN_BYTES-clause-text c =
+    rw (← buffer_digest c.args.s.now (grind (arith, nat_tests)) c.if-s-le-SHOWN_BYTES.false, c.put_hex.ensures.text, c.put_text-else-s-le-SHOWN_BYTES.ensures, c.digest.ensures)
+    (append_assoc c.args.line.now _ _)

@@ -1,26 +1,18 @@
--- `put_bytes` meets its contract: the loop puts byte after byte (`Spelling`). Assumes nothing.
-use Rattle.std.proofs.Common.{arith}
-use Rattle.lines.proofs.case.Laws.{spelling_start, spelling_next, spelling_end}
+-- `put_bytes` meets its contract: the loop puts byte after byte. Assumes nothing.
+use Rattle.std.proofs.Common.{◌++◌, sym, ap, ◌∙◌, append_assoc, append-nil, arith}
+use Rattle.monomial.specs.Lists.{gather}
+use Rattle.lines.specs.Case.{hex_text}
+use Rattle.lines.proofs.case.Laws.{hex_next}
 use Rattle.lines.proofs.case.put_bytes.Goals as goal
 
-pub loop-i-init : goal.loop-i-init
-loop-i-init c = spelling_start _ _ _ (omega arith)
+pub loop-x-init : goal.loop-x-init
+unfolding hex_text gather
+loop-x-init c = record { text = sym (append-nil c.args.line.now); long = omega arith }
 
-pub put_hex-end-requires : goal.put_hex-end-requires
-put_hex-end-requires c =
-    let k = c.loop-i.invariant in
-    (omega arith, (omega arith, (c.wide.ensures.1, omega (arith, k.near, k.text.long))))
-
-pub loop-i-preserved : goal.loop-i-preserved
-loop-i-preserved c =
-    let put = c.put_hex-end.ensures in
-    let byte = c.wide.ensures.0 in
-    spelling_next c.loop-i.invariant (omega arith) (rw byte at put.0) put.1
-
-pub shape_of-line : goal.shape_of-line
-shape_of-line c = c.loop-i.invariant.text.long
-
-pub returns : goal.returns
-returns c =
-    let k = c.loop-i.invariant in
-    (spelling_end k (omega arith), omega (arith, k.near, k.within))
+pub loop-x-preserved : goal.loop-x-preserved
+loop-x-preserved c =
+    let k = c.loop-x in
+    let put = c.put_hex.ensures in record {
+      text = rw (put.text, k.invariant.text) (append_assoc c.args.line.now _ _ ∙ ap (λ x. c.args.line.now ++ x) (rw c.from.ensures (hex_next c.args.s.now k.x-index c.loop-x-test.true)));
+      long = omega (arith, put.long);
+    }

@@ -1,23 +1,20 @@
 -- `number_of` meets its contract: the loop has the rest of the word before it (`Reading`). Assumes nothing.
 use Rattle.std.proofs.Common.{sym, ◌∙◌, arith, rules}
+use Rattle.std.proofs.lemmas.Bool.Decides.{nat_tests}
 use Rattle.lines.proofs.number.Laws.{reading_start, reading_next, reading_stop, reading_end, empty_none}
 use Rattle.lines.proofs.number.number_of.Goals as goal
 
-pub returns-then-word-eq0 : goal.returns-then-word-eq0
-returns-then-word-eq0 c = sym (empty_none _ (omega arith))
+pub returns-then-is_empty : goal.returns-then-is_empty
+returns-then-is_empty c = sym (empty_none _ (grind (arith, nat_tests)))
 
-pub loop-i-init : goal.loop-i-init
-loop-i-init c = reading_start _ (omega arith)
+pub loop-x-init : goal.loop-x-init
+loop-x-init c = reading_start _ (grind (arith, nat_tests))
 
-pub returns-in-Nothing : goal.returns-in-Nothing
-returns-in-Nothing c =
-    let k = c.loop-i in
-    sym (reading_stop k.invariant (omega arith) (sym c.followed.ensures ∙ c.in-Nothing.is))
+pub returns-in_err-v : goal.returns-in_err-v
+returns-in_err-v c = c.from_residual.ensures ∙ sym (reading_stop c.loop-x.invariant c.loop-x-test.true (sym c.followed.ensures ∙ c.in_err-v.was))
 
-pub loop-i-preserved : goal.loop-i-preserved
-loop-i-preserved c =
-    let k = c.loop-i in
-    reading_next k.invariant (omega arith) c.in-Of.next (search rules) (sym c.followed.ensures ∙ c.in-Of.is)
+pub loop-x-preserved : goal.loop-x-preserved
+loop-x-preserved c = reading_next c.loop-x.invariant c.loop-x-test.true _ (search rules) (sym c.followed.ensures ∙ c.in_ok-v.was)
 
 pub returns : goal.returns
-returns c = sym (reading_end c.loop-i.invariant (omega arith))
+returns c = sym (reading_end c.loop-x.invariant (omega arith))

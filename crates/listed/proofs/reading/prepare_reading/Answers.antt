@@ -8,10 +8,10 @@ use Rattle.listed.proofs.reading.prepare_reading.Goals as goal
 pub slice_bounds-terms-end : goal.slice_bounds-terms-end
 slice_bounds-terms-end c =
     let input = c.args.input.now in
-    sym (length-take-le _ input (omega (arith, c.first_bytes-at.ensures)))
+    sym (length-take-le _ input (omega (arith, c.min-at.ensures)))
 
 pub returns : goal.returns
 returns c =
     let a = c.args in
-    let at = c.first_bytes-at.ensures in
+    let at = c.min-at.ensures in
     rw (rest_within a.input.now a.bytes _ at, front_within a.input.now a.bytes _ at) at c.read_listing.ensures

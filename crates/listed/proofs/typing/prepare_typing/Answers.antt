@@ -13,18 +13,18 @@ use Rattle.listed.proofs.typing.prepare_typing.Goals as goal
 pub slice_bounds-given-end : goal.slice_bounds-given-end
 slice_bounds-given-end c =
     let input = c.args.input.now in
-    sym (length-take-le _ input (omega (arith, c.first_bytes-at.ensures)))
+    sym (length-take-le _ input (omega (arith, c.min-at.ensures)))
 
 pub put-requires : goal.put-requires
 put-requires c =
     let input = c.args.input.now in
-    omega (arith, length-take c.first_bytes-at.result input, c.first_bytes-at.ensures)
+    omega (arith, length-take c.min-at.result input, c.min-at.ensures)
 
 pub returns : goal.returns
 returns c =
     let a = c.args in
     let input = a.input.now in
-    let at = c.first_bytes-at.ensures in
+    let at = c.min-at.ensures in
     let long : length a.wires.now ≡ wires_bytes = search rules in
     let front = front_within input set_bytes _ at in
     let held = held_padded (set_in input) _ (rw front at c.put.ensures) in

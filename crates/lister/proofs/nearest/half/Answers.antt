@@ -1,25 +1,16 @@
 -- `half` meets its contract: the loop fills the result place by place (`Filling`). Assumes nothing.
-use mathlib.Core.Path.{◌≡◌, refl, sym, ◌∙◌}
+use mathlib.Core.Path.{◌≡◌, sym, ◌∙◌}
 use Prim.Native.Nat.{ℕ, ◌/◌}
 use native.Mathlib.Omega.{arith}
 use lib.ListN.{length, length-map}
 use Rattle.monomial.specs.Monomial.{width}
-use Rattle.monomial.proofs.Loops.{filling_start, filling_next, filling_end}
+use Rattle.monomial.proofs.Loops.{filling_next}
 use Rattle.monomial.proofs.Members.{map_at}
 use borrow.Author.Rules.{rules}
 use Rattle.lister.proofs.nearest.half.Goals as goal
-
-pub loop-i-init : goal.loop-i-init
-loop-i-init c = filling_start 0 width _ _ refl
 
 pub loop-i-preserved : goal.loop-i-preserved
 loop-i-preserved c =
     let e = c.args.m.e in
     let l : length e ≡ width = search rules in
     filling_next 0 _ c.loop-i.invariant (omega arith) (length-map e (λ (x : ℕ). x / 2) ∙ l) (sym (map_at (λ (x : ℕ). x / 2) e _ 0 0 (omega arith)))
-
-pub returns : goal.returns
-returns c =
-    let e = c.args.m.e in
-    let l : length e ≡ width = search rules in
-    filling_end 0 c.loop-i.invariant (omega arith) (length-map e (λ (x : ℕ). x / 2) ∙ l)

@@ -1,12 +1,8 @@
 -- `half` meets its contract: the loop fills the result place by place (`Filling`). Assumes nothing.
-use Prim.Native.Nat.{◌-◌}
 use Rattle.monomial.specs.Monomial.{width}
 use Rattle.monomial.proofs.Loops.{Filling}
 use Rattle.lister.specs.Nearest.{root_of}
 use Rattle.lister.proofs.nearest.half.Given as goal
 
 abbrev pub invariant-loop-i : goal.invariant-loop-i
-invariant-loop-i l = Filling 0 width (root_of l.e) l.r l.i
-
-abbrev pub decreases-loop-i : goal.decreases-loop-i
-decreases-loop-i l = width - l.i
+invariant-loop-i l = Filling 0 width (root_of l.m.e) l.e l.i

@@ -2,7 +2,6 @@
 use mathlib.Core.Path.{◌≡◌, sym, ap, ◌∙◌}
 use lib.ListN.{length}
 use Rattle.monomial.specs.Monomial.{one, width}
-use Rattle.monomial.proofs.Tests.{is→T}
 use Rattle.lister.proofs.nearest.Laws.{lead_one, lead_own, lead_other}
 use borrow.Author.Rules.{rules}
 use Rattle.lister.proofs.nearest.lead_of.Goals as goal
@@ -13,16 +12,10 @@ returns-then-not-divides c =
     let l : length a.m.e ≡ width = search rules in
     sym (lead_one a.m.e a.w.e (sym c.divides.ensures ∙ c.if-not-divides.true) ∙ ap one l)
 
-pub leads-requires : goal.leads-requires
-leads-requires c = is→T _ (sym c.divides.ensures ∙ c.if-not-divides.false)
-
 pub returns-then-leads : goal.returns-then-leads
 returns-then-leads c =
     let a = c.args in
     sym (lead_own a.m.e a.w.e (sym c.divides.ensures ∙ c.if-not-divides.false) (sym c.leads.ensures ∙ c.if-leads.true))
-
-pub over-requires : goal.over-requires
-over-requires c = is→T _ (sym c.divides.ensures ∙ c.if-not-divides.false)
 
 pub returns : goal.returns
 returns c =

@@ -1,7 +1,7 @@
 -- `nearer` meets its contract: c is not nearer, or begins no cheap pair, or is taken. Assumes nothing.
-use mathlib.Core.Path.{◌≡◌, refl, sym, ◌∙◌, subst}
-use mathlib.Core.Bool.{true}
+use mathlib.Core.Path.{◌≡◌, sym, ◌∙◌, subst}
 use mathlib.Core.List.{List}
+use Rattle.std.specs.Prelude.{IfSome}
 use lib.Dec.{T}
 use Rattle.monomial.specs.Monomial.{Mono}
 use Rattle.monomial.specs.Order.{before}
@@ -10,7 +10,7 @@ use Rattle.monomial.proofs.Tests.{is→T, is→n_t}
 use Rattle.wiring.specs.Signals.{signals_at}
 use Rattle.lister.specs.Cheap.{cheap, Holds}
 use Rattle.lister.specs.Nearest.{CheapFrom, NotBehind}
-use Rattle.lister.proofs.nearest.Laws.{nearing_by, nearing_take, nearer_out, nearer_not}
+use Rattle.lister.proofs.nearest.Laws.{nearing_by, nearing_take, nearer_out}
 use Rattle.lister.proofs.nearest.nearer.Goals as goal
 use Rattle.lister.proofs.nearest.nearer.Goals.{After-is_of}
 
@@ -31,17 +31,6 @@ module _ (c : After-is_of) where
   told : c.is_of.result ≡ cheap v (split m x)
   told = c.is_of.ensures v (split m x) held
 
-pub returns-then-not-is_nearer : goal.returns-then-not-is_nearer
-returns-then-not-is_nearer c =
-    let a = c.args in
-    let v = signals_at a.n a.set.now in
-    let far = sym c.is_nearer.ensures ∙ c.if-not-is_nearer.true in
-    λ j w e. nearing_by v a.m.e a.a.e w
-    (subst (NotBehind v a.m.e a.a.e a.near) e (λ d. nearer_not a.c.e a.a.e a.near far d.later))
-
-pub over-requires : goal.over-requires
-over-requires c = c.requires.0
-
 pub returns-then-not-is_of : goal.returns-then-not-is_of
 returns-then-not-is_of c =
     let w = (goal.at.returns-then-not-is_of c).After-is_of in
@@ -57,5 +46,5 @@ returns c =
     let near = nearer_out (x w) a.a.e a.near (sym w.is_nearer.ensures ∙ w.if-not-is_nearer.false) in
     let own : CheapFrom (v w) (m w) a.a.e (x w) =
     record { divisor = c.requires.0; leading = c.requires.1; cheap = is→T _ (sym (told w) ∙ c.if-not-is_of.false); later = near.0 } in
-    λ j n e. nearing_take (v w) (m w) a.a.e n _ refl e (subst (CheapFrom (v w) (m w) a.a.e) e own)
-    (subst (λ (y : Mono). Holds (v w) (split (m w) y) w.look_up-held.result) e (held w)) (subst (λ (y : Mono). a.near.some ≡ true → T (before y a.near.a.e)) e near.1)
+    λ j n e. nearing_take (v w) (m w) a.a.e n _ e (subst (CheapFrom (v w) (m w) a.a.e) e own)
+    (subst (λ (y : Mono). Holds (v w) (split (m w) y) w.look_up-held.result) e (held w)) (subst (λ (y : Mono). IfSome a.near (λ n. T (before y n.a.e))) e near.1)

@@ -1,14 +1,7 @@
 -- `nearest` meets its contract: V and the root are tried one after the other (`Nearing`). Assumes nothing.
-use mathlib.Core.Path.{◌≡◌}
-use Prim.Native.Nat.{◌+◌, ◌-◌, ◌/◌, ◌≤◌}
-use lib.ListN.{length}
-use Rattle.monomial.specs.Monomial.{width}
 use Rattle.wiring.specs.Signals.{signals_at}
 use Rattle.lister.specs.Nearest.{Nearing}
 use Rattle.lister.proofs.nearest.nearest.Given as goal
 
 abbrev pub invariant-loop-j : goal.invariant-loop-j
-invariant-loop-j l = (l.j ≤ l.last + 1) × ((l.last ≡ l.n + 1 + length l.set / width) × Nearing (signals_at l.n l.set) l.m.e l.a.e l.near l.j)
-
-abbrev pub decreases-loop-j : goal.decreases-loop-j
-decreases-loop-j l = l.last + 1 - l.j
+invariant-loop-j l = Nearing (signals_at l.n l.set) l.m.e l.a.e l.near l.j

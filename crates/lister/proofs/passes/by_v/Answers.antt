@@ -7,7 +7,6 @@ use native.Mathlib.Omega.{arith}
 use lib.ListN.{length, get_or}
 use mir.Val.{Fits}
 use mir.Syntax.{w8}
-use borrow.Author.Tests.{not-true, not-false}
 use Rattle.monomial.specs.Lists.{keep}
 use Rattle.monomial.specs.Monomial.{width}
 use Rattle.monomial.specs.Divisors.{next}
@@ -20,16 +19,16 @@ use Rattle.lister.proofs.passes.Laws.{standing_few, sought_found, sought_none, n
 use borrow.Author.Rules.{rules}
 use Rattle.lister.proofs.passes.by_v.Goals as goal
 
-pub returns-then-not-near : goal.returns-then-not-near
-returns-then-not-near c =
+pub returns-in_default : goal.returns-in_default
+returns-in_default c =
     let a = c.args in
     let v = signals_at a.n a.set.now in
     let m = a.m.e in
-    let none_left = nearest_none v m c.requires.1.0 a.from.a.e c.nearest-near.result c.nearest-near.ensures (not-true _ c.if-not-near.true) in
-    sought_none v m a.from c.requires.1.1.0 _ refl (subst (λ (b : Bool). keep (of_kind v b) (pairs_from m a.from.a.e) ≡ []) (sym c.requires.1.1.1) none_left) refl refl
+    let none_left = nearest_none v m c.requires.1.0 a.from.a.e c.in_default.ensures in
+    sought_none v m a.from c.requires.1.1.0 _ refl (subst (λ (b : Bool). keep (of_kind v b) (pairs_from m a.from.a.e) ≡ []) (sym c.requires.1.1.1) none_left) refl
 
-pub overflow_add-result : goal.overflow_add-result
-overflow_add-result c =
+pub overflow_add-listed : goal.overflow_add-listed
+overflow_add-listed c =
     let a = c.args in
     let m = a.m.e in
     -- six bytes have so many divisors that their pairs can be counted
@@ -43,9 +42,8 @@ returns c =
     let a = c.args in
     let v = signals_at a.n a.set.now in
     let m = a.m.e in
-    let near = c.nearest-near.result in
-    let some = not-false _ c.if-not-near.false in
-    let own = c.nearest-near.ensures.own some in
-    let comes = nearest_comes v m c.requires.1.0 a.from.a.e near c.nearest-near.ensures some in
-    sought_found v m a.from c.requires.1.1.0 _ refl own.0.divisor own.0.leading own.1
-    (subst (λ (b : Bool). keep (of_kind v b) (pairs_from m a.from.a.e) ≡ split m near.a.e ∷ keep (of_kind v b) (pairs_from m (next m near.a.e))) (sym c.requires.1.1.1) comes) refl refl
+    let near = c.in-Some.near in
+    let own = c.in-Some.ensures.own in
+    let comes = nearest_comes v m c.requires.1.0 a.from.a.e near c.in-Some.ensures in
+    sought_found v m a.from c.requires.1.1.0 _ refl own.0.divisor own.0.leading _ own.1
+    (subst (λ (b : Bool). keep (of_kind v b) (pairs_from m a.from.a.e) ≡ split m near.a.e ∷ keep (of_kind v b) (pairs_from m (next m near.a.e))) (sym c.requires.1.1.1) comes) refl

@@ -40,18 +40,9 @@ module _ (c : After-is_of) where
   told : c.is_of.result ≡ of_kind v c.args.from.rest (split m a)
   told = c.is_of.ensures v (split m a) held
 
-pub loop-m-init : goal.loop-m-init
-loop-m-init c = record { divisor = c.requires.1.divisor; unmet = refl }
-
-pub leads-requires : goal.leads-requires
-leads-requires c = c.loop-m.invariant.divisor
-
-pub over-requires : goal.over-requires
-over-requires c = c.loop-m.invariant.divisor
-
-pub overflow_add-result : goal.overflow_add-result
-overflow_add-result c =
-    let w = (goal.at.overflow_add-result c).After-is_of in
+pub overflow_add-listed : goal.overflow_add-listed
+overflow_add-listed c =
+    let w = (goal.at.overflow_add-listed c).After-is_of in
     -- six bytes have so many divisors that their pairs can be counted
     let l : length (m w) ≡ width = search rules in
     let bytes : (k : ℕ) → Fits w8 (get_or (m w) k 0) = λ k. search rules in
@@ -62,7 +53,7 @@ pub returns-then-is_of : goal.returns-then-is_of
 returns-then-is_of c =
     let w = (goal.at.returns-then-is_of c).After-is_of in
     let comes = seeking_found (m w) c.requires.0 (of_kind (v w) c.args.from.rest) c.loop-m.invariant (leading w) (sym (told w) ∙ c.if-is_of.true) in
-    sought_found (v w) (m w) c.args.from c.requires.1 _ refl c.loop-m.invariant.divisor (leading w) (held w) comes refl refl
+    sought_found (v w) (m w) c.args.from c.requires.1 _ refl c.loop-m.invariant.divisor (leading w) _ (held w) comes refl
 
 pub loop-m-smaller : goal.loop-m-smaller
 loop-m-smaller c =
@@ -79,4 +70,4 @@ pub returns : goal.returns
 returns c =
     let b = c.args in
     let none_left = seeking_none b.m.e c.requires.0 (of_kind (signals_at b.n b.set.now) b.from.rest) c.loop-m.invariant (is→n_t _ (sym c.leads.ensures ∙ c.loop-m-test.false)) in
-    sought_none (signals_at b.n b.set.now) b.m.e b.from c.requires.1 _ refl none_left refl refl
+    sought_none (signals_at b.n b.set.now) b.m.e b.from c.requires.1 _ refl none_left refl

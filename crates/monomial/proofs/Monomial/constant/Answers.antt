@@ -1,46 +1,21 @@
--- `Monomial::constant` meets its contract: each named constant stands at its number. Assumes nothing.
-use mathlib.Core.Path.{◌≡◌, sym}
-use Prim.Native.Nat.{ℕ, suc, ◌<◌}
-use native.Mathlib.Omega.{arith}
-use borrow.Author.Tests.{ltb-true, ltb-false}
-use lib.Dec.{ltb}
-use lib.ListN.{get_or, get_or-eq_default}
+-- `Monomial::constant` meets its contract: the table holds the named constants in their order. Assumes nothing.
+use Rattle.std.proofs.Common.{◌≡◌, ◌∙◌, refl, sym, ap, ℕ, List, arith, get_or, map}
+use Rattle.std.proofs.Math.ListN.{get_or-map}
+use Rattle.std.specs.Option.{unwrap_or}
 use Rattle.monomial.specs.Monomial.{vars, one, constants, width}
-use Rattle.monomial.proofs.Tests.{Tested, passed, failed, test}
+use Rattle.monomial.specs.declared.Monomial.{Monomial}
+use Rattle.monomial.specs.declared.TheConstants.Monomial.{NAMED}
 use Rattle.monomial.proofs.Monomial.constant.Goals as goal
 
--- a number that no variable has
-else_one : (i : ℕ) → (i < suc width → i ≡ 0) → one width ≡ get_or (constants width) i (one width)
-unfolding vars
-else_one i h = go (test (ltb i (suc width)))
-  where
-    go : Tested (ltb i (suc width)) → one width ≡ get_or (constants width) i (one width)
-    go (passed e) = rw (h (ltb-true i (suc width) e))
-    go (failed e) = sym (get_or-eq_default (constants width) (one width) {n = i} (ltb-false i (suc width) e))
+none : Monomial
+none = record { e = one width }
 
-pub returns-in-1 : goal.returns-in-1
-unfolding vars
-returns-in-1 c = rw c.in-1.is
+by_table : (table : List Monomial) (i : ℕ) (m : Monomial) → m ≡ get_or table i none → map (λ x. x.e) table ≡ constants width
+    → m.e ≡ get_or (constants width) i (one width)
+unfolding none
+by_table table i m h k = ap (λ x. x.e) h ∙ sym (get_or-map (λ (x : Monomial). x.e) table i none) ∙ ap (λ l. get_or l i (one width)) k
 
-pub returns-in-2 : goal.returns-in-2
-unfolding vars
-returns-in-2 c = rw c.in-2.is
-
-pub returns-in-3 : goal.returns-in-3
-unfolding vars
-returns-in-3 c = rw c.in-3.is
-
-pub returns-in-4 : goal.returns-in-4
-unfolding vars
-returns-in-4 c = rw c.in-4.is
-
-pub returns-in-5 : goal.returns-in-5
-unfolding vars
-returns-in-5 c = rw c.in-5.is
-
-pub returns-in-6 : goal.returns-in-6
-unfolding vars
-returns-in-6 c = rw c.in-6.is
-
-pub returns-in_default : goal.returns-in_default
-returns-in_default c = else_one c.args.i (λ h. omega arith)
+pub returns : goal.returns
+unfolding none vars
+returns c =
+    by_table NAMED c.args.i _ (c.unwrap_or.ensures ∙ ap (λ r. unwrap_or r none) c.copied.ensures ∙ c.get.ensures.lookup.4 (omega arith) none) refl

@@ -1,41 +1,28 @@
--- `Monomial::degree` meets its contract: the sum so far, with that of the places left, is the degree. Assumes nothing.
-use mathlib.Core.Path.{◌≡◌}
-use Prim.Native.Nat.{ℕ, ◌+◌, ◌<◌, ◌≤◌}
-use native.Mathlib.Omega.{arith}
-use native.Mathlib.Numerals.{add-one}
-use borrow.Author.Rules.{rules}
-use lib.ListN.{length, get_or, drop, drop_of_length-le}
-use lib.Seq.{drop-cons}
+-- `Monomial::degree` meets its contract: the chain adds the exponents up. Assumes nothing.
+use Rattle.std.proofs.Common.{◌≡◌, ◌≤◌, ◌*◌, refl, ◌∙◌, sym, ℕ, length, get_or, Fits, w8, arith, rules, tests, sum_by}
+use Rattle.std.proofs.lemmas.Iterator.{YieldsList-from_slice, YieldsList-from_map}
+use Rattle.std.proofs.lemmas.Iterator.Consumers.{sum_by_from_yields_List, fits_by_from_yields_list}
+use Rattle.std.proofs.lemmas.List.Recursion.{is_sum_by}
 use Rattle.monomial.specs.Monomial.{Mono, width}
 use Rattle.monomial.specs.Degree.{degree}
+use Rattle.monomial.proofs.degree.Laws.{degree_most}
+use Rattle.monomial.proofs.product.Laws.{at_most_all}
 use Rattle.monomial.proofs.Monomial.degree.Goals as goal
 
-degree_at : (m : Mono) (i : ℕ) → i < length m → degree (drop i m) ≡ get_or m i 0 + degree (drop (i + 1) m)
+degree_sum : (m : Mono) → degree m ≡ sum_by (λ x. x) m
 unfolding degree
-degree_at m i h = rw (drop-cons m i 0 h, add-one i)
+degree_sum = is_sum_by degree (λ x. x) refl (λ _ _. refl)
 
-degree_end : (m : Mono) (i : ℕ) → length m ≤ i → degree (drop i m) ≡ 0
-unfolding degree
-degree_end m i h = rw (drop_of_length-le m h)
-
-pub loop-i-init : goal.loop-i-init
-loop-i-init c = (omega arith, (omega arith, omega arith))
-
-pub overflow_add-r : goal.overflow_add-r
-overflow_add-r c = record { fits = omega (arith, c.loop-i.invariant, c.wide-r.ensures) }
-
-pub loop-i-preserved : goal.loop-i-preserved
-loop-i-preserved c =
+pub sum-requires-clause-fits : goal.sum-requires-clause-fits
+sum-requires-clause-fits c =
     let es = c.args.self.e in
-    let l : length es ≡ width = search rules in
-    let k = c.loop-i in
-    let e = degree_at es k.i (omega arith) in
-    (omega arith, (omega (arith, k.invariant.1.0, c.wide-r.ensures), omega (arith, k.invariant.1.1, c.wide-r.ensures.0, e)))
+    let long : length es ≡ width = search rules in
+    let bytes : (k : ℕ) → Fits w8 (get_or es k 0) = λ k. search rules in
+    let most : degree es ≤ length es * 255 = degree_most 255 es (at_most_all 255 es (λ k. omega (arith, bytes k))) in
+    fits_by_from_yields_list (λ x. x) es c.map.result _ (YieldsList-from_map _ (λ x. x) (YieldsList-from_slice es cc) c.map.ensures.closure (λ x r q k. search (rules, tests))) (omega (arith, degree_sum es))
 
 pub returns : goal.returns
 returns c =
     let es = c.args.self.e in
-    let l : length es ≡ width = search rules in
-    let k = c.loop-i in
-    let e = degree_end es k.i (omega arith) in
-    omega (arith, k.invariant.1.1, e)
+    sum_by_from_yields_List (λ x. x) es c.map.result _ c.sum.ensures.ran (YieldsList-from_map _ (λ x. x) (YieldsList-from_slice es cc) c.map.ensures.closure (λ x r q k. search (rules, tests)))
+    ∙ sym (degree_sum es)

@@ -1,19 +1,14 @@
--- `Monomial::divides` meets its contract: the loop compares place by place (`Comparing`). Assumes nothing.
-use native.Mathlib.Omega.{arith}
-use borrow.Author.Tests.{lt-leb, le-leb}
+-- `Monomial::divides` meets its contract: the exponents are compared in pairs. Assumes nothing.
+use Rattle.std.proofs.Common.{rules, tests, ◌∙◌}
 use lib.Dec.{leb}
-use Rattle.monomial.proofs.Loops.{comparing_start, pairwise_fails, pairwise_on, pairwise_ends}
-use borrow.Author.Rules.{rules}
+use Rattle.std.proofs.lemmas.Iterator.{YieldsList-from_slice, YieldsList-from_zip}
+use Rattle.std.proofs.lemmas.Iterator.Search.{all_from_yields_List}
+use Rattle.monomial.proofs.Loops.{pairwise_zip}
 use Rattle.monomial.proofs.Monomial.divides.Goals as goal
 
-pub loop-i-init : goal.loop-i-init
-loop-i-init c = comparing_start (search rules) (search rules)
-
-pub returns-then-b-i : goal.returns-then-b-i
-returns-then-b-i c = pairwise_fails 0 leb c.loop-i.invariant (omega arith) (lt-leb _ _ c.if-b-i.true)
-
-pub loop-i-preserved : goal.loop-i-preserved
-loop-i-preserved c = pairwise_on 0 leb c.loop-i.invariant (omega arith) (le-leb _ _ c.if-b-i.false)
-
 pub returns : goal.returns
-returns c = pairwise_ends 0 leb c.loop-i.invariant (omega arith)
+returns c =
+    let a = c.args.self.e in
+    let b = c.args.other.e in
+    all_from_yields_List (λ p. leb p.0 p.1) c.all.new.self _ _ c.all.ensures.ran (YieldsList-from_zip (YieldsList-from_slice a cc) (YieldsList-from_slice b cc)) (λ x y q k. search (rules, tests))
+    ∙ pairwise_zip leb a b (search rules)

@@ -2,9 +2,6 @@
 use mathlib.Core.Path.{◌≡◌, subst}
 use Prim.Native.Nat.{ℕ, ◌+◌, ◌-◌, ◌<◌}
 use native.Mathlib.Omega.{arith}
-use lib.ListN.{get_or}
-use mir.Syntax.{w8}
-use mir.Val.{Fits}
 use Rattle.monomial.specs.Monomial.{Mono, width}
 use Rattle.monomial.proofs.divisors.Following.{Carrying, carrying_start, carrying_rises, carrying_on, carrying_ends}
 use borrow.Author.Rules.{rules}
@@ -17,17 +14,11 @@ at_above {m} {d} {r} i h v = let e : i ≡ i - 1 + 1 = omega arith in subst (Car
 pub loop-i-init : goal.loop-i-init
 loop-i-init c = carrying_start width _ _ (search rules) (search rules)
 
-pub overflow_add-r : goal.overflow_add-r
-overflow_add-r c =
-    let top = c.args.m.e in
-    let byte : Fits w8 (get_or top (c.loop-i.i - 1) 0) = search rules in
-    record { fits = omega arith }
-
-pub returns-then-r-i : goal.returns-then-r-i
-returns-then-r-i c = carrying_rises (c.loop-i.i - 1) (at_above c.loop-i.i (omega arith) c.loop-i.invariant) c.if-r-i.true
+pub returns-then-e-i : goal.returns-then-e-i
+returns-then-e-i c = carrying_rises (c.loop-i.i - 1) (at_above c.loop-i.i (omega arith) c.loop-i.invariant) c.if-e-i.true
 
 pub loop-i-preserved : goal.loop-i-preserved
-loop-i-preserved c = carrying_on (c.loop-i.i - 1) (at_above c.loop-i.i (omega arith) c.loop-i.invariant) c.if-r-i.false
+loop-i-preserved c = carrying_on (c.loop-i.i - 1) (at_above c.loop-i.i (omega arith) c.loop-i.invariant) c.if-e-i.false
 
-pub returns : goal.returns
-returns c = carrying_ends c.loop-i.invariant (omega arith)
+pub returns-after-loop-i : goal.returns-after-loop-i
+returns-after-loop-i c = carrying_ends c.loop-i.invariant (omega arith)

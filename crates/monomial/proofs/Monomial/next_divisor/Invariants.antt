@@ -4,7 +4,4 @@ use Rattle.monomial.proofs.divisors.Following.{Carrying}
 use Rattle.monomial.proofs.Monomial.next_divisor.Given as goal
 
 abbrev pub invariant-loop-i : goal.invariant-loop-i
-invariant-loop-i l = Carrying width l.top l.initial.r l.r l.i
-
-abbrev pub decreases-loop-i : goal.decreases-loop-i
-decreases-loop-i l = l.i
+invariant-loop-i l = Carrying width l.m.e l.initial.e l.e l.i

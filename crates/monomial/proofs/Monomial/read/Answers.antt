@@ -1,25 +1,15 @@
--- `Monomial::read` meets its contract: the loop fills the exponents place by place (`Filling`). Assumes nothing.
-use mathlib.Core.Path.{◌≡◌, refl, sym, ◌∙◌}
-use Prim.Native.Nat.{◌+◌}
-use native.Mathlib.Omega.{arith}
-use lib.ListN.{length, get_or, take, drop, length-drop}
+-- `Monomial::read` meets its contract: each exponent is the byte at its place behind the first. Assumes nothing.
+use Rattle.std.proofs.Common.{rules, tests, ◌∙◌, ◌+◌, arith, get_or, drop}
+use lib.ListN.{length-drop}
 use lib.Seq.{length-take-le, get_or-take, get_or-drop}
-use Rattle.monomial.proofs.Loops.{filling_start, filling_next, filling_end}
 use Rattle.monomial.specs.Monomial.{width}
+use Rattle.monomial.proofs.FromFn.{list_from_fn}
 use Rattle.monomial.proofs.Monomial.read.Goals as goal
-
-pub loop-i-init : goal.loop-i-init
-loop-i-init c = filling_start 0 width _ _ refl
-
-pub loop-i-preserved : goal.loop-i-preserved
-loop-i-preserved c =
-    let a = c.args in
-    let i = c.loop-i.i in
-    let long : length (take width (drop a.at a.s.now)) ≡ width = length-take-le width (drop a.at a.s.now) (simp length-drop (omega arith)) in
-    filling_next 0 (get_or a.s.now (a.at + i) 0) c.loop-i.invariant (omega arith) long
-    (sym (get_or-take width (drop a.at a.s.now) i 0 (omega arith) ∙ get_or-drop a.at a.s.now i 0))
 
 pub returns : goal.returns
 returns c =
-    let a = c.args in
-    filling_end 0 c.loop-i.invariant (omega arith) (length-take-le width (drop a.at a.s.now) (simp length-drop (omega arith)))
+    let s = c.args.s.now in
+    let at = c.args.at in
+    list_from_fn _ _ c.from_fn.result (λ i. get_or s (at + i) 0) width _ c.from_fn.ensures.items (λ i y q l k. search (rules, tests))
+    (length-take-le width (drop at s) (simp length-drop (omega arith)))
+    (λ i l. get_or-take width (drop at s) i 0 l ∙ get_or-drop at s i 0)

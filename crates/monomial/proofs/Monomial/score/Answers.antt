@@ -11,32 +11,29 @@ use borrow.Author.Rules.{rules}
 use Rattle.monomial.specs.Monomial.{width}
 use Rattle.monomial.proofs.Monomial.score.Goals as goal
 
-pub loop-i-init : goal.loop-i-init
-loop-i-init c = (omega arith, omega arith)
-
 pub overflow_mul-r : goal.overflow_mul-r
 overflow_mul-r c =
     let es = c.args.self.e in
     let l : length es ≡ width = search rules in
     let bytes : (k : ℕ) → Fits w8 (get_or es k 0) = λ k. search rules in
-    let k = c.loop-i in
-    let more = score_on es k.i k.r (omega arith) k.invariant.1 in
-    let part : (c.wide.result + 1) * k.r ≤ score es = rw c.wide.ensures.0 (score_part es (k.i + 1) ((get_or es k.i 0 + 1) * k.r) more) in
+    let k = c.loop-x in
+    let more = score_on es k.x-index k.r (omega arith) k.invariant in
+    let part : (c.from.result + 1) * k.r ≤ score es = rw c.from.ensures (score_part es (k.x-index + 1) ((get_or es k.x-index 0 + 1) * k.r) more) in
     let most : score es ≤ 256 ^ width = score_bytes es width l bytes in
     record { fits = omega arith }
 
-pub loop-i-preserved : goal.loop-i-preserved
-loop-i-preserved c =
+pub loop-x-preserved : goal.loop-x-preserved
+loop-x-preserved c =
     let es = c.args.self.e in
     let l : length es ≡ width = search rules in
-    let k = c.loop-i in
-    (omega arith, rw c.wide.ensures.0 (score_on es k.i k.r (omega arith) k.invariant.1))
+    let k = c.loop-x in
+    rw c.from.ensures (score_on es k.x-index k.r (omega arith) k.invariant)
 
 pub returns : goal.returns
 returns c =
     let es = c.args.self.e in
     let l : length es ≡ width = search rules in
-    let k = c.loop-i in
-    let e : score (drop k.i es) ≡ 1 = score_end es k.i (omega arith) in
-    let h : k.r * 1 ≡ score es = rw e at k.invariant.1 in
+    let k = c.loop-x in
+    let e : score (drop k.x-index es) ≡ 1 = score_end es k.x-index (omega arith) in
+    let h : k.r * 1 ≡ score es = rw e at k.invariant in
     omega arith

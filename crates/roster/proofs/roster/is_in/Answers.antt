@@ -1,38 +1,23 @@
--- `is_in` meets its contract: the loop looks through the set (`Seeking`). Assumes nothing.
-use mathlib.Core.Path.{◌≡◌, refl, sym, ap, ◌∙◌}
-use mathlib.Core.List.{[]}
-use native.Mathlib.Omega.{arith}
-use lib.ListN.{length}
+-- `is_in` meets its contract: a monomial of the set is looked for that is m. Assumes nothing.
+use Rattle.std.proofs.Common.{◌≡◌, List, [], ◌∷◌, Bool, ◌∙◌, ap, refl, sym, rules, take, map}
+use Rattle.std.proofs.lemmas.Iterator.{YieldsList-from_slice}
+use Rattle.std.proofs.lemmas.Iterator.Search.{any_from_yields_List}
+use Rattle.std.specs.List.{list_any, take-map}
+use borrow.Author.Tests.{tests}
+use Rattle.monomial.specs.Lists.{any}
 use Rattle.monomial.specs.Order.{same}
-use Rattle.monomial.proofs.Loops.{seeking_start, seeking_found, seeking_on, seeking_ends}
-use Rattle.wiring.specs.Panel.{cards}
-use Rattle.wiring.proofs.signals.Arrays.{array_length, front_length, front_at}
-use borrow.Author.Rules.{rules}
+use Rattle.monomial.specs.Monomial.{Mono}
+use Rattle.monomial.specs.declared.Monomial.{Monomial}
 use Rattle.roster.proofs.roster.is_in.Goals as goal
 
-pub loop-i-init : goal.loop-i-init
-loop-i-init c = (refl, seeking_start _ _)
-
-pub returns-then-same : goal.returns-then-same
-returns-then-same c =
-    let a = c.args in
-    let s = a.set in
-    let i = c.loop-i.i in
-    let six : length s.m ≡ cards = search (rules, array_length) in
-    let is = ap (same a.m.e) (front_at s.len s.m i [] (omega arith) (omega arith)) ∙ sym c.same.ensures ∙ c.if-same.true in
-    seeking_found _ [] c.loop-i.invariant.1 (omega (arith, front_length s.len s.m (omega arith))) is
-
-pub loop-i-preserved : goal.loop-i-preserved
-loop-i-preserved c =
-    let a = c.args in
-    let s = a.set in
-    let i = c.loop-i.i in
-    let six : length s.m ≡ cards = search (rules, array_length) in
-    let is = ap (same a.m.e) (front_at s.len s.m i [] (omega arith) (omega arith)) ∙ sym c.same.ensures ∙ c.if-same.false in
-    (refl, seeking_on _ [] c.loop-i.invariant.1 (omega (arith, front_length s.len s.m (omega arith))) is)
+-- one word for another
+any_list : (f : Mono → Bool) (l : List Monomial) → list_any (λ (x : Monomial). f x.e) l ≡ any f (map (λ (x : Monomial). x.e) l)
+unfolding any
+any_list f [] = refl
+any_list f (x ∷ l) = rw (any_list f l) refl
 
 pub returns : goal.returns
 returns c =
     let s = c.args.set in
-    let six : length s.m ≡ cards = search (rules, array_length) in
-    seeking_ends _ c.loop-i.invariant.1 (omega (arith, front_length s.len s.m (omega arith)))
+    let found = any_from_yields_List (λ (x : Monomial). same c.args.m.e x.e) _ _ c.any.result c.any.ensures.ran (YieldsList-from_slice _ c.iter.ensures.rest) (λ x b q k. search (rules, tests)) in
+    found ∙ any_list (same c.args.m.e) (take s.len s.m) ∙ ap (any (same c.args.m.e)) (sym (take-map (λ (x : Monomial). x.e) s.len s.m))

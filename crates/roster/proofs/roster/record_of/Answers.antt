@@ -1,5 +1,5 @@
 -- `record_of` meets its contract: the loop writes the monomials one behind the other (`Making`). Assumes nothing.
-use mathlib.Core.Path.{◌≡◌, refl, sym, subst}
+use mathlib.Core.Path.{◌≡◌, sym, subst}
 use mathlib.Core.List.{[]}
 use Prim.Native.Nat.{◌+◌, ◌≤◌}
 use native.Mathlib.Omega.{arith}
@@ -12,28 +12,28 @@ use borrow.Author.Rules.{rules}
 use Rattle.roster.proofs.roster.record_of.Goals as goal
 
 pub loop-i-init : goal.loop-i-init
-loop-i-init c = (refl, making_start _)
+loop-i-init c = making_start _
 
 pub slice_bounds-write-end : goal.slice_bounds-write-end
-slice_bounds-write-end c = sym c.loop-i.invariant.1.long
+slice_bounds-write-end c = sym c.loop-i.invariant.long
 
 pub write-requires : goal.write-requires
-write-requires c = omega (arith, c.loop-i.invariant.1.long)
+write-requires c = omega (arith, c.loop-i.invariant.long)
 
 pub loop-i-preserved : goal.loop-i-preserved
 loop-i-preserved c =
     let s = c.args.set in
     let k = c.loop-i in
     let six : length s.m ≡ cards = search (rules, array_length) in
-    let few : s.len ≤ length s.m = omega (arith, c.requires.0) in
+    let few : s.len ≤ length s.m = omega (arith, c.requires.fits) in
     let long = front_length s.len s.m few in
     let is = sym (front_at s.len s.m k.i [] (omega arith) few) in
-    let next = making_next (monomials_of s) (omega (arith, c.requires.0)) c.requires.1 k.invariant.1 _ (omega arith) is in
-    (refl, subst (λ b. Making (monomials_of s) b (k.i + 1)) (sym c.write.ensures) next)
+    let next = making_next (monomials_of s) (omega (arith, c.requires.fits)) c.requires.wide k.invariant _ (omega arith) is in
+    subst (λ b. Making (monomials_of s) b (k.i + 1)) (sym c.write.ensures) next
 
 pub returns : goal.returns
 returns c =
     let s = c.args.set in
     let six : length s.m ≡ cards = search (rules, array_length) in
-    let few : s.len ≤ length s.m = omega (arith, c.requires.0) in
-    (refl, making_end c.loop-i.invariant.1 (omega (arith, front_length s.len s.m few)))
+    let few : s.len ≤ length s.m = omega (arith, c.requires.fits) in
+    making_end c.loop-i.invariant (omega (arith, front_length s.len s.m few))

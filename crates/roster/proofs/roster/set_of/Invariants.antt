@@ -6,7 +6,4 @@ use Rattle.roster.proofs.roster.Joining.{Joining}
 use Rattle.roster.proofs.roster.set_of.Given as goal
 
 abbrev pub invariant-loop-i : goal.invariant-loop-i
-invariant-loop-i l = (l.i ≤ l.names.len) × (l.set.len ≤ cards) × Joining l.panel (monomials_of l.names) l.set l.i
-
-abbrev pub decreases-loop-i : goal.decreases-loop-i
-decreases-loop-i l = l.i
+invariant-loop-i l = (l.set.len ≤ cards) × Joining l.panel (monomials_of l.names) l.set l.i

@@ -29,7 +29,8 @@ returns-then-order-size c =
 
 pub join-requires : goal.join-requires
 join-requires c =
-    set_recorded c.args.n c.args.terms.now c.args.set c.requires.0
+    let r = set_recorded c.args.n c.args.terms.now c.args.set c.requires.0 in
+    record { fits = r.0; wide = r.1 }
 
 pub returns-then-size-order : goal.returns-then-size-order
 returns-then-size-order c =
@@ -43,7 +44,8 @@ returns-then-size-order c =
 
 pub join-requires-2 : goal.join-requires-2
 join-requires-2 c =
-    set_recorded c.args.n c.args.terms.now c.args.set c.requires.0
+    let r = set_recorded c.args.n c.args.terms.now c.args.set c.requires.0 in
+    record { fits = r.0; wide = r.1 }
 
 pub returns : goal.returns
 returns c =

@@ -25,8 +25,8 @@ cell_of-at-requires c =
     let room : length v.m ≡ most_signals = search (rules, array_length) in
     (c.requires.0, (c.requires.1.0, product_met v room c.requires.0 c.requires.1.0 c.args.a c.args.b c.requires.1.1.0 c.requires.1.1.1.0 _ c.times.ensures))
 
-pub coefficient_of-c-requires : goal.coefficient_of-c-requires
-coefficient_of-c-requires c = c.requires.1.1.1.1.0
+pub coefficient_of-requires : goal.coefficient_of-requires
+coefficient_of-requires c = c.requires.1.1.1.1.0
 
 pub bounds-cells-at : goal.bounds-cells-at
 bounds-cells-at c = c.cell_of-at.ensures.1
@@ -35,7 +35,7 @@ pub overflow_add-cells : goal.overflow_add-cells
 overflow_add-cells c =
     let p = c.requires.1.1.1.1 in
     let at = c.cell_of-at.result in
-    let q = c.coefficient_of-c in
+    let q = c.coefficient_of in
     sum_fits (held c.args.sums at) q.result (p.1 at) (rw q.ensures (signed_small _ _ p.0))
 
 pub bounds-cells-at-2 : goal.bounds-cells-at-2
@@ -46,7 +46,7 @@ returns c =
     let v = c.args.v in
     let p = c.requires.1.1.1.1 in
     let at = c.cell_of-at.result in
-    let q = c.coefficient_of-c in
+    let q = c.coefficient_of in
     let old = held c.args.sums at in
     let room : length v.m ≡ most_signals = search (rules, array_length) in
     let cells : length c.args.sums.cells ≡ pair_cells = search rules in

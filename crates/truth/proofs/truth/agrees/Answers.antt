@@ -4,8 +4,8 @@ use native.Mathlib.Omega.{arith}
 use borrow.Author.Rules.{rules}
 use lib.IntN.{ℤ, ◌-ℤ◌}
 use lib.ListN.{length}
-use mir.Syntax.{w32, w64}
-use mir.Val.{SFits, to_z, of_z}
+use mir.Syntax.{w64}
+use mir.Val.{SFits}
 use Rattle.monomial.specs.Monomial.{width}
 use Rattle.wiring.specs.Coefficient.{is_zero}
 use Rattle.wiring.proofs.Ints.{size_fits}
@@ -14,23 +14,14 @@ use Rattle.truth.specs.Sums.{held, agrees}
 use Rattle.truth.proofs.truth.Machine.{cell_fits, bits_same}
 use Rattle.truth.proofs.truth.agrees.Goals as goal
 
-pub cell_of-at-requires : goal.cell_of-at-requires
-cell_of-at-requires c = let p = c.requires.1 in (p.0, (p.1.0, p.1.1.1))
+pub cell_of-requires : goal.cell_of-requires
+cell_of-requires c = let p = c.requires.1 in (p.0, (p.1.0, p.1.1.1))
 
-pub bounds-cells-at : goal.bounds-cells-at
-bounds-cells-at c = c.cell_of-at.ensures.1
+pub bounds-sums-cell_of : goal.bounds-sums-cell_of
+bounds-sums-cell_of c = c.cell_of.ensures.1
 
-pub total-total-requires : goal.total-total-requires
-total-total-requires c = let p = c.requires in (p.0, p.1.1.1.0)
-
-pub overflow_cast-total : goal.overflow_cast-total
-overflow_cast-total c =
-    let terms = c.args.terms.now in
-    let z = c.args.z.e in
-    let m = c.args.m.e in
-    let long : length z ≡ width = search rules in
-    let small = c.requires.1.1.1.0 in
-    rw (total_held terms c.requires.0 z m long small _ c.total-total.ensures) (size_fits w64 _ (omega (arith, total_fits terms c.requires.0 z m long small)))
+pub total-requires : goal.total-requires
+total-requires c = let p = c.requires in (p.0, p.1.1.1.0)
 
 pub returns : goal.returns
 unfolding agrees
@@ -39,7 +30,9 @@ returns c =
     let z = c.args.z.e in
     let m = c.args.m.e in
     let long : length z ≡ width = search rules in
-    let at = c.cell_of-at in
+    let small = c.requires.1.1.1.0 in
+    let at = c.cell_of in
     let told : SFits w64 (held c.args.sums at.result) = search (rules, cell_fits) in
-    let total = total_held terms c.requires.0 z m long c.requires.1.1.1.0 _ c.total-total.ensures in
-    bits_same _ (to_z w32 (of_z w32 c.total-total.result)) told (overflow_cast-total c) ∙ ap₂ (λ (x y : ℤ). is_zero (x -ℤ y)) (ap (held c.args.sums) at.ensures.0) total
+    let total = c.from.ensures ∙ total_held terms c.requires.0 z m long small _ c.total.ensures in
+    let fits : SFits w64 c.from.result = rw total (size_fits w64 _ (omega (arith, total_fits terms c.requires.0 z m long small))) in
+    bits_same _ _ told fits ∙ ap₂ (λ (x y : ℤ). is_zero (x -ℤ y)) (ap (held c.args.sums) at.ensures.0) total

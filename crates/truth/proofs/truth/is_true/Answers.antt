@@ -1,5 +1,5 @@
 -- `is_true` meets its contract: the loop tests row after row (`Rows`), and what no row has is asked last (`decided_end`). Assumes nothing.
-use mathlib.Core.Path.{◌≡◌, refl}
+use mathlib.Core.Path.{◌≡◌}
 use Prim.Native.Nat.{◌<◌, ◌≤◌}
 use native.Mathlib.Omega.{arith}
 use borrow.Author.Rules.{rules}
@@ -13,7 +13,7 @@ use Rattle.truth.proofs.truth.Places.{long, within, at, small}
 use Rattle.truth.proofs.truth.is_true.Goals as goal
 
 pub loop-a-init : goal.loop-a-init
-loop-a-init c = (refl, (refl, rows_start _ _ _))
+loop-a-init c = rows_start _ _ _
 
 pub row_agrees-requires : goal.row_agrees-requires
 row_agrees-requires c =
@@ -21,7 +21,7 @@ row_agrees-requires c =
     let room : length v.m ≡ most_signals = search (rules, array_length) in
     let few = c.requires.1.0 in
     let wide = c.requires.1.1.0 in
-    (c.requires.0, (few, (wide, (small v room few wide c.args.left c.requires.1.1.1, omega (arith, c.loop-a.invariant.0)))))
+    (c.requires.0, (few, (wide, (small v room few wide c.args.left c.requires.1.1.1, omega arith))))
 
 pub returns-then-not-row_agrees : goal.returns-then-not-row_agrees
 returns-then-not-row_agrees c =
@@ -30,8 +30,8 @@ returns-then-not-row_agrees c =
     let room : length v.m ≡ most_signals = search (rules, array_length) in
     let few = c.requires.1.0 in
     let wide = c.requires.1.1.0 in
-    let ha : k.a < v.len = omega (arith, k.invariant.0) in
-    let fails = rows_fail _ _ _ k.a k.invariant.1.1 (within v room few wide k.a ha) _ c.row_agrees.ensures c.if-not-row_agrees.true in
+    let ha : k.a < v.len = omega arith in
+    let fails = rows_fail _ _ _ k.a k.invariant (within v room few wide k.a ha) _ c.row_agrees.ensures c.if-not-row_agrees.true in
     λ line told sums. decided_no _ _ _ line _ told sums _ (at v room few wide c.args.left c.requires.1.1.1) fails
 
 pub loop-a-preserved : goal.loop-a-preserved
@@ -41,8 +41,8 @@ loop-a-preserved c =
     let room : length v.m ≡ most_signals = search (rules, array_length) in
     let few = c.requires.1.0 in
     let wide = c.requires.1.1.0 in
-    let ha : k.a < v.len = omega (arith, k.invariant.0) in
-    (k.invariant.0, (k.invariant.1.0, rows_on _ _ _ k.a k.invariant.1.1 (within v room few wide k.a ha) _ c.row_agrees.ensures c.if-not-row_agrees.false))
+    let ha : k.a < v.len = omega arith in
+    rows_on _ _ _ k.a k.invariant (within v room few wide k.a ha) _ c.row_agrees.ensures c.if-not-row_agrees.false
 
 pub lacks_pair-requires : goal.lacks_pair-requires
 lacks_pair-requires c =
@@ -60,6 +60,6 @@ returns c =
     let room : length v.m ≡ most_signals = search (rules, array_length) in
     let few = c.requires.1.0 in
     let wide = c.requires.1.1.0 in
-    let all : length (signals_of v) ≤ k.a = omega (arith, k.invariant.0, long v room few wide) in
-    let rows = rows_end _ _ _ k.a k.invariant.1.1 all in
+    let all : length (signals_of v) ≤ k.a = omega (arith, long v room few wide) in
+    let rows = rows_end _ _ _ k.a k.invariant all in
     λ line told sums. decided_end _ _ _ line _ told sums _ (at v room few wide c.args.left c.requires.1.1.1) rows _ c.lacks_pair.ensures

@@ -15,7 +15,7 @@ use Rattle.truth.proofs.truth.Places.{long, within, product_fits, product_is, pr
 use Rattle.truth.proofs.truth.row_agrees.Goals as goal
 
 pub loop-b-init : goal.loop-b-init
-loop-b-init c = (refl, (refl, record { rest = refl }))
+loop-b-init c = record { rest = refl }
 
 pub times-requires : goal.times-requires
 times-requires c =
@@ -23,7 +23,7 @@ times-requires c =
     let k = c.loop-b in
     let room : length v.m ≡ most_signals = search (rules, array_length) in
     let few = c.requires.1.0 in
-    let hb : k.b < v.len = omega (arith, k.invariant.0) in
+    let hb : k.b < v.len = omega arith in
     product_fits v room few c.requires.1.1.0 c.args.a k.b c.requires.1.1.1.1 hb
 
 pub agrees-requires : goal.agrees-requires
@@ -32,7 +32,7 @@ agrees-requires c =
     let k = c.loop-b in
     let room : length v.m ≡ most_signals = search (rules, array_length) in
     let few = c.requires.1.0 in
-    let hb : k.b < v.len = omega (arith, k.invariant.0) in
+    let hb : k.b < v.len = omega arith in
     let met = product_met v room few c.requires.1.1.0 c.args.a k.b c.requires.1.1.1.1 hb _ c.times.ensures in
     (c.requires.0, (few, (c.requires.1.1.0, (c.requires.1.1.1.0, met))))
 
@@ -44,10 +44,10 @@ returns-then-not-agrees c =
     let room : length v.m ≡ most_signals = search (rules, array_length) in
     let few = c.requires.1.0 in
     let wide = c.requires.1.1.0 in
-    let hb : k.b < v.len = omega (arith, k.invariant.0) in
+    let hb : k.b < v.len = omega arith in
     let product = product_is v room few wide c.args.a k.b c.requires.1.1.1.1 hb _ c.times.ensures in
     let told = agrees_at _ _ _ _ _ _ product c.agrees.ensures in
-    from_fails (plain.one 0) k.invariant.1.1 (within v room few wide k.b hb) (told ∙ c.if-not-agrees.true)
+    from_fails (plain.one 0) k.invariant (within v room few wide k.b hb) (told ∙ c.if-not-agrees.true)
 
 pub loop-b-preserved : goal.loop-b-preserved
 loop-b-preserved c =
@@ -56,10 +56,10 @@ loop-b-preserved c =
     let room : length v.m ≡ most_signals = search (rules, array_length) in
     let few = c.requires.1.0 in
     let wide = c.requires.1.1.0 in
-    let hb : k.b < v.len = omega (arith, k.invariant.0) in
+    let hb : k.b < v.len = omega arith in
     let product = product_is v room few wide c.args.a k.b c.requires.1.1.1.1 hb _ c.times.ensures in
     let told = agrees_at _ _ _ _ _ _ product c.agrees.ensures in
-    (k.invariant.0, (k.invariant.1.0, from_on (plain.one 0) k.invariant.1.1 (within v room few wide k.b hb) (told ∙ c.if-not-agrees.false)))
+    from_on (plain.one 0) k.invariant (within v room few wide k.b hb) (told ∙ c.if-not-agrees.false)
 
 pub returns : goal.returns
 unfolding row_agrees
@@ -67,4 +67,4 @@ returns c =
     let v = c.args.v in
     let k = c.loop-b in
     let room : length v.m ≡ most_signals = search (rules, array_length) in
-    from_ends [] k.invariant.1.1 (omega (arith, k.invariant.0, long v room c.requires.1.0 c.requires.1.1.0))
+    from_ends [] k.invariant (omega (arith, long v room c.requires.1.0 c.requires.1.1.0))

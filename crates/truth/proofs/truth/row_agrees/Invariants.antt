@@ -1,8 +1,7 @@
 -- `row_agrees` meets its contract: the loop tests the signals from a on (`CheckingFrom`). Assumes nothing.
-use mathlib.Core.Path.{◌≡◌}
 use mathlib.Core.Bool.{Bool}
 use mathlib.Core.List.{List}
-use Prim.Native.Nat.{ℕ, ◌-◌}
+use Prim.Native.Nat.{ℕ}
 use Rattle.monomial.specs.Monomial.{Mono}
 use Rattle.monomial.specs.Product.{mul}
 use Rattle.monomial.specs.declared.Monomial.{Monomial}
@@ -13,7 +12,6 @@ use Rattle.wiring.specs.Signals.{signals_of}
 use Rattle.wiring.specs.Terms.{records, system}
 use Rattle.wiring.specs.Wires.{signal}
 use Rattle.wiring.specs.declared.signals.Signals.{Signals}
-use Rattle.wiring.proofs.signals.Arrays.{entry}
 use Rattle.truth.specs.Sums.{agrees}
 use Rattle.truth.specs.declared.truth.Sums.{Sums}
 use Rattle.truth.proofs.truth.row_agrees.Given as goal
@@ -23,7 +21,4 @@ abbrev pub test_of : List ℕ → Signals → Sums → Monomial → ℕ → Mono
 test_of terms v sums z a y = agrees (signals_of v) sums (derivative plain (system (records terms)) z.e) (mul (signal plain (signals_of v) a) y)
 
 abbrev pub invariant-loop-b : goal.invariant-loop-b
-invariant-loop-b l = (l.len ≡ l.v.len) × ((l.x.e ≡ entry l.v.m l.a) × CheckingFrom (test_of l.terms l.v l.sums l.z l.a) (signals_of l.v) l.a l.b)
-
-abbrev pub decreases-loop-b : goal.decreases-loop-b
-decreases-loop-b l = l.len - l.b
+invariant-loop-b l = CheckingFrom (test_of l.terms l.v l.sums l.z l.a) (signals_of l.v) l.a l.b

@@ -1,63 +1,102 @@
 -- `line_at` meets its contract: by its number the heading, a name's line, the blank line, a derivative's line, or none. Assumes nothing.
-use mathlib.Core.Path.{◌≡◌, sym, ◌∙◌}
-use mathlib.Core.List.{[]}
-use Prim.Native.Nat.{suc, ◌+◌, ◌-◌, ◌<◌}
-use native.Mathlib.Omega.{arith}
-use lib.ListN.{length, take}
+use Rattle.std.proofs.Common.{◌≡◌, refl, [], suc, ◌+◌, ◌-◌, ◌<◌, length, take, sym, ◌∙◌, arith}
 use Rattle.wiring.specs.Sets.{places}
 use Rattle.wiring.proofs.sets.Laws.{used_length, used_at}
+use Rattle.lines.proofs.Told.{told_yes, told_no}
 use Rattle.listing.specs.Lines.{left_of}
-use Rattle.lines.proofs.text.Laws.{shown, stands_nothing}
+use Rattle.listing.proofs.Lines.{left_none, left_here}
 use Rattle.typed.specs.Typed.{wires_in}
 use Rattle.typed.proofs.typed.Numbers.{heading_first, name_next, blank_next, derivative_next, none_next}
+use Rattle.typed.proofs.typed.Exact.{typed_length}
 use Rattle.typed.proofs.typed.line_at.Goals as goal
 
-pub returns-then-j-eq0 : goal.returns-then-j-eq0
-returns-then-j-eq0 c =
+pub returns-then-j-eq0-clause-text : goal.returns-then-j-eq0-clause-text
+returns-then-j-eq0-clause-text c =
     let q = c.args in
     let s = take q.size (places q.set.now) in
-    let ws = wires_in q.count q.wires.now in
-    let whole = rw (heading_first q.known s ws q.j c.if-j-eq0.true) at c.put_text.ensures in
-    (shown whole, whole)
+    rw (c.put_text.ensures, c.clear.ensures) (heading_first q.known s (wires_in q.count q.wires.now) q.j c.if-j-eq0.true)
 
-pub returns-then-i-size : goal.returns-then-i-size
-returns-then-i-size c =
+pub returns-then-j-eq0-clause-there : goal.returns-then-j-eq0-clause-there
+returns-then-j-eq0-clause-there c =
+    let q = c.args in
+    let long = typed_length q.known (take q.size (places q.set.now)) (wires_in q.count q.wires.now) in
+    told_yes (omega arith)
+
+pub returns-then-i-size-clause-text : goal.returns-then-i-size-clause-text
+returns-then-i-size-clause-text c =
     let q = c.args in
     let s = take q.size (places q.set.now) in
     let ws = wires_in q.count q.wires.now in
-    let inside : q.j - 1 < length s = rw (used_length q.set.now q.size c.requires.1.0) c.if-i-size.true in
-    let at = used_at q.set.now q.size c.requires.1.0 (q.j - 1) [] c.if-i-size.true in
+    let inside : q.j - 1 < length s = rw (used_length q.set.now q.size c.requires.small) c.if-i-size.true in
+    let at = used_at q.set.now q.size c.requires.small (q.j - 1) [] c.if-i-size.true in
     rw (← at, name_next q.known s ws q.j [] c.if-j-eq0.false inside) at (c.name_line.ensures q.known)
 
-pub returns-then-i-size-2 : goal.returns-then-i-size-2
-returns-then-i-size-2 c =
+pub returns-then-i-size-clause-there : goal.returns-then-i-size-clause-there
+returns-then-i-size-clause-there c =
     let q = c.args in
-    let s = take q.size (places q.set.now) in
-    let ws = wires_in q.count q.wires.now in
-    let last : q.j - 1 ≡ length s = c.if-i-size-2.true ∙ sym (used_length q.set.now q.size c.requires.1.0) in
-    let whole = rw (blank_next q.known s ws q.j c.if-j-eq0.false last) at c.put_text-then-i-size-2.ensures in
-    (shown whole, whole)
+    let size = used_length q.set.now q.size c.requires.small in
+    let long = typed_length q.known (take q.size (places q.set.now)) (wires_in q.count q.wires.now) in
+    told_yes (omega arith)
 
-pub returns-then-l-eq0 : goal.returns-then-l-eq0
-returns-then-l-eq0 c =
+pub returns-then-i-size-2-clause-text : goal.returns-then-i-size-2-clause-text
+returns-then-i-size-2-clause-text c =
     let q = c.args in
     let s = take q.size (places q.set.now) in
-    let ws = wires_in q.count q.wires.now in
-    let i = q.j - 1 - q.size - 1 in
-    let long : length s ≡ q.size = used_length q.set.now q.size c.requires.1.0 in
-    let at : q.j - 1 ≡ length s + suc i = omega (arith, c.if-i-size.false, c.if-i-size-2.false) in
-    let l = c.left_of-l.result in
-    let is : l ≡ left_of q.known (length s) i = rw long c.left_of-l.ensures.0 in
-    rw (← none_next q.known s ws q.j i l c.if-j-eq0.false at is c.if-l-eq0.true) (stands_nothing _)
+    let last : q.j - 1 ≡ length s = c.if-i-size-2.true ∙ sym (used_length q.set.now q.size c.requires.small) in
+    rw (c.put_text-then-i-size-2.ensures, c.clear.ensures) (blank_next q.known s (wires_in q.count q.wires.now) q.j c.if-j-eq0.false last)
 
-pub returns : goal.returns
-returns c =
+pub returns-then-i-size-2-clause-there : goal.returns-then-i-size-2-clause-there
+returns-then-i-size-2-clause-there c =
+    let q = c.args in
+    let size = used_length q.set.now q.size c.requires.small in
+    let long = typed_length q.known (take q.size (places q.set.now)) (wires_in q.count q.wires.now) in
+    told_yes (omega arith)
+
+pub returns-in_default-clause-text : goal.returns-in_default-clause-text
+returns-in_default-clause-text c =
     let q = c.args in
     let s = take q.size (places q.set.now) in
-    let ws = wires_in q.count q.wires.now in
     let i = q.j - 1 - q.size - 1 in
-    let long : length s ≡ q.size = used_length q.set.now q.size c.requires.1.0 in
+    let long : length s ≡ q.size = used_length q.set.now q.size c.requires.small in
     let at : q.j - 1 ≡ length s + suc i = omega (arith, c.if-i-size.false, c.if-i-size-2.false) in
-    let l = c.left_of-l.result in
-    let is : l ≡ left_of q.known (length s) i = rw long c.left_of-l.ensures.0 in
-    rw (derivative_next q.known s ws q.j i l c.if-j-eq0.false at is c.if-l-eq0.false) at c.derivative_line.ensures
+    let number : 0 ≡ left_of q.known q.size i = rw c.in_default.is at c.left_of.ensures.number in
+    let is : 0 ≡ left_of q.known (length s) i = rw long number in
+    c.clear.ensures ∙ none_next q.known s (wires_in q.count q.wires.now) q.j i 0 c.if-j-eq0.false at is refl
+
+pub returns-in_default-clause-there : goal.returns-in_default-clause-there
+returns-in_default-clause-there c =
+    let q = c.args in
+    let s = take q.size (places q.set.now) in
+    let i = q.j - 1 - q.size - 1 in
+    let size : length s ≡ q.size = used_length q.set.now q.size c.requires.small in
+    let number : 0 ≡ left_of q.known q.size i = rw c.in_default.is at c.left_of.ensures.number in
+    let is : 0 ≡ left_of q.known (length s) i = rw size number in
+    let past = left_none q.known (length s) i (sym is) in
+    let long = typed_length q.known s (wires_in q.count q.wires.now) in
+    told_no (omega (arith, c.if-i-size.false, c.if-i-size-2.false))
+
+pub returns-clause-text : goal.returns-clause-text
+returns-clause-text c =
+    let q = c.args in
+    let s = take q.size (places q.set.now) in
+    let i = q.j - 1 - q.size - 1 in
+    let long : length s ≡ q.size = used_length q.set.now q.size c.requires.small in
+    let at : q.j - 1 ≡ length s + suc i = omega (arith, c.if-i-size.false, c.if-i-size-2.false) in
+    let l = c.in-Some.l in
+    let number : l ≡ left_of q.known q.size i = rw c.in-Some.is at c.left_of.ensures.number in
+    let is : l ≡ left_of q.known (length s) i = rw long number in
+    let within = rw c.in-Some.is at c.left_of.ensures.within in
+    c.derivative_line.ensures ∙ derivative_next q.known s (wires_in q.count q.wires.now) q.j i l c.if-j-eq0.false at is (λ z. omega (arith, within.0))
+
+pub returns-clause-there : goal.returns-clause-there
+returns-clause-there c =
+    let q = c.args in
+    let s = take q.size (places q.set.now) in
+    let i = q.j - 1 - q.size - 1 in
+    let size : length s ≡ q.size = used_length q.set.now q.size c.requires.small in
+    let number : c.in-Some.l ≡ left_of q.known q.size i = rw c.in-Some.is at c.left_of.ensures.number in
+    let is : c.in-Some.l ≡ left_of q.known (length s) i = rw size number in
+    let within = rw c.in-Some.is at c.left_of.ensures.within in
+    let here = left_here q.known (length s) i (λ g. let z : c.in-Some.l ≡ 0 = is ∙ g in omega (arith, within.0)) in
+    let long = typed_length q.known s (wires_in q.count q.wires.now) in
+    told_yes (omega (arith, c.if-i-size.false, c.if-i-size-2.false))

@@ -1,31 +1,28 @@
 -- `put_names` meets its contract: way by way out of its tests. Assumes nothing.
-use native.Mathlib.Omega.{arith}
+use Rattle.std.proofs.Common.{sym, append-nil, append_assoc}
 use Rattle.grammar.specs.Grammar.{names_text}
-use Rattle.lines.proofs.text.Laws.{adds, adds_nothing}
 use Rattle.typed.proofs.typed.Laws.{names_none, names_alone, names_square, names_both}
 use Rattle.typed.proofs.typed.put_names.Goals as goal
 
-pub returns-then-b-eq0 : goal.returns-then-b-eq0
+pub returns-then-b-ne0-clause-text : goal.returns-then-b-ne0-clause-text
 unfolding names_text
-returns-then-b-eq0 c = rw (names_none _ _ c.if-a-eq0.true c.if-b-eq0.true) (adds_nothing _ _ (omega arith), omega arith)
+returns-then-b-ne0-clause-text c = rw (c.put_signal.ensures.text, names_alone c.args.a c.args.b c.if-a-eq0.true c.if-b-ne0.true)
 
-pub returns-then-a-eq0 : goal.returns-then-a-eq0
+pub returns-else-b-ne0-clause-text : goal.returns-else-b-ne0-clause-text
 unfolding names_text
-returns-then-a-eq0 c =
-    let put = c.put_signal.ensures in
-    rw (names_alone _ _ c.if-a-eq0.true c.if-b-eq0.false) (put, omega (arith, put.ends))
+returns-else-b-ne0-clause-text c = rw (names_none c.args.a c.args.b c.if-a-eq0.true c.if-b-ne0.false) (sym (append-nil c.args.line.now))
 
-pub returns-then-a-b : goal.returns-then-a-b
+pub returns-then-a-b-clause-text : goal.returns-then-a-b-clause-text
 unfolding names_text
-returns-then-a-b c =
-    let first = c.put_signal-end.ensures in
-    let power = c.put_text.ensures in
-    rw (names_square _ _ c.if-a-eq0.false c.if-a-b.true) (adds first power, omega (arith, first.ends, power.ends))
+returns-then-a-b-clause-text c =
+    rw (c.put_text.ensures, c.put_signal-2.ensures.text, names_square c.args.a c.args.b c.if-a-eq0.false c.if-a-b.true) (append_assoc c.args.line.now _ _)
 
-pub returns : goal.returns
+pub returns-else-a-b-clause-text : goal.returns-else-a-b-clause-text
 unfolding names_text
-returns c =
-    let first = c.put_signal-end.ensures in
-    let times = c.put_text-next.ensures in
-    let second = c.put_signal-2.ensures in
-    rw (names_both _ _ c.if-a-eq0.false c.if-a-b.false) (adds first (adds times second), omega (arith, first.ends, times.ends, second.ends))
+returns-else-a-b-clause-text c =
+    rw (
+      c.put_signal-else-a-b.ensures.text,
+      c.put_text-else-a-b.ensures,
+      c.put_signal-2.ensures.text,
+      names_both c.args.a c.args.b c.if-a-eq0.false c.if-a-b.false,
+    ) (simp append_assoc)

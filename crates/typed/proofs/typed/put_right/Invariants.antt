@@ -1,11 +1,7 @@
 -- `put_right` meets its contract: the loop puts term after term (`Summing`). Assumes nothing.
-use Prim.Native.Nat.{◌+◌, ◌*◌, ◌-◌, ◌≤◌}
 use Rattle.typed.specs.Typed.{wires_in}
 use Rattle.typed.proofs.typed.Laws.{Summing}
 use Rattle.typed.proofs.typed.put_right.Given as goal
 
 abbrev pub invariant-loop-j : goal.invariant-loop-j
-invariant-loop-j l = (l.end ≤ l.at + 29 * l.j) × ((l.i ≤ l.j) × Summing l.known l.l (wires_in l.count l.wires) l.j l.i l.at l.end l.initial.line l.line)
-
-abbrev pub decreases-loop-j : goal.decreases-loop-j
-decreases-loop-j l = l.count - l.j
+invariant-loop-j l = Summing l.known l.l (wires_in l.count l.wires) l.j l.i l.initial.line l.line

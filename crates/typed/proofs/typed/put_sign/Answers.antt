@@ -1,26 +1,21 @@
 -- `put_sign` meets its contract: way by way out of its tests. Assumes nothing.
-use native.Mathlib.Omega.{arith}
-use Rattle.lines.proofs.text.Laws.{adds_nothing}
+use Rattle.std.proofs.Common.{sym, append-nil}
 use Rattle.typed.specs.Typed.{sign_text}
 use Rattle.typed.proofs.typed.Laws.{sign_later}
 use Rattle.typed.proofs.typed.put_sign.Goals as goal
 
-pub returns-then-negative : goal.returns-then-negative
+pub returns-then-negative-clause-text : goal.returns-then-negative-clause-text
 unfolding sign_text
-returns-then-negative c =
-    let put = c.put_text.ensures in
-    rw (c.if-i-eq0.true, c.if-negative.true) (put, omega (arith, put.ends))
+returns-then-negative-clause-text c = rw (c.put_text.ensures, c.if-i-eq0.true, c.if-negative.true)
 
-pub returns-then-i-eq0 : goal.returns-then-i-eq0
+pub returns-else-negative-clause-text : goal.returns-else-negative-clause-text
 unfolding sign_text
-returns-then-i-eq0 c = rw (c.if-i-eq0.true, c.if-negative.false) (adds_nothing _ _ (omega arith), omega arith)
+returns-else-negative-clause-text c = rw (c.if-i-eq0.true, c.if-negative.false) (sym (append-nil c.args.line.now))
 
-pub returns-then-negative-2 : goal.returns-then-negative-2
-returns-then-negative-2 c =
-    let put = c.put_text-then-negative-2.ensures in
-    rw (sign_later _ _ c.if-i-eq0.false, c.if-negative-2.true) (put, omega (arith, put.ends))
+pub returns-then-negative-2-clause-text : goal.returns-then-negative-2-clause-text
+returns-then-negative-2-clause-text c =
+    rw (c.put_text-then-negative-2.ensures, sign_later _ c.args.negative c.if-i-eq0.false, c.if-negative-2.true)
 
-pub returns : goal.returns
-returns c =
-    let put = c.put_text-2.ensures in
-    rw (sign_later _ _ c.if-i-eq0.false, c.if-negative-2.false) (put, omega (arith, put.ends))
+pub returns-else-negative-2-clause-text : goal.returns-else-negative-2-clause-text
+returns-else-negative-2-clause-text c =
+    rw (c.put_text-else-negative-2.ensures, sign_later _ c.args.negative c.if-i-eq0.false, c.if-negative-2.false)

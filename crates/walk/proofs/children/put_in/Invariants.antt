@@ -4,6 +4,3 @@ use Rattle.walk.proofs.children.put_in.Given as goal
 
 abbrev pub invariant-loop-i : goal.invariant-loop-i
 invariant-loop-i l = Inserting l.m.e l.len l.initial.s l.s l.i
-
-abbrev pub decreases-loop-i : goal.decreases-loop-i
-decreases-loop-i l = l.i

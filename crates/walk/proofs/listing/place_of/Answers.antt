@@ -1,43 +1,43 @@
--- `place_of` meets its contract: the loop passes the finds that stand before the set (`Placing`). Assumes nothing.
+-- `place_of` meets its contract: the loop passes the finds that stand before the set (`Placing`), and none of them is it (`Seeking`). Assumes nothing.
 use mathlib.Core.Path.{sym, ap, ◌∙◌}
 use mathlib.Core.Bool.{not}
 use mathlib.Core.List.{[]}
 use native.Mathlib.Omega.{arith}
-use Rattle.monomial.proofs.Loops.{placing_start, placing_found, placing_on, placing_ends}
-use Rattle.walk.proofs.listing.Finds.{cut_length, shown_before}
+use Rattle.monomial.proofs.Loops.{placing_start, placing_found, placing_on, placing_ends, seeking_start, seeking_found, seeking_on, seeking_ends}
+use Rattle.walk.proofs.listing.Finds.{cut_length, shown_before, shown_same, shown_passed}
 use Rattle.walk.proofs.listing.place_of.Goals as goal
 
 pub loop-i-init : goal.loop-i-init
-loop-i-init c = (omega arith, λ finds s. placing_start _ finds)
+loop-i-init c = λ finds s. (seeking_start _ finds, placing_start _ finds)
 
-pub stands_before-requires : goal.stands_before-requires
-stands_before-requires c =
-    (cut_length c.args.s.now c.loop-i.i (omega (arith, c.requires.1)), c.requires.0)
+pub compare-requires : goal.compare-requires
+compare-requires c = record { whole = cut_length c.args.s.now c.loop-i.i (omega (arith, c.requires.room)); lies = c.requires.lies }
 
-pub returns-then-not-stands_before : goal.returns-then-not-stands_before
-returns-then-not-stands_before c =
+pub returns-in-Equal-clause-sought : goal.returns-in-Equal-clause-sought
+returns-in-Equal-clause-sought c =
     let k = c.loop-i in
-    let own = c.requires.0.recorded in (
-      omega arith,
-      λ finds s.
-          let here = ap not (sym (shown_before s _ own k.i (omega arith)) ∙ sym c.stands_before.ensures ∙ c.if-not-stands_before.true) in
-          placing_found _ [] (k.invariant.1 finds s) (omega (arith, s.counted)) here,
-    )
+    let own = c.requires.lies.recorded in
+    λ finds s. sym (seeking_found _ [] (k.invariant finds s).0 (omega (arith, s.counted)) (sym (shown_same s _ own k.i (omega arith)) ∙ c.in-Equal.ensures))
+
+pub returns-in-Greater-clause-sought : goal.returns-in-Greater-clause-sought
+returns-in-Greater-clause-sought c =
+    let k = c.loop-i in
+    let own = c.requires.lies.recorded in
+    λ finds s.
+    let unlike = sym (shown_same s _ own k.i (omega arith)) ∙ c.in-Greater.ensures.0 in
+    let behind = sym (shown_before s _ own k.i (omega arith)) ∙ c.in-Greater.ensures.1 in
+    (shown_passed s _ own k.i (omega arith) (k.invariant finds s).0 unlike behind, placing_found _ [] (k.invariant finds s).1 (omega (arith, s.counted)) (ap not behind))
 
 pub loop-i-preserved : goal.loop-i-preserved
 loop-i-preserved c =
     let k = c.loop-i in
-    let own = c.requires.0.recorded in (
-      omega arith,
-      λ finds s.
-          let on = ap not (sym (shown_before s _ own k.i (omega arith)) ∙ sym c.stands_before.ensures ∙ c.if-not-stands_before.false) in
-          placing_on _ [] (k.invariant.1 finds s) (omega (arith, s.counted)) on,
-    )
+    let own = c.requires.lies.recorded in
+    λ finds s.
+    let unlike = sym (shown_same s _ own k.i (omega arith)) ∙ c.in-Less.ensures.0 in
+    let ahead = sym (shown_before s _ own k.i (omega arith)) ∙ c.in-Less.ensures.1 in
+    (seeking_on _ [] (k.invariant finds s).0 (omega (arith, s.counted)) unlike, placing_on _ [] (k.invariant finds s).1 (omega (arith, s.counted)) (ap not ahead))
 
-pub returns : goal.returns
-returns c = (
-  omega arith,
-  λ finds s.
-      let all = placing_ends _ (c.loop-i.invariant.1 finds s) (omega (arith, s.counted)) in
-      omega (arith, all, s.counted),
-)
+pub returns-clause-sought : goal.returns-clause-sought
+returns-clause-sought c = λ finds s.
+    let all = placing_ends _ (c.loop-i.invariant finds s).1 (omega (arith, s.counted)) in
+    (sym (seeking_ends _ (c.loop-i.invariant finds s).0 (omega (arith, s.counted))), omega (arith, all, s.counted))

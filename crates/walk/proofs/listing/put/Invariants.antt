@@ -1,5 +1,4 @@
 -- `put` meets its contract: the loop pastes the bytes of the record over the buffer (`Pasting`). Assumes nothing.
-use Prim.Native.Nat.{◌-◌}
 use Rattle.monomial.proofs.Loops.{Pasting}
 use Rattle.wiring.specs.Panel.{set_bytes}
 use Rattle.wiring.specs.Signals.{tabled}
@@ -8,6 +7,3 @@ use Rattle.walk.proofs.listing.put.Given as goal
 
 abbrev pub invariant-loop-i : goal.invariant-loop-i
 invariant-loop-i l = Pasting 0 set_bytes l.at (set_record (tabled l.set)) l.initial.out l.out l.i
-
-abbrev pub decreases-loop-i : goal.decreases-loop-i
-decreases-loop-i l = set_bytes - l.i

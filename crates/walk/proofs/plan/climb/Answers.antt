@@ -1,5 +1,6 @@
 -- `climb` meets its contract: no set is found below level k, and the levels from k on are the plan (`Climbing`). Assumes nothing.
-use mathlib.Core.Path.{refl, sym, ◌∙◌}
+use mathlib.Core.Path.{refl, sym, ap, ◌∙◌}
+use Rattle.std.specs.Prelude.{Err}
 use mathlib.Core.List.{[]}
 use native.Mathlib.Omega.{arith}
 use lib.ListN.{length}
@@ -11,12 +12,12 @@ use Rattle.walk.proofs.walk.Runner.{empty_openable}
 use Rattle.walk.proofs.plan.climb.Goals as goal
 
 pub may_cancel-cancels-requires : goal.may_cancel-cancels-requires
-may_cancel-cancels-requires c = c.requires.1.1.0
+may_cancel-cancels-requires c = c.requires.clean
 
 pub loop-k-init : goal.loop-k-init
 loop-k-init c =
     let a = c.args in
-    (climb_start (kit_rules a.panel) a.panel.n (system (records a.terms.now)) a.limit a.cap (length a.out.now) a.out.now refl c.requires.1.1.1 (omega arith), refl)
+    (climb_start (kit_rules a.panel) a.panel.n (system (records a.terms.now)) a.limit a.cap (length a.out.now) a.out.now refl c.requires.blank (omega arith), refl)
 
 pub slice_bounds-open-end : goal.slice_bounds-open-end
 slice_bounds-open-end c = sym c.loop-k.invariant.1
@@ -24,31 +25,23 @@ slice_bounds-open-end c = sym c.loop-k.invariant.1
 pub open-requires : goal.open-requires
 open-requires c =
     let p = c.requires in
-    let k = c.loop-k in (
-      record {
-        opening = empty_openable c.args.panel.n c.args.terms.now k.k (omega (arith, p.1.0, c.loop-k-test.true)) p.0 p.1.1.0;
+    let k = c.loop-k in
+    record {
+      ready = record {
+        opening = empty_openable c.args.panel.n c.args.terms.now k.k (omega (arith, p.capped, c.loop-k-test.true)) p.few p.clean;
         showing = record { finds = []; shown = shown_none k.out k.invariant.0.blank };
-      },
-      record { summed = c.may_cancel-cancels.ensures; roomy = omega (arith, k.invariant.1) },
-    )
+      };
+      means = record { summed = c.may_cancel-cancels.ensures; roomy = omega (arith, k.invariant.1) };
+    }
 
-pub shape_of-out-then-count-gt0 : goal.shape_of-out-then-count-gt0
-shape_of-out-then-count-gt0 c =
-    c.«open».auto.out ∙ c.loop-k.invariant.0.long
-
-pub returns-then-count-gt0 : goal.returns-then-count-gt0
-returns-then-count-gt0 c =
+pub returns-then-s-gt0 : goal.returns-then-s-gt0
+returns-then-s-gt0 c =
     let k = c.loop-k in
     let r = c.«open» in
     let low = c.loop-k-test.true in
     let a = c.args in
     let told = opening_at (kit_rules a.panel) a.panel.n (system (records a.terms.now)) a.limit a.cap (length a.out.now) k.k k.steps k.out r.result r.new.out _ tabled_none r.ensures in
-    climb_done k.invariant.0 low r.result r.new.out told r.auto.out c.in-Going.s c.in-Going.is c.if-count-gt0.true
-
-pub shape_of-out-in-Spent : goal.shape_of-out-in-Spent
-shape_of-out-in-Spent c =
-    c.clear.auto.out ∙ c.«open».auto.out
-    ∙ c.loop-k.invariant.0.long
+    climb_done k.invariant.0 low r.result r.new.out told r.auto.out c.in-Ok.s c.in-Ok.is c.if-s-gt0.true
 
 pub returns-in-Spent : goal.returns-in-Spent
 returns-in-Spent c =
@@ -57,13 +50,7 @@ returns-in-Spent c =
     let low = c.loop-k-test.true in
     let a = c.args in
     let told = opening_at (kit_rules a.panel) a.panel.n (system (records a.terms.now)) a.limit a.cap (length a.out.now) k.k k.steps k.out r.result r.new.out _ tabled_none r.ensures in
-    climb_spent k.invariant.0 low r.result r.new.out told r.auto.out _ c.clear.ensures
-    c.in-Spent.is
-
-pub shape_of-out-in-Full : goal.shape_of-out-in-Full
-shape_of-out-in-Full c =
-    c.clear-in-Full.auto.out ∙ c.«open».auto.out
-    ∙ c.loop-k.invariant.0.long
+    climb_spent k.invariant.0 low r.result r.new.out told r.auto.out _ c.clear.ensures (c.in-Err.is ∙ ap Err c.in-Spent.is)
 
 pub returns-in-Full : goal.returns-in-Full
 returns-in-Full c =
@@ -72,7 +59,7 @@ returns-in-Full c =
     let low = c.loop-k-test.true in
     let a = c.args in
     let told = opening_at (kit_rules a.panel) a.panel.n (system (records a.terms.now)) a.limit a.cap (length a.out.now) k.k k.steps k.out r.result r.new.out _ tabled_none r.ensures in
-    climb_full k.invariant.0 low r.result r.new.out told r.auto.out _ c.clear-in-Full.ensures c.in-Full.taken c.in-Full.is
+    climb_full k.invariant.0 low r.result r.new.out told r.auto.out _ c.clear.ensures c.in-Full.steps (c.in-Err.is ∙ ap Err c.in-Full.is)
 
 pub loop-k-preserved : goal.loop-k-preserved
 loop-k-preserved c =
@@ -81,7 +68,7 @@ loop-k-preserved c =
     let low = c.loop-k-test.true in
     let a = c.args in
     let told = opening_at (kit_rules a.panel) a.panel.n (system (records a.terms.now)) a.limit a.cap (length a.out.now) k.k k.steps k.out r.result r.new.out _ tabled_none r.ensures in
-    (climb_on k.invariant.0 low r.result r.new.out told r.auto.out c.in-Going.s c.in-Going.is c.if-count-gt0.false, r.auto.list ∙ k.invariant.1)
+    (climb_on k.invariant.0 low r.result r.new.out told r.auto.out c.in-Ok.s c.in-Ok.is c.if-s-gt0.false, r.auto.list ∙ k.invariant.1)
 
 pub shape_of-out : goal.shape_of-out
 shape_of-out c = c.loop-k.invariant.0.long

@@ -1,6 +1,5 @@
 -- `climb` meets its contract: no set is found below level k, and the levels from k on are the plan (`Climbing`). Assumes nothing.
 use mathlib.Core.Path.{◌≡◌}
-use Prim.Native.Nat.{◌+◌, ◌-◌}
 use lib.ListN.{length}
 use Rattle.wiring.specs.Terms.{records, system}
 use Rattle.counting.specs.Verdict.{list_bytes}
@@ -10,6 +9,3 @@ use Rattle.walk.proofs.plan.climb.Given as goal
 
 abbrev pub invariant-loop-k : goal.invariant-loop-k
 invariant-loop-k l = Climbing (kit_rules l.panel) l.panel.n (system (records l.terms)) l.limit l.cap (length l.initial.out) l.k l.steps l.out × (length l.list ≡ list_bytes)
-
-abbrev pub decreases-loop-k : goal.decreases-loop-k
-decreases-loop-k l = l.cap + 1 - l.k

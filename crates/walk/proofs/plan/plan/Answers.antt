@@ -2,7 +2,7 @@
 use mathlib.Core.Path.{sym, ◌∙◌}
 use lib.ListN.{length}
 use Rattle.wiring.specs.Sockets.{panel_of}
-use Rattle.walk.proofs.plan.Laws.{settings_few, settings_low, settings_clean, said_setting, said_length, said_wrong, said_repeated, said_walked, zeros_long}
+use Rattle.walk.proofs.plan.Laws.{settings_few, settings_low, settings_clean, said_setting, said_length, said_fault, said_walked, zeros_long}
 use Rattle.walk.proofs.plan.plan.Goals as goal
 
 pub returns-then-not-settings_right : goal.returns-then-not-settings_right
@@ -24,37 +24,31 @@ climb-requires c =
     let blank = c.clear in
     let right = sym c.settings_right.ensures
     ∙ c.if-not-settings_right.false in
-    let clean = settings_clean (panel_of a.n a.marks a.degree) a.cap a.limit right a.terms.now (sym c.fault_of.ensures ∙ c.in-Clean.is) in
+    let clean = settings_clean (panel_of a.n a.marks a.degree) a.cap a.limit right a.terms.now (sym c.fault_of.ensures ∙ c.in-Ok.is) in
     let zeros = zeros_long (length a.out.now) blank.new.out blank.auto.out blank.ensures in
-    (settings_few (panel_of a.n a.marks a.degree) a.cap a.limit right, (settings_low (panel_of a.n a.marks a.degree) a.cap a.limit right, (clean, zeros)))
+    record {
+      few = settings_few (panel_of a.n a.marks a.degree) a.cap a.limit right;
+      capped = settings_low (panel_of a.n a.marks a.degree) a.cap a.limit right;
+      clean = clean;
+      blank = zeros;
+    }
 
-pub returns-in-Clean : goal.returns-in-Clean
-returns-in-Clean c =
+pub returns-in-Ok : goal.returns-in-Ok
+returns-in-Ok c =
     let a = c.args in
     let right = sym c.settings_right.ensures
     ∙ c.if-not-settings_right.false in
     let measured = sym c.length_right.ensures
     ∙ c.if-not-length_right.false in
-    let clean = sym c.fault_of.ensures ∙ c.in-Clean.is in
+    let clean = sym c.fault_of.ensures ∙ c.in-Ok.is in
     said_walked (panel_of a.n a.marks a.degree) a.cap a.limit a.terms.now (length a.out.now) _ _
     c.climb.ensures c.clear.auto.out right measured clean
 
-pub returns-in-Wrong : goal.returns-in-Wrong
-returns-in-Wrong c =
+pub returns-in-Err : goal.returns-in-Err
+returns-in-Err c =
     let a = c.args in
     let right = sym c.settings_right.ensures
     ∙ c.if-not-settings_right.false in
     let measured = sym c.length_right.ensures ∙ c.if-not-length_right.false in
-    let wrong = sym c.fault_of.ensures ∙ c.in-Wrong.is in
-    said_wrong (panel_of a.n a.marks a.degree) a.cap a.limit a.terms.now (length a.out.now) _
-    c.clear.ensures right measured _ wrong
-
-pub returns-in-Repeated : goal.returns-in-Repeated
-returns-in-Repeated c =
-    let a = c.args in
-    let right = sym c.settings_right.ensures
-    ∙ c.if-not-settings_right.false in
-    let measured = sym c.length_right.ensures ∙ c.if-not-length_right.false in
-    let again = sym c.fault_of.ensures ∙ c.in-Repeated.is in
-    said_repeated (panel_of a.n a.marks a.degree) a.cap a.limit a.terms.now (length a.out.now) _
-    c.clear.ensures right measured _ again
+    let faulty = sym c.fault_of.ensures ∙ c.in-Err.is in
+    rw c.from.ensures (said_fault (panel_of a.n a.marks a.degree) a.cap a.limit a.terms.now (length a.out.now) _ c.clear.ensures right measured _ faulty)

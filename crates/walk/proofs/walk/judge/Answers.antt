@@ -1,6 +1,5 @@
 -- `judge` meets its contract: the set is judged at its level or below it. Assumes nothing.
-use mathlib.Core.Path.{refl, sym, ap, subst}
-use mathlib.Core.Bool.{not}
+use mathlib.Core.Path.{sym, ◌∙◌, subst}
 use Prim.Native.Nat.{ℕ, ◌-◌, ◌<◌}
 use native.Mathlib.Omega.{arith}
 use lib.ListN.{length}
@@ -13,25 +12,30 @@ use Rattle.wiring.specs.Terms.{records, system}
 use Rattle.wiring.proofs.signals.Tables.{tabled_length}
 use Rattle.counting.specs.Verdict.{Weighing, Judged}
 use Rattle.walk.proofs.walk.Laws.{signals_fit}
-use Rattle.walk.proofs.walk.Judging.{weighed_last, weighing, weighed_below}
+use Rattle.walk.proofs.walk.Judging.{weighed_last, weighed_met, weighing, weighed_below}
 use Rattle.walk.proofs.walk.judge.Goals as goal
 
 pub is_unmet-requires : goal.is_unmet-requires
 is_unmet-requires c =
-    let p = c.requires.0 in
-    (p.clean, (p.few, (signals_fit c.args.f.panel.n c.args.set.now p.walked, c.requires.1.summed)))
+    let p = c.requires.openable in
+    (p.clean, (p.few, (signals_fit c.args.f.panel.n c.args.set.now p.walked, c.requires.means.summed)))
+
+pub returns-then-is_unmet : goal.returns-then-is_unmet
+returns-then-is_unmet c =
+    let a = c.args in
+    weighed_last a.f.panel a.terms.now a.f.level a.set.now c.requires.openable (sym c.is_unmet.ensures ∙ c.if-is_unmet.true) (omega (arith, tabled_length a.set.now, c.if-f-len.true))
 
 pub returns-then-f-len : goal.returns-then-f-len
 returns-then-f-len c =
     let a = c.args in
-    weighed_last a.f.panel a.terms.now a.f.level a.set.now c.requires.0 _ refl (ap not c.is_unmet.ensures) (omega (arith, tabled_length a.set.now, c.if-f-len.true))
+    weighed_met a.f.panel a.terms.now a.f.level a.set.now c.requires.openable (sym c.is_unmet.ensures ∙ c.if-is_unmet.false)
 
 pub verdict_of-requires : goal.verdict_of-requires
 verdict_of-requires c =
     let a = c.args in
     let low : length (tabled a.set.now) < a.f.level = omega (arith, tabled_length a.set.now, c.if-f-len.false) in
-    let asked = weighing a.f.panel a.terms.now a.f.level a.set.now c.requires.0 low a.f.cancels c.requires.1.summed in
-    (subst (λ (k : ℕ). Weighing a.terms.now a.f.panel.n a.set.now a.f.cancels (a.f.level - k)) (tabled_length a.set.now) asked, c.requires.1.roomy)
+    let asked = weighing a.f.panel a.terms.now a.f.level a.set.now c.requires.openable low a.f.cancels c.requires.means.summed in
+    (subst (λ (k : ℕ). Weighing a.terms.now a.f.panel.n a.set.now a.f.cancels (a.f.level - k)) (tabled_length a.set.now) asked, c.requires.means.roomy)
 
 pub returns : goal.returns
 returns c =
@@ -40,5 +44,5 @@ returns c =
     let v = signals_at a.f.panel.n a.set.now in
     let gaps = nonsquares plain v (derivative plain (system (records a.terms.now))) in
     let said = c.verdict_of in
-    weighed_below a.f.panel a.terms.now a.f.level a.set.now c.requires.0 low said.result
+    weighed_below a.f.panel a.terms.now a.f.level a.set.now c.requires.openable low said.result
     (subst (λ (k : ℕ). Judged (can_build a.f.panel) (a.f.level - k) v gaps said.result) (sym (tabled_length a.set.now)) said.ensures)

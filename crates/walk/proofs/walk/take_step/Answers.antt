@@ -7,9 +7,13 @@ use Rattle.wiring.specs.Panel.{set_bytes}
 use Rattle.wiring.specs.Signals.{tabled}
 use Rattle.wiring.specs.Terms.{records, system}
 use Rattle.walk.specs.Walk.{kit_rules}
+use Rattle.std.specs.Prelude.{ℕ, ◌<◌, Ok, Err}
 use Rattle.walk.specs.Turns.{Tells}
+use Rattle.walk.specs.Listing.{Shown}
+use Rattle.walk.specs.Walk.{Finds, opened, run}
+use Rattle.std.proofs.lemmas.Result.{err_from_is_err_and}
 use Rattle.walk.proofs.walk.Laws.{open_spent}
-use Rattle.walk.proofs.walk.Judging.{found_runs, lost_steps}
+use Rattle.walk.proofs.walk.Judging.{found_runs, closed_steps, split_steps}
 use Rattle.walk.proofs.walk.take_step.Goals as goal
 
 pub returns-then-f-taken : goal.returns-then-f-taken
@@ -18,25 +22,39 @@ returns-then-f-taken c =
     let a = c.args in
     open_spent (kit_rules a.f.panel) a.f.panel.n (system (records a.terms.now)) a.f.level a.f.limit (length a.out.now / set_bytes) a.st.steps finds (tabled a.set.now) d p (omega arith)
 
-pub judge-o-requires : goal.judge-o-requires
-judge-o-requires c =
-    (c.requires.0.opening, c.requires.1)
+pub judge-requires : goal.judge-requires
+judge-requires c =
+    record { openable = c.requires.ready.opening; means = c.requires.means }
 
 pub found-requires : goal.found-requires
 found-requires c =
-    let p = c.requires.0 in
+    let p = c.requires.ready in
     record { lies = record { whole = p.opening.whole; recorded = p.opening.walked.recorded }; showing = p.showing }
 
-pub returns-then-o : goal.returns-then-o
-returns-then-o c =
+pub returns-in_ok-state-in-Found : goal.returns-in_ok-state-in-Found
+returns-in_ok-state-in-Found c =
     λ d finds p sh.
     let a = c.args in
-    let j = c.judge-o in
-    let told = found_runs (kit_rules a.f.panel) a.f.panel.n a.terms.now a.f.level a.f.limit a.set.now a.st a.out.now _ j.ensures (omega (arith, c.if-f-taken.false)) c.if-o.true d finds p in
-    subst (Tells c.found.result c.found.new.out) (sym told) (c.found.ensures finds sh)
+    let told = found_runs (kit_rules a.f.panel) a.f.panel.n a.terms.now a.f.level a.f.limit a.set.now a.st a.out.now (omega (arith, c.if-f-taken.false)) c.in-Found.ensures d finds p in
+    subst (Tells (Ok c.in_ok-state-in-Found.state) c.found.new.out) (sym told) (c.in_ok-state-in-Found.ensures finds sh)
 
-pub returns : goal.returns
-returns c =
+pub returns-in_err-state-in-Found : goal.returns-in_err-state-in-Found
+returns-in_err-state-in-Found c =
     let a = c.args in
-    let j = c.judge-o in
-    lost_steps (kit_rules a.f.panel) a.f.panel.n a.terms.now a.f.level a.f.limit a.set.now a.st a.out.now _ j.ensures (omega arith) c.if-o.false _ refl refl
+    let stops : (d : ℕ) (finds : Finds) → 0 < d → Shown finds a.st.count a.out.now
+    → Tells (Err c.in_err-state-in-Found.field-0.0) c.found.new.out (run a.f.limit (length a.out.now / set_bytes) (opened (kit_rules a.f.panel) a.f.panel.n (system (records a.terms.now)) a.f.level d (tabled a.set.now)) a.st.steps finds) =
+    λ d finds p sh.
+    let told = found_runs (kit_rules a.f.panel) a.f.panel.n a.terms.now a.f.level a.f.limit a.set.now a.st a.out.now (omega (arith, c.if-f-taken.false)) c.in-Found.ensures d finds p in
+    subst (Tells (Err c.in_err-state-in-Found.field-0.0) c.found.new.out) (sym told) (c.in_err-state-in-Found.ensures finds sh) in
+    let p = err_from_is_err_and c.from_residual.result c.from_residual.ensures.1 in
+    rw (p.1, p.2) stops
+
+pub returns-in-Split : goal.returns-in-Split
+returns-in-Split c =
+    let a = c.args in
+    split_steps (kit_rules a.f.panel) a.f.panel.n a.terms.now a.f.level a.f.limit a.set.now a.st a.out.now (omega (arith, c.if-f-taken.false)) _ refl refl c.in-Split.m.e c.in-Split.ensures
+
+pub returns-in-Closed : goal.returns-in-Closed
+returns-in-Closed c =
+    let a = c.args in
+    closed_steps (kit_rules a.f.panel) a.f.panel.n a.terms.now a.f.level a.f.limit a.set.now a.st a.out.now (omega (arith, c.if-f-taken.false)) _ refl refl c.in-Closed.ensures
