@@ -3,7 +3,7 @@
 use Rattle.std.specs.Prelude.{◌≡◌, Bool, not, cond, ◌&&◌, List, ◌++◌, ℕ, ◌*◌, ◌-◌, ◌≤◌, eqb, leb, length, replicate, ⊤, Result, Ok, Err, MatchResult}
 use Rattle.monomial.specs.Lists.{some, gather, place}
 use Rattle.monomial.specs.Monomial.{Mono, width}
-use Rattle.wiring.specs.Panel.{cards, set_bytes, set_exponent, wire_bytes}
+use Rattle.wiring.specs.Panel.{set_bytes, set_exponent, wire_bytes}
 use Rattle.wiring.specs.Sockets.{panel_right}
 use Rattle.wiring.specs.Reply.{numbers, Outcome, outcome, refused}
 use Rattle.wiring.specs.Poly.{Poly, plain}
@@ -16,7 +16,7 @@ use Rattle.wiring.specs.Wires.{Wire, wiring, wire_record}
 use Rattle.wiring.specs.declared.panel.Panel.{Panel}
 use Rattle.wiring.specs.declared.reply.Reply.{Reply}
 use Rattle.wiring.specs.declared.reply.Reply.TheVariants.{Done, Setting, Length, Term, Twice, Full, BadSet, NotQuadratic}
-use Rattle.wiring.specs.declared.sets.Set.{Set}
+use Rattle.wiring.specs.declared.held.Set.{Set}
 use Rattle.wiring.specs.declared.terms.Fault.{Fault}
 use Rattle.wiring.specs.declared.terms.Fault.TheVariants.{Wrong, Repeated}
 
@@ -78,7 +78,6 @@ wired panel terms set size = told (verdict panel terms set) (wires panel.n (syst
 pub record Judgeable (n : ℕ) (terms : List ℕ) (set : Set) : Type 0 where
   pub few : n ≤ width
   pub clean : CleanTerms terms
-  pub small : set.len ≤ cards
   pub fits : Fitting set_exponent (monomials_of set)
 
 -- the set is taken, so that the verdict is about it; or what was given is refused

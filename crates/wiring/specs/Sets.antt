@@ -1,5 +1,5 @@
 -- Set records: a monomial for each card, strictly ascending, then all-zero ones for unused places. Assumes nothing.
-use Rattle.std.specs.Prelude.{◌≡◌, Bool, true, not, ◌&&◌, List, [], ◌∷◌, ◌++◌, map, ℕ, ◌*◌, ◌-◌, ◌≤◌, eqb, length, take, drop, replicate, Option, is_some, IfSome}
+use Rattle.std.specs.Prelude.{◌≡◌, Bool, true, not, ◌&&◌, List, [], ◌∷◌, ◌++◌, map, ℕ, ◌*◌, ◌-◌, eqb, length, take, drop, replicate, Option, is_some, IfSome}
 use Rattle.monomial.specs.Lists.{any, all, place, below}
 use Rattle.monomial.specs.Monomial.{Mono, one, constants, width}
 use Rattle.monomial.specs.Order.{same, before}
@@ -8,7 +8,7 @@ use Rattle.wiring.specs.Sockets.{may_be}
 use Rattle.wiring.specs.Signals.{front, flat}
 use Rattle.wiring.specs.Terms.{exponents_right}
 use Rattle.wiring.specs.declared.panel.Panel.{Panel}
-use Rattle.wiring.specs.declared.sets.Set.{Set}
+use Rattle.wiring.specs.declared.held.Set.{Set}
 
 -- the monomials at the places of a record
 unfoldable pub places : List ℕ → List Mono
@@ -45,7 +45,6 @@ monomials_of s = front s.len s.m
 pub record IsSetOf (bytes : List ℕ) (s : Set) : Type 0 where
   pub holds : monomials_of s ≡ set_of bytes
   pub size : s.len ≡ length (set_of bytes)
-  pub fits : s.len ≤ cards
 
 -- reading a record: whether it keeps its rule, and then its set
 pub record SetReads (panel : Panel) (bytes : List ℕ) (r : Option Set) : Type 0 where

@@ -8,7 +8,7 @@ use Rattle.monomial.specs.declared.Monomial.{Monomial}
 use Rattle.monomial.specs.Claims.{◌∈◌}
 use Rattle.wiring.specs.Poly.{plain}
 use Rattle.wiring.specs.Quadratic.{members}
-use Rattle.wiring.specs.declared.signals.Signals.{Signals}
+use Rattle.wiring.specs.declared.held.Signals.{Signals}
 
 unfoldable pub signals : ℕ → ℕ → List Mono → List Mono
 signals w n s = members plain w n s

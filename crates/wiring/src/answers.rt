@@ -6,11 +6,12 @@ ghost use Rattle.wiring.specs.Terms.{records, system};
 ghost use Rattle.wiring.specs.Sets.{monomials_of};
 ghost use Rattle.wiring.specs.Answers.{judged, told, wires, wired, Judgeable, Gives};
 
+use super::held::Set;
 use super::panel::{Panel, SET_BYTES};
 use super::reply::Reply;
-use super::sets::Set;
+use super::system::System;
 use super::wires::Unmet;
-use super::{buffer, sets, signals, sockets, terms, wires};
+use super::{buffer, sets, signals, sockets, terms};
 
 // Reads what is given, with the refusals that come before a set is judged: once the rest is in order, the record decides. What does something with a
 // given set begins with it.
@@ -42,7 +43,12 @@ pub fn wire_set(n: usize, terms: &[u8], set: Set, out: &mut [u8]) -> Reply
 {
     let v = signals::signals_of(n, set);
     let order = set.len as u64;
-    match wires::wire_rows(terms, v, out) {
+    // Each total is summed here, so nothing need be known of them.
+    let system = System {
+        terms,
+        cancels: true,
+    };
+    match system.wire_rows(v, out) {
         Ok(Some(count)) => Reply::Done {
             order,
             count: count as u64,

@@ -6,11 +6,11 @@ ghost use Rattle.monomial.specs.Product.{AtMost};
 ghost use Rattle.wiring.specs.Panel.{term_bytes, set_exponent};
 ghost use Rattle.wiring.specs.Poly.{plain, coeff, support};
 ghost use Rattle.wiring.specs.Derivative.{derivative, image, gives, images};
-ghost use Rattle.wiring.specs.Terms.{record_at, records, system, CleanTerms};
+ghost use Rattle.wiring.specs.Terms.{record_at, records, system};
 ghost use Rattle.wiring.specs.Choice.{Heads, beyond, Offered};
 
-use super::panel::TERM_BYTES;
-use super::{choice, coefficient, derivative};
+use super::system::System;
+use super::{choice, coefficient};
 use monomial::Monomial;
 
 // A monomial of a derivative with its total.
@@ -30,53 +30,51 @@ fn is_beyond(last: Option<Monomial>, m: Monomial) -> bool
     }
 }
 
-// The monomial of record t in the derivative of z, where it stands behind the last one. Its total is not asked here: it may be 0.
-pub(crate) fn following(
-    terms: &[u8],
-    t: usize,
-    z: Monomial,
-    last: Option<Monomial>,
-) -> Option<Monomial>
-    requires { CleanTerms terms.now × ((term_bytes * t + term_bytes ≤ length terms.now) × AtMost set_exponent z.e) }
-    ensures { Offered (gives (beyond last) z.e (record_at terms.now t)) (image (record_at terms.now t) z.e) result }
-{
-    if derivative::power(terms, t, z) < 1 {
-        return None;
-    }
-    let m = derivative::image(terms, t, z);
-    if !is_beyond(last, m) {
-        return None;
-    }
-    Some(m)
-}
-
-// The smallest monomial behind the last one that a record gives to the derivative of z.
-fn next_image(terms: &[u8], z: Monomial, last: Option<Monomial>) -> Option<Monomial>
-    requires { CleanTerms terms.now × AtMost set_exponent z.e }
-    ensures { Heads (keep (beyond last) (images (records terms.now) z.e)) result }
-{
-    let mut best = None;
-    for t in 0..terms.len() / TERM_BYTES {
-        if let Some(m) = following(terms, t, z, last) {
-            best = choice::least(best, m);
+impl System<'_> {
+    // The monomial of record t in the derivative of z, where it stands behind the last one. Its total is not asked here: it may be 0.
+    pub(crate) fn following(self, t: usize, z: Monomial, last: Option<Monomial>) -> Option<Monomial>
+        requires inside { term_bytes * t + term_bytes ≤ length self.terms.now }
+        requires small { AtMost set_exponent z.e }
+        ensures { Offered (gives (beyond last) z.e (record_at self.entry.terms.now t)) (image (record_at self.entry.terms.now t) z.e) result }
+    {
+        if self.power(t, z) < 1 {
+            return None;
         }
-    }
-    best
-}
-
-// The smallest monomial of the derivative of z behind the last one. Those whose parts cancel are passed over.
-pub(crate) fn next_part(terms: &[u8], z: Monomial, last: Option<Monomial>) -> Option<Part>
-    requires { CleanTerms terms.now × AtMost set_exponent z.e }
-    ensures heads { Heads (keep (beyond last) (support plain (derivative plain (system (records terms.now)) z.e))) (option_map (λ part. part.m) result) }
-    ensures total_value { IfSome result (λ part. part.total ≡ coeff plain (derivative plain (system (records terms.now)) z.e) part.m.e) }
-{
-    let mut behind = last;
-    while let Some(m) = next_image(terms, z, behind) {
-        let total = derivative::total(terms, z, m);
-        if !coefficient::is_zero(total) {
-            return Some(Part { m, total });
+        let m = self.image(t, z);
+        if !is_beyond(last, m) {
+            return None;
         }
-        behind = Some(m);
+        Some(m)
     }
-    None
+
+    // The smallest monomial behind the last one that a record gives to the derivative of z.
+    fn next_image(self, z: Monomial, last: Option<Monomial>) -> Option<Monomial>
+        requires { AtMost set_exponent z.e }
+        ensures { Heads (keep (beyond last) (images (records self.entry.terms.now) z.e)) result }
+    {
+        let mut best = None;
+        for t in 0..self.count() {
+            if let Some(m) = self.following(t, z, last) {
+                best = choice::least(best, m);
+            }
+        }
+        best
+    }
+
+    // The smallest monomial of the derivative of z behind the last one. Those whose parts cancel are passed over.
+    pub(crate) fn next_part(self, z: Monomial, last: Option<Monomial>) -> Option<Part>
+        requires { AtMost set_exponent z.e }
+        ensures heads { Heads (keep (beyond last) (support plain (derivative plain (system (records self.entry.terms.now)) z.e))) (option_map (λ part. part.m) result) }
+        ensures total_value { IfSome result (λ part. part.total ≡ coeff plain (derivative plain (system (records self.entry.terms.now)) z.e) part.m.e) }
+    {
+        let mut behind = last;
+        while let Some(m) = self.next_image(z, behind) {
+            let total = self.total(z, m);
+            if !coefficient::is_zero(total) {
+                return Some(Part { m, total });
+            }
+            behind = Some(m);
+        }
+        None
+    }
 }

@@ -1,4 +1,4 @@
-// Sets of new monomials, held by value, and set records.
+// Set records, and what a set may hold.
 ghost use Rattle.std.specs.Prelude.{◌≡◌, true, ◌*◌, ◌≤◌, ◌<◌, eqb, length, drop, take};
 ghost use Rattle.monomial.specs.Lists.{any, all};
 ghost use Rattle.monomial.specs.Monomial.{constants, width};
@@ -6,23 +6,11 @@ ghost use Rattle.monomial.specs.Order.{same};
 ghost use Rattle.wiring.specs.Panel.{cards};
 ghost use Rattle.wiring.specs.Sets.{places, size_of, ascending, monomial_right, monomials_of, SetReads};
 
+use super::held::Set;
 use super::panel::{CARDS, Panel, SET_BYTES, SET_EXPONENT};
 use super::{sockets, terms};
 use monomial::Monomial;
 use monomial::width::{CONSTANTS, WIDTH};
-
-#[derive(Clone, Copy)]
-pub struct Set {
-    pub m: [Monomial; CARDS],
-    pub len: usize,
-}
-
-impl Set {
-    pub const EMPTY: Set = Set {
-        m: [Monomial::ONE; CARDS],
-        len: 0,
-    };
-}
 
 // Whether m is 1 or a single variable.
 fn is_constant(m: Monomial) -> bool

@@ -1,18 +1,19 @@
 // The wiring list, judged and written in one pass: a record that has room is written, and a monomial that no two signals multiply to ends it.
 ghost use Rattle.std.specs.Prelude.{◌≡◌, List, [], ◌∷◌, ◌++◌, ◌+◌, ◌*◌, ◌≤◌, ◌<◌, length, get_or};
 ghost use Rattle.std.proofs.Math.Seq.{paste};
-ghost use Rattle.wiring.specs.Panel.{term_bytes, set_exponent, most_signals, wire_bytes};
+ghost use Rattle.wiring.specs.Panel.{term_bytes, set_exponent, wire_bytes};
 ghost use Rattle.wiring.specs.Poly.{plain, support};
 ghost use Rattle.monomial.specs.Lists.{some, keep};
 ghost use Rattle.monomial.specs.Product.{AtMost};
 ghost use Rattle.wiring.specs.Derivative.{derivative, offers};
 ghost use Rattle.wiring.specs.Signals.{Fitting, signals_of};
-ghost use Rattle.wiring.specs.Terms.{record_at, records, system, CleanTerms};
+ghost use Rattle.wiring.specs.Terms.{record_at, records, system};
 ghost use Rattle.wiring.specs.Wires.{Wire, wire_record, Sheet, Wrote, FirstPair, unmet_beyond, RowPassed, Passed};
 
-use super::panel::{TERM_BYTES, WIRE_BYTES};
-use super::signals::Signals;
-use super::{buffer, coefficient, derivative, parts};
+use super::held::Signals;
+use super::panel::WIRE_BYTES;
+use super::system::System;
+use super::{buffer, coefficient};
 use monomial::Monomial;
 
 // The numbers of two signals.
@@ -30,7 +31,7 @@ pub struct Unmet {
 
 // The pair of smallest a, then smallest b, whose product is m, where there is one. Most signals do not divide m.
 pub fn pair_of(v: Signals, m: Monomial) -> Option<Pair>
-    requires { (v.len ≤ most_signals) × Fitting set_exponent (signals_of v) }
+    requires { Fitting set_exponent (signals_of v) }
     ensures { FirstPair (signals_of v) m.e result }
 {
     let len = v.len;
@@ -73,75 +74,82 @@ fn enter(out: &mut [u8], at: usize, left: usize, p: Pair, c: i32) -> Option<usiz
     Some(at + 1)
 }
 
-// Whether record t gives the derivative of z a monomial behind the last one that has a coefficient and no pair. The total, which is dear, is asked
-// last.
-fn lacks_pair_at(terms: &[u8], t: usize, v: Signals, z: Monomial, last: Option<Monomial>) -> bool
-    requires { CleanTerms terms.now × ((term_bytes * t + term_bytes ≤ length terms.now) × ((v.len ≤ most_signals) × (Fitting set_exponent (signals_of v) × AtMost set_exponent z.e))) }
-    ensures { result ≡ offers (unmet_beyond (signals_of v) last) (system (records terms.now)) z.e (record_at terms.now t) }
-{
-    let Some(m) = parts::following(terms, t, z, last) else {
-        return false;
-    };
-    if pair_of(v, m).is_some() {
-        return false;
-    }
-    !coefficient::is_zero(derivative::total(terms, z, m))
-}
-
-// Whether the derivative of z has a monomial behind the last one that no two signals multiply to. Where nothing is written any more, their order
-// does not matter.
-pub fn lacks_pair(terms: &[u8], v: Signals, z: Monomial, last: Option<Monomial>) -> bool
-    requires { CleanTerms terms.now × ((v.len ≤ most_signals) × (Fitting set_exponent (signals_of v) × AtMost set_exponent z.e)) }
-    ensures { result ≡ some (keep (unmet_beyond (signals_of v) last) (support plain (derivative plain (system (records terms.now)) z.e))) }
-{
-    for t in 0..terms.len() / TERM_BYTES {
-        if lacks_pair_at(terms, t, v, z, last) {
-            return true;
+impl System<'_> {
+    // Whether record t gives the derivative of z a monomial behind the last one that has a coefficient and no pair. The total, which is dear, is asked
+    // last.
+    fn lacks_pair_at(self, t: usize, v: Signals, z: Monomial, last: Option<Monomial>) -> bool
+        requires inside { term_bytes * t + term_bytes ≤ length self.terms.now }
+        requires fits { Fitting set_exponent (signals_of v) }
+        requires small { AtMost set_exponent z.e }
+        ensures { result ≡ offers (unmet_beyond (signals_of v) last) (system (records self.entry.terms.now)) z.e (record_at self.entry.terms.now t) }
+    {
+        let Some(m) = self.following(t, z, last) else {
+            return false;
+        };
+        if pair_of(v, m).is_some() {
+            return false;
         }
+        !coefficient::is_zero(self.total(z, m))
     }
-    false
-}
 
-// Passes over the derivative of one left variable: its records go behind those of the list so far. Without room the rest of it is only judged.
-fn wire_row(
-    terms: &[u8],
-    v: Signals,
-    left: usize,
-    out: &mut [u8],
-    from: Option<usize>,
-) -> Result<Option<usize>, Unmet>
-    requires { CleanTerms terms.now × ((v.len ≤ most_signals) × ((left < v.len) × Fitting set_exponent (signals_of v))) }
-    ensures { (done : List Wire) → Wrote done from out.old →
-        RowPassed plain (signals_of v) left (derivative plain (system (records terms.now)) (get_or (signals_of v) left [])) done result out.new }
-{
-    let z = v.m[left];
-    let mut w = from;
-    let mut last = None;
-    while let Some(at) = w {
-        let Some(part) = parts::next_part(terms, z, last) else {
-            return Ok(w);
-        };
-        let Some(pair) = pair_of(v, part.m) else {
+    // Whether the derivative of z has a monomial behind the last one that no two signals multiply to. Where nothing is written any more, their order
+    // does not matter.
+    pub fn lacks_pair(self, v: Signals, z: Monomial, last: Option<Monomial>) -> bool
+        requires fits { Fitting set_exponent (signals_of v) }
+        requires small { AtMost set_exponent z.e }
+        ensures { result ≡ some (keep (unmet_beyond (signals_of v) last) (support plain (derivative plain (system (records self.entry.terms.now)) z.e))) }
+    {
+        for t in 0..self.count() {
+            if self.lacks_pair_at(t, v, z, last) {
+                return true;
+            }
+        }
+        false
+    }
+
+    // Passes over the derivative of one left variable: its records go behind those of the list so far. Without room the rest of it is only judged.
+    fn wire_row(
+        self,
+        v: Signals,
+        left: usize,
+        out: &mut [u8],
+        from: Option<usize>,
+    ) -> Result<Option<usize>, Unmet>
+        requires inside { left < v.len }
+        requires fits { Fitting set_exponent (signals_of v) }
+        ensures { (done : List Wire) → Wrote done from out.old →
+            RowPassed plain (signals_of v) left (derivative plain (system (records self.entry.terms.now)) (get_or (signals_of v) left [])) done result out.new }
+    {
+        let z = v.m[left];
+        let mut w = from;
+        let mut last = None;
+        while let Some(at) = w {
+            let Some(part) = self.next_part(z, last) else {
+                return Ok(w);
+            };
+            let Some(pair) = pair_of(v, part.m) else {
+                return Err(Unmet { left });
+            };
+            w = enter(out, at, left, pair, part.total);
+            last = Some(part.m);
+        }
+        if self.lacks_pair(v, z, last) {
             return Err(Unmet { left });
-        };
-        w = enter(out, at, left, pair, part.total);
-        last = Some(part.m);
+        }
+        Ok(None)
     }
-    if lacks_pair(terms, v, z, last) {
-        return Err(Unmet { left });
-    }
-    Ok(None)
-}
 
-// Passes over the left variables, ascending: how far the list has come, and none where it is longer than the buffer holds; or the first left variable
-// whose derivative is not met. Without room it goes on judging: that a set is not quadratic comes before that its list is too long.
-pub(crate) fn wire_rows(terms: &[u8], v: Signals, out: &mut [u8]) -> Result<Option<usize>, Unmet>
-    requires { CleanTerms terms.now × ((v.len ≤ most_signals) × (Fitting set_exponent (signals_of v) × Sheet [] 0 out.old)) }
-    ensures { Passed plain (signals_of v) (derivative plain (system (records terms.now))) result out.new }
-{
-    let mut w = Some(0);
-    for left in 0..v.len {
-        w = wire_row(terms, v, left, out, w)?;
+    // Passes over the left variables, ascending: how far the list has come, and none where it is longer than the buffer holds; or the first left variable
+    // whose derivative is not met. Without room it goes on judging: that a set is not quadratic comes before that its list is too long.
+    pub(crate) fn wire_rows(self, v: Signals, out: &mut [u8]) -> Result<Option<usize>, Unmet>
+        requires fits { Fitting set_exponent (signals_of v) }
+        requires blank { Sheet [] 0 out.old }
+        ensures { Passed plain (signals_of v) (derivative plain (system (records self.entry.terms.now))) result out.new }
+    {
+        let mut w = Some(0);
+        for left in 0..v.len {
+            w = self.wire_row(v, left, out, w)?;
+        }
+        Ok(w)
     }
-    Ok(w)
 }

@@ -28,7 +28,7 @@ use Rattle.wiring.specs.Reply.{Numbers, numbers, Outcome, outcome, refused}
 use Rattle.wiring.specs.Poly.{Poly, plain}
 use Rattle.wiring.specs.Derivative.{derivative}
 use Rattle.wiring.specs.Quadratic.{in_v2, lacking}
-use Rattle.wiring.specs.declared.sets.Set.{Set}
+use Rattle.wiring.specs.declared.held.Set.{Set}
 use Rattle.wiring.specs.Signals.{signals, Fitting}
 use Rattle.wiring.specs.Terms.{records, length_right, fault, system}
 use Rattle.wiring.specs.Sets.{SetReads, set_of, set_right, monomials_of}
@@ -226,7 +226,6 @@ given_read panel terms bytes count long clean e (Some set) r =
       judgeable = record {
         few = panel_few panel count;
         clean = clean_for panel width terms (panel_few panel count) clean;
-        small = r.set.fits;
         fits = subst (Fitting set_exponent) (sym r.set.holds) (right_fits panel bytes long (is→T (set_right panel bytes) right));
       };
     }

@@ -29,7 +29,7 @@ use Rattle.wiring.specs.Terms.{exponents_right}
 use Rattle.wiring.proofs.terms.Laws.{exponents_everywhere}
 use Rattle.wiring.proofs.kit.Laws.{may_can}
 use Rattle.wiring.specs.Sets.{places, size_of, set_of, ascending, monomial_right, set_right, monomials_of, SetReads}
-use Rattle.wiring.specs.declared.sets.Set.{Set}
+use Rattle.wiring.specs.declared.held.Set.{Set}
 use Rattle.std.specs.Prelude.{Some, None}
 use Rattle.wiring.proofs.terms.Laws.{all_small}
 
@@ -230,7 +230,7 @@ module _ (panel : Panel) (bytes : List ℕ) (len : ℕ) (e : len ≡ size_of byt
       let whole : take len (places bytes) ≡ set_of bytes = ap (λ (k : ℕ). take k (places bytes)) e in
       record {
         right = sym (sized ∙ rw (z, o, m));
-        set = record { holds = is ∙ whole; size = long ∙ sym (used_length bytes len h) ∙ ap length whole; fits = omega arith };
+        set = record { holds = is ∙ whole; size = long ∙ sym (used_length bytes len h) ∙ ap length whole };
       }
 
 -- ---- what a right record holds

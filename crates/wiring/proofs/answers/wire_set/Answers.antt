@@ -24,25 +24,19 @@ use Rattle.wiring.proofs.wires.Sheets.{sheet_start}
 use Rattle.wiring.proofs.answers.Laws.{first_as, listed_done, listed_full, told_met, told_unmet}
 use Rattle.wiring.proofs.answers.wire_set.Goals as goal
 
-pub signals_of-v-requires : goal.signals_of-v-requires
-signals_of-v-requires c = let q = c.requires.0 in (q.few, q.small)
-
 pub wire_rows-requires : goal.wire_rows-requires
 wire_rows-requires c =
     let q = c.requires.0 in
     let v = c.signals_of-v.ensures in
     let fits = signals_fitting set_exponent c.args.n (monomials_of c.args.set) (omega arith) q.fits in
-    (q.clean, (omega (arith, q.few, q.small), (subst (Fitting set_exponent) (sym v.0) fits, sheet_start c.args.out.now c.requires.1)))
-
-pub shape_of-out-in-Ok-Some : goal.shape_of-out-in-Ok-Some
-shape_of-out-in-Ok-Some c = c.wire_rows.auto.out
+    record { fits = subst (Fitting set_exponent) (sym v.0) fits; blank = sheet_start c.args.out.now c.requires.1 }
 
 pub returns-in-Ok-Some : goal.returns-in-Ok-Some
 returns-in-Ok-Some c =
     let a = c.args in
     let room : length a.set.m ≡ cards = search (rules, array_length) in
     let m = monomials_of a.set in
-    let size : a.set.len ≡ length m = sym (front_length a.set.len a.set.m (omega (arith, c.requires.0.small))) in
+    let size : a.set.len ≡ length m = sym (front_length a.set.len a.set.m (omega (arith, a.set.few))) in
     let fs = system (records a.terms.now) in
     let w = c.wire_rows in
     let out = w.new.out in
@@ -56,15 +50,12 @@ returns-in-Ok-Some c =
     ∙ listed_done (length m) list written (length a.out.now) out stands w.auto.out
     ∙ told_met a.n fs m (length a.out.now) met
 
-pub shape_of-out-in-Ok-None : goal.shape_of-out-in-Ok-None
-shape_of-out-in-Ok-None c = c.clear.auto.out ∙ c.wire_rows.auto.out
-
 pub returns-in-Ok-None : goal.returns-in-Ok-None
 returns-in-Ok-None c =
     let a = c.args in
     let room : length a.set.m ≡ cards = search (rules, array_length) in
     let m = monomials_of a.set in
-    let size : a.set.len ≡ length m = sym (front_length a.set.len a.set.m (omega (arith, c.requires.0.small))) in
+    let size : a.set.len ≡ length m = sym (front_length a.set.len a.set.m (omega (arith, a.set.few))) in
     let fs = system (records a.terms.now) in
     let w = c.wire_rows in
     let out = w.new.out in
@@ -79,15 +70,12 @@ returns-in-Ok-None c =
     ∙ listed_full (length m) list (length a.out.now) out cleared.new.out long w.auto.out blank
     ∙ told_met a.n fs m (length a.out.now) met
 
-pub shape_of-out-in-Err : goal.shape_of-out-in-Err
-shape_of-out-in-Err c = c.clear-in-Err.auto.out ∙ c.wire_rows.auto.out
-
 pub returns-in-Err : goal.returns-in-Err
 returns-in-Err c =
     let a = c.args in
     let room : length a.set.m ≡ cards = search (rules, array_length) in
     let m = monomials_of a.set in
-    let size : a.set.len ≡ length m = sym (front_length a.set.len a.set.m (omega (arith, c.requires.0.small))) in
+    let size : a.set.len ≡ length m = sym (front_length a.set.len a.set.m (omega (arith, a.set.few))) in
     let fs = system (records a.terms.now) in
     let w = c.wire_rows in
     let out = w.new.out in

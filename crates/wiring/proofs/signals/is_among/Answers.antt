@@ -2,12 +2,8 @@
 use mathlib.Core.Path.{sym, ap, ◌∙◌}
 use native.Mathlib.Omega.{arith}
 use Rattle.monomial.specs.Order.{same}
-use Rattle.monomial.proofs.Loops.{seeking_start}
 use Rattle.wiring.proofs.signals.Tables.{tabled_found, tabled_on, tabled_ends}
 use Rattle.wiring.proofs.signals.is_among.Goals as goal
-
-pub loop-i-init : goal.loop-i-init
-loop-i-init c = seeking_start _ _
 
 pub returns-then-same : goal.returns-then-same
 returns-then-same c =

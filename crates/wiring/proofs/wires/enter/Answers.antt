@@ -5,13 +5,8 @@ use lib.ListN.{length}
 use mir.Syntax.{w32}
 use mir.ValLaws.{to_z-of_z}
 use Rattle.wiring.specs.Panel.{wire_bytes}
-use Rattle.wiring.proofs.wires.Sheets.{sheet_more, sheet_long}
+use Rattle.wiring.proofs.wires.Sheets.{sheet_more}
 use Rattle.wiring.proofs.wires.enter.Goals as goal
-
-pub returns-then-out-at : goal.returns-then-out-at
-returns-then-out-at c =
-    let a = c.args in
-    λ done h. sheet_long done a.at _ a.out.now h c.if-out-at.true
 
 pub returns : goal.returns
 returns c =

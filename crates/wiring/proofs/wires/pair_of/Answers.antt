@@ -1,5 +1,5 @@
 -- `pair_of` meets its contract: both loops look for the first that passes (`PairRow` outside, `Placing` inside). Assumes nothing.
-use mathlib.Core.Path.{◌≡◌, refl, sym, ap, ap₂, ◌∙◌}
+use mathlib.Core.Path.{◌≡◌, sym, ap, ap₂, ◌∙◌}
 use mathlib.Core.List.{[]}
 use Prim.Native.Nat.{ℕ, ◌<◌, ◌≤◌}
 use native.Mathlib.Omega.{arith}
@@ -11,11 +11,11 @@ use Rattle.monomial.specs.Quotient.{quo, divides}
 use Rattle.monomial.specs.Claims.{◌∈◌}
 use Rattle.monomial.proofs.Tests.{T→is, n_t→is, is→T}
 use Rattle.monomial.proofs.Counting.{at_in}
-use Rattle.monomial.proofs.Loops.{placing_start, placing_on}
+use Rattle.monomial.proofs.Loops.{placing_on}
 use Rattle.wiring.specs.Panel.{set_exponent, most_signals}
 use Rattle.wiring.specs.Poly.{plain}
 use Rattle.wiring.specs.Quadratic.{in_v2}
-use Rattle.wiring.specs.declared.signals.Signals.{Signals}
+use Rattle.wiring.specs.declared.held.Signals.{Signals}
 use Rattle.wiring.specs.Signals.{Fitting, signals_of}
 use Rattle.wiring.proofs.signals.Arrays.{array_length, front_length, front_at}
 use Rattle.wiring.proofs.wires.Pairs.{beside, beside_quotient, row_skips, row_start, row_ends, pair_first, pair_second, pair_in, pair_there}
@@ -43,19 +43,13 @@ module _ (v : Signals) (room : length v.m ≡ most_signals) (fits : v.len ≤ mo
   alike : (i : ℕ) → i < v.len → (y : Mono) → y ∈ signals_of v → length (get_or (signals_of v) i []) ≡ length y
   alike i h y m = (wide (get_or (signals_of v) i []) (at_in (signals_of v) i [] (within i h))).0 ∙ sym (wide y m).0
 
-pub loop-a-init : goal.loop-a-init
-loop-a-init c = (refl, placing_start _ _)
-
-pub over-rest-requires : goal.over-rest-requires
-over-rest-requires c = is→T _ (sym c.divides.ensures ∙ c.if-divides.true)
-
 pub loop-b-init : goal.loop-b-init
 loop-b-init c =
     let v = c.args.v in
     let k = c.loop-a in
     let room : length v.m ≡ most_signals = search (rules, array_length) in
     let ha : k.a < v.len = omega arith in
-    let here = at v room c.requires.0 c.requires.1 k.a ha in
+    let here = at v room v.few c.requires k.a ha in
     let divided = is→T _ (sym c.divides.ensures ∙ c.if-divides.true) in
     record {
       long = k.invariant.0;
@@ -63,7 +57,7 @@ loop-b-init c =
       divided = rw here divided;
       quotient = c.over-rest.ensures ∙ ap (quo c.args.m.e) (sym here);
       outer = k.invariant.1;
-      inner = row_start (signals_of v) c.args.m.e k.a (within v room c.requires.0 c.requires.1 k.a ha) k.invariant.1;
+      inner = row_start (signals_of v) c.args.m.e k.a (within v room v.few c.requires k.a ha) k.invariant.1;
     }
 
 pub loop-b-preserved : goal.loop-b-preserved
@@ -73,9 +67,9 @@ loop-b-preserved c =
     let k = c.loop-b in
     let room : length v.m ≡ most_signals = search (rules, array_length) in
     let hb : k.b < v.len = omega (arith, k.invariant.long) in
-    let in_b = within v room c.requires.0 c.requires.1 k.b hb in
-    let at_b = at v room c.requires.0 c.requires.1 k.b hb in
-    let long = alike v room c.requires.0 c.requires.1 o.a k.invariant.below (get_or (signals_of v) k.b []) (at_in (signals_of v) k.b [] in_b) in
+    let in_b = within v room v.few c.requires k.b hb in
+    let at_b = at v room v.few c.requires k.b hb in
+    let long = alike v room v.few c.requires o.a k.invariant.below (get_or (signals_of v) k.b []) (at_in (signals_of v) k.b [] in_b) in
     let quotient = sym (beside_quotient (signals_of v) c.args.m.e (get_or (signals_of v) o.a []) (get_or (signals_of v) k.b []) long k.invariant.divided) in
     let told = quotient ∙ ap₂ same at_b (sym k.invariant.quotient) ∙ sym c.same.ensures in
     let inner = placing_on (beside (signals_of v) c.args.m.e (get_or (signals_of v) o.a [])) [] k.invariant.inner in_b (told ∙ c.if-same.false) in
@@ -87,15 +81,15 @@ loop-a-preserved c =
     let o = c.loop-a in
     let room : length v.m ≡ most_signals = search (rules, array_length) in
     let ha : o.a < v.len = omega arith in
-    let in_a = within v room c.requires.0 c.requires.1 o.a ha in
+    let in_a = within v room v.few c.requires o.a ha in
     elim c.if-divides.branch [
       | then-divides+else-loop-b-test w ↦
           let k = w.loop-b in
-          let all = beyond v room c.requires.0 c.requires.1 k.b (omega (arith, k.invariant.long, w.loop-b-test.false)) in
+          let all = beyond v room v.few c.requires k.b (omega (arith, k.invariant.long, w.loop-b-test.false)) in
           (o.invariant.0, row_ends (signals_of v) c.args.m.e o.a in_a o.invariant.1 k.b k.invariant.inner all)
       | else-divides w ↦
-          let no = ap (λ (x : Mono). divides x c.args.m.e) (at v room c.requires.0 c.requires.1 o.a ha) ∙ sym c.divides.ensures ∙ w.if-divides.false in
-          (o.invariant.0, row_skips (signals_of v) c.args.m.e o.a in_a o.invariant.1 (alike v room c.requires.0 c.requires.1 o.a ha) no)
+          let no = ap (λ (x : Mono). divides x c.args.m.e) (at v room v.few c.requires o.a ha) ∙ sym c.divides.ensures ∙ w.if-divides.false in
+          (o.invariant.0, row_skips (signals_of v) c.args.m.e o.a in_a o.invariant.1 (alike v room v.few c.requires o.a ha) no)
     ]
 
 pub returns : goal.returns
@@ -104,7 +98,7 @@ returns c =
     let k = c.loop-a in
     let room : length v.m ≡ most_signals = search (rules, array_length) in
     let ha : v.len ≤ k.a = omega arith in
-    let no = n_t→is (in_v2 plain (signals_of v) c.args.m.e) (pair_there (signals_of v) c.args.m.e k.a k.invariant.1 (beyond v room c.requires.0 c.requires.1 k.a ha)) in
+    let no = n_t→is (in_v2 plain (signals_of v) c.args.m.e) (pair_there (signals_of v) c.args.m.e k.a k.invariant.1 (beyond v room v.few c.requires k.a ha)) in
     record { told = sym no; pair = tt }
 
 pub returns-then-same : goal.returns-then-same
@@ -114,13 +108,13 @@ returns-then-same c =
     let k = c.loop-b in
     let room : length v.m ≡ most_signals = search (rules, array_length) in
     let hb : k.b < v.len = omega (arith, k.invariant.long) in
-    let in_b = within v room c.requires.0 c.requires.1 k.b hb in
-    let at_b = at v room c.requires.0 c.requires.1 k.b hb in
-    let long = alike v room c.requires.0 c.requires.1 o.a k.invariant.below (get_or (signals_of v) k.b []) (at_in (signals_of v) k.b [] in_b) in
+    let in_b = within v room v.few c.requires k.b hb in
+    let at_b = at v room v.few c.requires k.b hb in
+    let long = alike v room v.few c.requires o.a k.invariant.below (get_or (signals_of v) k.b []) (at_in (signals_of v) k.b [] in_b) in
     let quotient = sym (beside_quotient (signals_of v) c.args.m.e (get_or (signals_of v) o.a []) (get_or (signals_of v) k.b []) long k.invariant.divided) in
     let told = quotient ∙ ap₂ same at_b (sym k.invariant.quotient) ∙ sym c.same.ensures in
     let hit = told ∙ c.if-same.true in
-    let in_a = within v room c.requires.0 c.requires.1 o.a k.invariant.below in
+    let in_a = within v room v.few c.requires o.a k.invariant.below in
     let first = pair_first (signals_of v) c.args.m.e o.a in_a k.invariant.outer k.b in_b k.invariant.inner hit in
     let second = pair_second (signals_of v) c.args.m.e o.a in_a k.invariant.outer k.b in_b k.invariant.inner hit in
     let met = pair_in (signals_of v) c.args.m.e o.a in_a k.invariant.outer k.b in_b k.invariant.inner hit in
@@ -129,7 +123,7 @@ returns-then-same c =
       pair = record {
         first = first;
         second = second;
-        a_small = small v room c.requires.0 c.requires.1 o.a k.invariant.below;
-        b_small = small v room c.requires.0 c.requires.1 k.b hb;
+        a_small = small v room v.few c.requires o.a k.invariant.below;
+        b_small = small v room v.few c.requires k.b hb;
       };
     }

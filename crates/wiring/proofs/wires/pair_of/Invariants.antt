@@ -7,7 +7,7 @@ use lib.ListN.{get_or}
 use Rattle.monomial.specs.Monomial.{Mono}
 use Rattle.monomial.specs.Quotient.{quo, divides}
 use Rattle.monomial.proofs.Loops.{Placing}
-use Rattle.wiring.specs.declared.signals.Signals.{Signals}
+use Rattle.wiring.specs.declared.held.Signals.{Signals}
 use Rattle.wiring.specs.Signals.{signals_of}
 use Rattle.wiring.proofs.wires.Pairs.{beside, PairRow}
 use Rattle.wiring.proofs.wires.pair_of.Given as goal

@@ -1,0 +1,75 @@
+-- `nonsquare_of` meets its contract: the tests of the code are those of `offers`, in its order. Assumes nothing.
+use mathlib.Core.Path.{◌≡◌, sym, ap, ◌∙◌}
+use mathlib.Core.Bool.{not, false}
+use Rattle.wiring.specs.Signals.{signals_at}
+use native.Mathlib.Omega.{arith}
+use lib.ListN.{length}
+use borrow.Author.Rules.{rules, sfits_of}
+use mir.Syntax.{w32}
+use mir.ValLaws.{to_z-of_z}
+use Rattle.monomial.proofs.product.Laws.{at_most_weaken}
+use Rattle.monomial.specs.Monomial.{Mono, width}
+use Rattle.wiring.specs.Coefficient.{is_zero}
+use Rattle.wiring.specs.Poly.{plain, coeff}
+use Rattle.wiring.specs.Derivative.{derivative}
+use Rattle.wiring.specs.Terms.{record_at, records, system}
+use Rattle.wiring.proofs.quadratic.Records.{outside, offered_low, offered_fails, offered_zero, offered_here}
+use Rattle.wiring.proofs.system.System.nonsquare_of.Goals as goal
+
+pub returns-then-power-lt1 : goal.returns-then-power-lt1
+returns-then-power-lt1 c =
+    let a = c.args in
+    let l = a.self.terms.now in
+    offered_low (outside (signals_at a.v.n a.v.set.now)) (system (records l)) a.z.e (record_at l a.t) c.power.result
+    c.power.ensures c.if-power-lt1.true
+
+pub image-m-requires-clause-small : goal.image-m-requires-clause-small
+image-m-requires-clause-small c = at_most_weaken c.args.z.e (omega arith) c.requires.small
+
+pub returns-then-is_square : goal.returns-then-is_square
+returns-then-is_square c =
+    let a = c.args in
+    let l = a.self.terms.now in
+    let x = c.power in
+    let m = c.image-m in
+    offered_fails (outside (signals_at a.v.n a.v.set.now)) (system (records l)) a.z.e (record_at l a.t) x.result m.result
+    x.ensures c.if-power-lt1.false m.ensures (ap not (sym c.is_square.ensures ∙ c.if-is_square.true))
+
+pub returns-then-is_zero : goal.returns-then-is_zero
+returns-then-is_zero c =
+    let a = c.args in
+    let l = a.self.terms.now in
+    let x = c.power in
+    let m = c.image-m in
+    let sum = c.total in
+    let same_sum = to_z-of_z w32 sum.result (sfits_of sum.type_inv) in
+    let zero = ap is_zero (sym sum.ensures ∙ sym same_sum) ∙ sym c.is_zero.ensures ∙ c.if-is_zero.true in
+    offered_zero (outside (signals_at a.v.n a.v.set.now)) (system (records l)) a.z.e (record_at l a.t) x.result m.result
+    x.ensures c.if-power-lt1.false m.ensures
+    (ap not (sym c.is_square.ensures ∙ c.if-is_square.false)) zero
+
+pub returns-else-is_zero : goal.returns-else-is_zero
+returns-else-is_zero c =
+    let a = c.args in
+    let l = a.self.terms.now in
+    let x = c.power in
+    let m = c.image-m in
+    let sum = c.total in
+    let same_sum = to_z-of_z w32 sum.result (sfits_of sum.type_inv) in
+    let other = ap is_zero (sym sum.ensures ∙ sym same_sum) ∙ sym c.is_zero.ensures ∙ c.if-is_zero.false in
+    offered_here (outside (signals_at a.v.n a.v.set.now)) (system (records l)) a.z.e (record_at l a.t) x.result m.result
+    x.ensures c.if-power-lt1.false m.ensures
+    (ap not (sym c.is_square.ensures ∙ c.if-is_square.false)) other
+
+-- no total is 0, so none is summed
+pub returns-else-self : goal.returns-else-self
+returns-else-self c =
+    let long : length c.args.z.e ≡ width = search rules in
+    let a = c.args in
+    let l = a.self.terms.now in
+    let x = c.power in
+    let m = c.image-m in
+    let other = c.args.self.sums c.if-self.false a.z.e a.t long (omega (arith, c.requires.inside)) (omega (arith, x.ensures, c.if-power-lt1.false)) in
+    offered_here (outside (signals_at a.v.n a.v.set.now)) (system (records l)) a.z.e (record_at l a.t) x.result m.result
+    x.ensures c.if-power-lt1.false m.ensures
+    (ap not (sym c.is_square.ensures ∙ c.if-is_square.false)) (ap (λ (y : Mono). is_zero (coeff plain (derivative plain (system (records l)) a.z.e) y)) m.ensures ∙ other)
