@@ -24,11 +24,7 @@ pub struct Near {
 fn half(m: Monomial) -> Monomial
     ensures { result.e ≡ root_of m.e }
 {
-    let mut e = [0u8; WIDTH];
-    for i in 0..WIDTH {
-        e[i] = m.e[i] / 2;
-    }
-    Monomial { e }
+    Monomial { e: m.e.map(|e| e / 2) }
 }
 
 // The first of the pair of m that w is of. What divides nothing is taken for 1, which is the first of a pair too.

@@ -51,7 +51,9 @@ pub fn start(m: Monomial) -> Place
 
 // The place behind the pair in hand.
 pub fn behind(m: Monomial, at: Place) -> Place
-    ensures { (result.rest ≡ at.rest) × ((result.a.e ≡ next m.e at.a.e) × (result.listed ≡ at.listed)) }
+    ensures rest { result.rest ≡ at.rest }
+    ensures next { result.a.e ≡ next m.e at.a.e }
+    ensures listed { result.listed ≡ at.listed }
 {
     Place {
         a: at.a.next_divisor(m),
@@ -93,7 +95,9 @@ fn seek(v: Members, m: Monomial, from: Place) -> Hand
 
 // The place before the first pair of the rest.
 fn rest_of(at: Place) -> Place
-    ensures { (result.rest ≡ true) × ((result.a.e ≡ one width) × (result.listed ≡ 0)) }
+    ensures rest { result.rest ≡ true }
+    ensures first { result.a.e ≡ one width }
+    ensures none { result.listed ≡ 0 }
 {
     Place {
         rest: true,

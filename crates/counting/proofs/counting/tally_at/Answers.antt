@@ -17,7 +17,7 @@ loop-j-preserved c =
     let a = c.args in
     let l = a.list.now in
     let v = signals_at a.v.n a.v.set.now in
-    let few : k.j < length v = omega (arith) in
+    let few : k.j < length v = omega arith in
     let test = begins (can_build a.panel) v a.often (take a.i (tabled l)) (drop (a.i + 1) (tabled l)) (get_or (tabled l) a.i (one width)) in
     let told = ap test (sym c.signal.ensures) ∙ sym c.begins_at.ensures in
     elim c.if-begins_at.branch [
@@ -29,4 +29,4 @@ pub returns-then-cap-met : goal.returns-then-cap-met
 returns-then-cap-met c = tallying_full _ _ _ _ c.loop-j.invariant (omega arith)
 
 pub returns-after-loop-j : goal.returns-after-loop-j
-returns-after-loop-j c = tallying_end _ _ _ _ c.loop-j.invariant (omega (arith))
+returns-after-loop-j c = tallying_end _ _ _ _ c.loop-j.invariant (omega arith)

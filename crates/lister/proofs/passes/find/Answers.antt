@@ -47,7 +47,7 @@ returns-then-is_some c =
     ])
 
 pub loop-m-smaller : goal.loop-m-smaller
-loop-m-smaller c = rw (c.rest_of-at.ensures.0, c.if-at.false) (omega arith)
+loop-m-smaller c = rw (c.rest_of-at.ensures.rest, c.if-at.false) (omega arith)
 
 pub loop-m-preserved : goal.loop-m-preserved
 loop-m-preserved c =
@@ -60,5 +60,5 @@ loop-m-preserved c =
     let all = c.if-not-all.false in
     let over = sym c.is_some.ensures ∙ c.if-is_some.false in
     let on = found_on v a.m.e a.all k.at k.invariant.1.0 h.at h.held c.pass-h.ensures over c.if-at.false all (one width) first in
-    rw (c.rest_of-at.ensures.0, c.rest_of-at.ensures.1.0, c.rest_of-at.ensures.1.1)
+    rw (c.rest_of-at.ensures.rest, c.rest_of-at.ensures.first, c.rest_of-at.ensures.none)
     (standing_start v a.m.e true (one width) first, (λ e. absurd (is_not _ all e), k.invariant.1.1 ∙ on))
