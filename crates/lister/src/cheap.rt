@@ -17,6 +17,7 @@ pub struct Held {
 }
 
 // Whether the first of a pair adds nothing to the second: they are one, or V has it.
+#[tactic(auto, using(monomial::proofs::order::Derived::same_from_eq))]
 fn is_met(v: Members, a: Monomial, b: Monomial) -> bool
     ensures { result ≡ same a.e b.e || any (same a.e) (signals_at v.entry.n v.entry.set.now) }
 {

@@ -24,7 +24,9 @@ pub struct Near {
 fn half(m: Monomial) -> Monomial
     ensures { result.e ≡ root_of m.e }
 {
-    Monomial { e: m.e.map(|e| e / 2) }
+    Monomial {
+        e: m.e.map(|e| e / 2),
+    }
 }
 
 // The first of the pair of m that w is of. What divides nothing is taken for 1, which is the first of a pair too.
@@ -53,6 +55,7 @@ fn candidate(v: Members, m: Monomial, j: usize) -> Monomial
 }
 
 // Whether c stands before the nearest so far, if there is one.
+#[tactic(auto, using(monomial::proofs::order::Derived::before_from_lt))]
 fn is_ahead(c: Monomial, near: Option<Near>) -> bool
     ensures { result ≡ ahead c.e near }
 {
@@ -63,6 +66,7 @@ fn is_ahead(c: Monomial, near: Option<Near>) -> bool
 }
 
 // Whether c stands from a on, and before the nearest so far.
+#[tactic(auto, using(monomial::proofs::order::Derived::not_before_from_le))]
 fn is_nearer(c: Monomial, a: Monomial, near: Option<Near>) -> bool
     ensures { result ≡ not (before c.e a.e) && ahead c.e near }
 {
