@@ -1,7 +1,7 @@
 -- `put` meets its contract: the bytes of the set and zeros behind them are its record. Assumes nothing.
 use Rattle.std.proofs.Common.{◌≡◌, List, ◌++◌, ℕ, ◌+◌, ◌*◌, ◌-◌, ◌≤◌, length, take, drop, replicate, length-take, length-drop, refl, sym, ap, ap₂, ◌∙◌, arith}
 use mathlib.Core.List.{append_assoc}
-use lib.ListN.{length-append, length-replicate}
+use lib.ListN.{length-append}
 use lib.Seq.{paste, take_all}
 use borrow.Rule.Slice.PartMut.{put_mid}
 use Rattle.std.proofs.lemmas.List.{drop-drop}
@@ -39,7 +39,7 @@ returns c =
     let last : length zeros ≡ k = omega (arith, c.fill.ensures.len, length-take {A = ℕ}, length-drop {A = ℕ}, length-append {A = ℕ}, c.copy_from_slice.ensures.len) in
     let are : zeros ≡ replicate (set_bytes - length x) 0 = c.fill.ensures.after (λ y e. e) ∙ ap (λ (n : ℕ). replicate n 0) (omega (arith, c.fill.ensures.len)) in
     let record_of : set_record (tabled x) ≡ x ++ zeros =
-        record_is (tabled x) ∙ ap₂ (λ (b : List ℕ) (n : ℕ). b ++ replicate (set_bytes - n) 0) (flat_tabled x whole) (sym whole) ∙ ap (λ (z : List ℕ). x ++ z) (sym are) in
+    record_is (tabled x) ∙ ap₂ (λ (b : List ℕ) (n : ℕ). b ++ replicate (set_bytes - n) 0) (flat_tabled x whole) (sym whole) ∙ ap (λ (z : List ℕ). x ++ z) (sym are) in
     let size : length x + k ≡ set_bytes = omega arith in
     ap (λ (y : List ℕ). put_mid (a.at + length x) k (put_mid a.at (a.at + length x - a.at) a.out.now y) zeros) c.copy_from_slice.ensures.after
     ∙ both a.out.now x zeros a.at (a.at + length x - a.at) k (omega arith) last (omega arith)
