@@ -19,38 +19,34 @@ pub row_agrees-requires : goal.row_agrees-requires
 row_agrees-requires c =
     let v = c.args.v in
     let room : length v.m ≡ most_signals = search (rules, array_length) in
-    let few = c.requires.1.0 in
-    let wide = c.requires.1.1.0 in
-    (c.requires.0, (few, (wide, (small v room few wide c.args.left c.requires.1.1.1, omega arith))))
+    let wide = c.requires.fits in
+    record { fits = wide; small = small v room wide c.args.left c.requires.inside; inside = omega arith }
 
 pub returns-then-not-row_agrees : goal.returns-then-not-row_agrees
 returns-then-not-row_agrees c =
     let v = c.args.v in
     let k = c.loop-a in
     let room : length v.m ≡ most_signals = search (rules, array_length) in
-    let few = c.requires.1.0 in
-    let wide = c.requires.1.1.0 in
+    let wide = c.requires.fits in
     let ha : k.a < v.len = omega arith in
-    let fails = rows_fail _ _ _ k.a k.invariant (within v room few wide k.a ha) _ c.row_agrees.ensures c.if-not-row_agrees.true in
-    λ line told sums. decided_no _ _ _ line _ told sums _ (at v room few wide c.args.left c.requires.1.1.1) fails
+    let fails = rows_fail _ _ _ k.a k.invariant (within v room wide k.a ha) _ c.row_agrees.ensures c.if-not-row_agrees.true in
+    λ line told sums. decided_no _ _ _ line _ told sums _ (at v room wide c.args.left c.requires.inside) fails
 
 pub loop-a-preserved : goal.loop-a-preserved
 loop-a-preserved c =
     let v = c.args.v in
     let k = c.loop-a in
     let room : length v.m ≡ most_signals = search (rules, array_length) in
-    let few = c.requires.1.0 in
-    let wide = c.requires.1.1.0 in
+    let wide = c.requires.fits in
     let ha : k.a < v.len = omega arith in
-    rows_on _ _ _ k.a k.invariant (within v room few wide k.a ha) _ c.row_agrees.ensures c.if-not-row_agrees.false
+    rows_on _ _ _ k.a k.invariant (within v room wide k.a ha) _ c.row_agrees.ensures c.if-not-row_agrees.false
 
 pub lacks_pair-requires : goal.lacks_pair-requires
 lacks_pair-requires c =
     let v = c.args.v in
     let room : length v.m ≡ most_signals = search (rules, array_length) in
-    let few = c.requires.1.0 in
-    let wide = c.requires.1.1.0 in
-    (c.requires.0, (few, (wide, small v room few wide c.args.left c.requires.1.1.1)))
+    let wide = c.requires.fits in
+    record { fits = wide; small = small v room wide c.args.left c.requires.inside }
 
 pub returns : goal.returns
 unfolding unmet
@@ -58,8 +54,7 @@ returns c =
     let v = c.args.v in
     let k = c.loop-a in
     let room : length v.m ≡ most_signals = search (rules, array_length) in
-    let few = c.requires.1.0 in
-    let wide = c.requires.1.1.0 in
-    let all : length (signals_of v) ≤ k.a = omega (arith, long v room few wide) in
+    let wide = c.requires.fits in
+    let all : length (signals_of v) ≤ k.a = omega (arith, long v room wide) in
     let rows = rows_end _ _ _ k.a k.invariant all in
-    λ line told sums. decided_end _ _ _ line _ told sums _ (at v room few wide c.args.left c.requires.1.1.1) rows _ c.lacks_pair.ensures
+    λ line told sums. decided_end _ _ _ line _ told sums _ (at v room wide c.args.left c.requires.inside) rows _ c.lacks_pair.ensures

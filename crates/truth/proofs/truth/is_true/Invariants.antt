@@ -7,4 +7,4 @@ use Rattle.truth.proofs.truth.Deciding.{Rows}
 use Rattle.truth.proofs.truth.is_true.Given as goal
 
 abbrev pub invariant-loop-a : goal.invariant-loop-a
-invariant-loop-a l = Rows (signals_of l.v) l.sums (derivative plain (system (records l.terms)) l.z.e) l.a
+invariant-loop-a l = Rows (signals_of l.v) l.sums (derivative plain (system (records l.s.terms.now)) l.z.e) l.a

@@ -22,19 +22,17 @@ times-requires c =
     let v = c.args.v in
     let k = c.loop-b in
     let room : length v.m ≡ most_signals = search (rules, array_length) in
-    let few = c.requires.1.0 in
     let hb : k.b < v.len = omega arith in
-    product_fits v room few c.requires.1.1.0 c.args.a k.b c.requires.1.1.1.1 hb
+    product_fits v room c.requires.fits c.args.a k.b c.requires.inside hb
 
 pub agrees-requires : goal.agrees-requires
 agrees-requires c =
     let v = c.args.v in
     let k = c.loop-b in
     let room : length v.m ≡ most_signals = search (rules, array_length) in
-    let few = c.requires.1.0 in
     let hb : k.b < v.len = omega arith in
-    let met = product_met v room few c.requires.1.1.0 c.args.a k.b c.requires.1.1.1.1 hb _ c.times.ensures in
-    (c.requires.0, (few, (c.requires.1.1.0, (c.requires.1.1.1.0, met))))
+    let met = product_met v room c.requires.fits c.args.a k.b c.requires.inside hb _ c.times.ensures in
+    record { fits = c.requires.fits; small = c.requires.small; met = met }
 
 pub returns-then-not-agrees : goal.returns-then-not-agrees
 unfolding row_agrees
@@ -42,24 +40,22 @@ returns-then-not-agrees c =
     let v = c.args.v in
     let k = c.loop-b in
     let room : length v.m ≡ most_signals = search (rules, array_length) in
-    let few = c.requires.1.0 in
-    let wide = c.requires.1.1.0 in
+    let wide = c.requires.fits in
     let hb : k.b < v.len = omega arith in
-    let product = product_is v room few wide c.args.a k.b c.requires.1.1.1.1 hb _ c.times.ensures in
+    let product = product_is v room wide c.args.a k.b c.requires.inside hb _ c.times.ensures in
     let told = agrees_at _ _ _ _ _ _ product c.agrees.ensures in
-    from_fails (plain.one 0) k.invariant (within v room few wide k.b hb) (told ∙ c.if-not-agrees.true)
+    from_fails (plain.one 0) k.invariant (within v room wide k.b hb) (told ∙ c.if-not-agrees.true)
 
 pub loop-b-preserved : goal.loop-b-preserved
 loop-b-preserved c =
     let v = c.args.v in
     let k = c.loop-b in
     let room : length v.m ≡ most_signals = search (rules, array_length) in
-    let few = c.requires.1.0 in
-    let wide = c.requires.1.1.0 in
+    let wide = c.requires.fits in
     let hb : k.b < v.len = omega arith in
-    let product = product_is v room few wide c.args.a k.b c.requires.1.1.1.1 hb _ c.times.ensures in
+    let product = product_is v room wide c.args.a k.b c.requires.inside hb _ c.times.ensures in
     let told = agrees_at _ _ _ _ _ _ product c.agrees.ensures in
-    from_on (plain.one 0) k.invariant (within v room few wide k.b hb) (told ∙ c.if-not-agrees.false)
+    from_on (plain.one 0) k.invariant (within v room wide k.b hb) (told ∙ c.if-not-agrees.false)
 
 pub returns : goal.returns
 unfolding row_agrees
@@ -67,4 +63,4 @@ returns c =
     let v = c.args.v in
     let k = c.loop-b in
     let room : length v.m ≡ most_signals = search (rules, array_length) in
-    from_ends [] k.invariant (omega (arith, long v room c.requires.1.0 c.requires.1.1.0))
+    from_ends [] k.invariant (omega (arith, long v room c.requires.fits))
