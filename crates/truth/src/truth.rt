@@ -92,12 +92,7 @@ fn row_agrees(s: System, v: Signals, sums: Sums, z: Monomial, a: usize) -> bool
     ensures { result ≡ row_agrees (signals_of v) sums (derivative plain (system (records s.entry.terms.now)) z.e) a }
 {
     let x = v.m[a];
-    for b in a..v.len {
-        if !agrees(s, v, sums, z, x.times(v.m[b])) {
-            return false;
-        }
-    }
-    true
+    (a..v.len).all(|b| agrees(s, v, sums, z, x.times(v.m[b])))
 }
 
 // Whether the line with these sums is the derivative of signal number left: at every product of two signals, also those that only the line has, and
@@ -109,10 +104,5 @@ pub fn is_true(s: System, v: Signals, left: usize, sums: Sums) -> bool
         result ≡ line_true (signals_of v) (system (records s.entry.terms.now)) left line }
 {
     let z = v.m[left];
-    for a in 0..v.len {
-        if !row_agrees(s, v, sums, z, a) {
-            return false;
-        }
-    }
-    !s.lacks_pair(v, z, None)
+    (0..v.len).all(|a| row_agrees(s, v, sums, z, a)) && !s.lacks_pair(v, z, None)
 }
