@@ -7,7 +7,7 @@ use Rattle.monomial.specs.Claims.{Ascending}
 use Rattle.wiring.specs.Panel.{cards}
 use Rattle.wiring.specs.Sets.{monomial_right, monomials_of, set_record}
 use Rattle.wiring.specs.declared.panel.Panel.{Panel}
-use Rattle.wiring.specs.declared.sets.Set.{Set}
+use Rattle.wiring.specs.declared.held.Set.{Set}
 
 -- no monomial stands twice
 unfoldable pub distinct : List Mono → Bool

@@ -9,21 +9,19 @@ ghost use Rattle.roster.specs.Roster.{Forms, Entering, Entered};
 
 use monomial::Monomial;
 use monomial::width::WIDTH;
+use wiring::held::Set;
 use wiring::panel::{CARDS, Panel, SET_BYTES};
 use wiring::sets;
-use wiring::sets::Set;
 
 // Whether m is in a set.
 fn is_in(set: Set, m: Monomial) -> bool
-    requires { set.len ≤ cards }
     ensures { result ≡ any (same m.e) (monomials_of set) }
 {
-    set.m[..set.len].iter().any(|&x| m.same(x))
+    set.m[..set.len].contains(&m)
 }
 
 // Whether m may join a set: it is what a set may hold, and new there.
 fn may_join(panel: Panel, set: Set, m: Monomial) -> bool
-    requires { set.len ≤ cards }
     ensures { result ≡ monomial_right panel m.e && not (any (same m.e) (monomials_of set)) }
 {
     sets::monomial_right(panel, m) && !is_in(set, m)
@@ -39,7 +37,7 @@ fn entered(set: Set, m: Monomial) -> Set
     let mut hand = m;
     for i in 0..len {
         let x = set.m[i];
-        if hand.before(x) {
+        if hand < x {
             next[i] = hand;
             hand = x;
         } else {
@@ -67,8 +65,7 @@ pub fn with_last(set: Set, m: Monomial) -> Set
 
 // The record of a set.
 pub fn record_of(set: Set) -> [u8; SET_BYTES]
-    requires fits { set.len ≤ cards }
-    requires wide { Wide (monomials_of set) }
+    requires { Wide (monomials_of set) }
     ensures { result ≡ set_record (monomials_of set) }
 {
     let mut bytes = [0u8; SET_BYTES];
@@ -80,7 +77,6 @@ pub fn record_of(set: Set) -> [u8; SET_BYTES]
 
 // The record of the set that names form. They join it one by one, the last first: so what stands there is at every moment the set of the names behind.
 pub fn set_of(panel: Panel, names: Set) -> Option<[u8; SET_BYTES]>
-    requires { names.len ≤ cards }
     ensures { Forms panel (monomials_of names) result }
 {
     let mut set = Set::EMPTY;

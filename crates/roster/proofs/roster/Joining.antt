@@ -22,7 +22,7 @@ use Rattle.wiring.specs.Panel.{cards}
 use Rattle.wiring.specs.Sets.{monomial_right, monomials_of, set_record}
 use Rattle.wiring.specs.Claims.{Wide}
 use Rattle.wiring.specs.declared.panel.Panel.{Panel}
-use Rattle.wiring.specs.declared.sets.Set.{Set}
+use Rattle.wiring.specs.declared.held.Set.{Set}
 use Rattle.roster.specs.Roster.{distinct, forms_set, arranged, Forms, Entering, Entered}
 
 -- ---- one name more

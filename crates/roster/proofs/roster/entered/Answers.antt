@@ -16,8 +16,9 @@ use Rattle.wiring.specs.Sets.{monomials_of}
 use Rattle.wiring.proofs.signals.Arrays.{array_length, front_length, front_at}
 use Rattle.roster.proofs.roster.Placing.{handing_start, handing_by, handing_down, handing_end}
 use borrow.Author.Rules.{rules}
+use Rattle.monomial.proofs.order.Derived.{before_from_lt}
 use Rattle.roster.proofs.roster.entered.Goals as goal
-use Rattle.roster.proofs.roster.entered.Goals.{then-before, else-before}
+use Rattle.roster.proofs.roster.entered.Goals.{then-lt, else-lt}
 
 pub loop-i-init : goal.loop-i-init
 loop-i-init c =
@@ -34,8 +35,8 @@ bounds-set-i c = omega (arith, c.requires.room)
 pub bounds-next-i : goal.bounds-next-i
 bounds-next-i c = omega (arith, c.requires.room)
 
-pub bounds-next-i-else-before : goal.bounds-next-i-else-before
-bounds-next-i-else-before c = omega (arith, c.requires.room)
+pub bounds-next-i-else-lt : goal.bounds-next-i-else-lt
+bounds-next-i-else-lt c = omega (arith, c.requires.room)
 
 pub loop-i-preserved : goal.loop-i-preserved
 loop-i-preserved c =
@@ -47,12 +48,12 @@ loop-i-preserved c =
     let x = get_or s.m k.i (record { e = [] }) in
     let is : x.e ≡ get_or (monomials_of s) k.i [] = sym (front_at s.len s.m k.i [] (omega arith) few) in
     let t = insert_by same before c.args.m.e (monomials_of s) in
-    let here = sym c.before-in-loop-i.ensures in
-    elim c.if-before.branch [
-      | then-before w ↦ rw (w.next-is, w.hand-is)
-          (omega arith, refl, length-set k.next k.i k.hand ∙ k.invariant.2, handing_down k.invariant.3 x below is (here ∙ w.if-before.true))
-      | else-before w ↦ rw (w.next-is, w.hand-is)
-          (omega arith, refl, length-set k.next k.i x ∙ k.invariant.2, handing_by k.invariant.3 x below is (here ∙ w.if-before.false))
+    let here : before k.hand.e x.e ≡ c.lt.result = sym (before_from_lt _ _ _ c.lt.ensures) in
+    elim c.if-lt.branch [
+      | then-lt w ↦ rw (w.next-is, w.hand-is)
+          (omega arith, refl, length-set k.next k.i k.hand ∙ k.invariant.2, handing_down k.invariant.3 x below is (here ∙ w.if-lt.true))
+      | else-lt w ↦ rw (w.next-is, w.hand-is)
+          (omega arith, refl, length-set k.next k.i x ∙ k.invariant.2, handing_by k.invariant.3 x below is (here ∙ w.if-lt.false))
     ]
 
 pub bounds-next-len : goal.bounds-next-len

@@ -25,15 +25,15 @@ loop-i-preserved c =
     let s = c.args.set in
     let k = c.loop-i in
     let six : length s.m ≡ cards = search (rules, array_length) in
-    let few : s.len ≤ length s.m = omega (arith, c.requires.fits) in
+    let few : s.len ≤ length s.m = omega (arith, s.few) in
     let long = front_length s.len s.m few in
     let is = sym (front_at s.len s.m k.i [] (omega arith) few) in
-    let next = making_next (monomials_of s) (omega (arith, c.requires.fits)) c.requires.wide k.invariant _ (omega arith) is in
+    let next = making_next (monomials_of s) (omega (arith, s.few)) c.requires k.invariant _ (omega arith) is in
     subst (λ b. Making (monomials_of s) b (k.i + 1)) (sym c.write.ensures) next
 
 pub returns : goal.returns
 returns c =
     let s = c.args.set in
     let six : length s.m ≡ cards = search (rules, array_length) in
-    let few : s.len ≤ length s.m = omega (arith, c.requires.fits) in
+    let few : s.len ≤ length s.m = omega (arith, s.few) in
     making_end c.loop-i.invariant (omega (arith, front_length s.len s.m few))

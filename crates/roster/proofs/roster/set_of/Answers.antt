@@ -15,45 +15,44 @@ pub loop-i-init : goal.loop-i-init
 loop-i-init c =
     let s = c.args.names in
     let six : length s.m ≡ cards = search (rules, array_length) in
-    (omega arith, joining_start _ _ _ _ (sym (front_length s.len s.m (omega (arith, c.requires)))) refl)
-
-pub may_join-requires : goal.may_join-requires
-may_join-requires c = c.loop-i.invariant.0
+    record { few = omega arith; joining = joining_start _ _ _ _ (sym (front_length s.len s.m (omega (arith, s.few)))) refl }
 
 pub returns-then-not-may_join : goal.returns-then-not-may_join
 returns-then-not-may_join c =
     let a = c.args in
     let k = c.loop-i in
     let six : length a.names.m ≡ cards = search (rules, array_length) in
-    let is = sym (front_at a.names.len a.names.m (k.i - 1) [] (omega arith) (omega (arith, c.requires))) in
+    let is = sym (front_at a.names.len a.names.m (k.i - 1) [] (omega arith) (omega (arith, a.names.few))) in
     let no = sym c.may_join.ensures ∙ c.if-not-may_join.true in
-    joining_refused k.invariant.1 (k.i - 1) (omega arith) _ is no
+    joining_refused k.invariant.joining (k.i - 1) (omega arith) _ is no
 
 pub entered-set-requires : goal.entered-set-requires
 entered-set-requires c =
     let a = c.args in
     let k = c.loop-i in
     let six : length a.names.m ≡ cards = search (rules, array_length) in
-    let is = sym (front_at a.names.len a.names.m (k.i - 1) [] (omega arith) (omega (arith, c.requires))) in
+    let is = sym (front_at a.names.len a.names.m (k.i - 1) [] (omega arith) (omega (arith, a.names.few))) in
     let yes = sym c.may_join.ensures ∙ c.if-not-may_join.false in
-    joining_enters k.invariant.1 (k.i - 1) (omega arith) _ is yes (omega (arith, c.requires, front_length a.names.len a.names.m (omega (arith, c.requires))))
+    let e = joining_enters k.invariant.joining (k.i - 1) (omega arith) _ is yes (omega (arith, a.names.few, front_length a.names.len a.names.m (omega (arith, a.names.few)))) in
+    record { room = e.room; ascends = e.ascends; new = e.new }
 
 pub loop-i-preserved : goal.loop-i-preserved
 loop-i-preserved c =
     let a = c.args in
     let k = c.loop-i in
     let six : length a.names.m ≡ cards = search (rules, array_length) in
-    let is = sym (front_at a.names.len a.names.m (k.i - 1) [] (omega arith) (omega (arith, c.requires))) in
+    let is = sym (front_at a.names.len a.names.m (k.i - 1) [] (omega arith) (omega (arith, a.names.few))) in
     let yes = sym c.may_join.ensures ∙ c.if-not-may_join.false in
-    let next = joining_on k.invariant.1 (k.i - 1) (omega arith) _ is yes c.entered-set.result c.entered-set.ensures in
-    (omega (arith, c.requires, next.size, front_length a.names.len a.names.m (omega (arith, c.requires))), next)
+    let e = c.entered-set.ensures in
+    let next = joining_on k.invariant.joining (k.i - 1) (omega arith) _ is yes c.entered-set.result (record { holds = e.holds; size = e.size; wide = e.wide }) in
+    record { few = c.entered-set.result.few; joining = next }
 
 pub record_of-requires : goal.record_of-requires
-record_of-requires c = record { fits = c.loop-i.invariant.0; wide = joining_wide c.loop-i.invariant.1 }
+record_of-requires c = joining_wide c.loop-i.invariant.joining
 
 pub returns : goal.returns
 returns c =
     let k = c.loop-i in
     let a = c.args in
     let at : k.i ≡ 0 = omega arith in
-    joined (subst (λ (i : ℕ). Joining a.panel (monomials_of a.names) k.set i) at k.invariant.1) _ c.record_of.ensures
+    joined (subst (λ (i : ℕ). Joining a.panel (monomials_of a.names) (record { m = k.set.0; len = k.set.1.0; few = k.invariant.few }) i) at k.invariant.joining) _ c.record_of.ensures
