@@ -2,11 +2,10 @@
 use Rattle.std.specs.Prelude.{◌≡◌, Bool, true, false, not, cond, List, [], ◌∷◌, ◌++◌, ℕ, ◌+◌, ◌≤◌, ◌<◌, length}
 use Rattle.monomial.specs.Lists.{all, place, pointwise}
 use Rattle.monomial.specs.Monomial.{Mono, width}
-use Rattle.wiring.specs.Panel.{set_exponent, most_signals}
+use Rattle.wiring.specs.Panel.{set_exponent}
 use Rattle.wiring.specs.Poly.{Poly}
 use Rattle.wiring.specs.Signals.{signals, signals_of, Fitting}
-use Rattle.wiring.specs.Terms.{CleanTerms}
-use Rattle.wiring.specs.declared.signals.Signals.{Signals}
+use Rattle.wiring.specs.declared.held.Signals.{Signals}
 use Rattle.reader.specs.Reader.{Readable}
 use Rattle.reader.specs.Said.{Verdict, whole, broken}
 use Rattle.listing.specs.Held.{Fair}
@@ -84,25 +83,19 @@ ends_line ZeroLine = true
 unfoldable pub with_term : Saying → List Product → Product → List Product
 with_term σ line p = cond (ends_term σ) (line ++ (p ∷ [])) line
 
--- signals that products can be made of
-pub record Joinable (v : Signals) : Type 0 where
-  pub few : v.len ≤ most_signals
-  pub fits : Fitting set_exponent (signals_of v)
-
 -- where a term can be added up
 pub record Adding (v : Signals) (sums : Sums) (t : Telling) : Type 0 where
-  pub joinable : Joinable v
+  pub fits : Fitting set_exponent (signals_of v)
   pub first : t.a < v.len
   pub second : t.b < v.len
   pub limited : t.number ≤ most_number
   pub bounded : Bounded most_sum sums
 
--- a readable text whose names are signals, and records
-pub record Judging (known : Known) (terms : List ℕ) (v : Signals) (text : List ℕ) : Type 0 where
+-- a readable text whose names are signals
+pub record Judging (known : Known) (v : Signals) (text : List ℕ) : Type 0 where
   pub fair : Fair known
   pub few : known.n ≤ width
-  pub clean : CleanTerms terms
-  pub joinable : Joinable v
+  pub fits : Fitting set_exponent (signals_of v)
   pub size : v.len ≡ known.n + 1 + length (names known text)
   pub holds : signals_of v ≡ signals width known.n (names known text)
   pub short : length text ≤ most_text

@@ -6,7 +6,7 @@ use Rattle.wiring.specs.Panel.{set_bytes}
 use Rattle.wiring.specs.Sockets.{panel_right}
 use Rattle.wiring.specs.Reply.{Outcome, outcome, refused}
 use Rattle.wiring.specs.Poly.{Poly}
-use Rattle.wiring.specs.Terms.{records, length_right, fault, system, CleanTerms}
+use Rattle.wiring.specs.Terms.{records, length_right, fault, system}
 use Rattle.wiring.specs.Sets.{set_record}
 use Rattle.wiring.specs.Answers.{unless_fault}
 use Rattle.wiring.specs.declared.panel.Panel.{Panel}
@@ -45,9 +45,8 @@ read_listing panel terms text =
     unless (panel_right panel) Setting (unless (length_right terms && leb (length text) most_text) Length clean)
 
 -- ---- as the code reads
--- a panel, records and a text that need no refusal before the text is read
-pub record Reading (panel : Panel) (terms text : List ℕ) : Type 0 where
+-- a panel and a text that need no refusal before the text is read
+pub record Reading (panel : Panel) (text : List ℕ) : Type 0 where
   pub low : 1 ≤ panel.n
   pub high : panel.n ≤ width
-  pub clean : CleanTerms terms
   pub short : length text ≤ most_text

@@ -12,7 +12,8 @@ use listing::{machine, saying};
 use reader::Broken;
 use truth::truth as sums;
 use truth::truth::Sums;
-use wiring::signals::Signals;
+use wiring::held::Signals;
+use wiring::system::System;
 
 // Of the term that is read its sign, its coefficient (0 where none is written) and its signals.
 // The coefficient is no Option: `signed` of the listing's meaning holds 0 itself to be none.
@@ -81,9 +82,9 @@ fn add_ended(v: Signals, totals: Sums, t: Telling, said: Saying) -> Sums
 }
 
 // The first line of a readable text that is false, by its number in the text.
-pub(crate) fn judge_lines(known: Known, terms: &[u8], v: Signals, text: &[u8]) -> Result<(), Broken>
-    requires { Judging known terms.now v text.now }
-    ensures { result ≡ lines_said known (system (records terms.now)) text.now }
+pub(crate) fn judge_lines(known: Known, s: System, v: Signals, text: &[u8]) -> Result<(), Broken>
+    requires { Judging known v text.now }
+    ensures { result ≡ lines_said known (system (records s.entry.terms.now)) text.now }
 {
     let names = v.len as u64 - known.n - 1;
     let mut g = machine::begin();
@@ -95,7 +96,7 @@ pub(crate) fn judge_lines(known: Known, terms: &[u8], v: Signals, text: &[u8]) -
         totals = add_ended(v, totals, t, said);
         if ends_line(said) {
             let left = machine::left_of(known, names, line).unwrap() as usize;
-            if !sums::is_true(terms, v, left, totals) {
+            if !sums::is_true(s, v, left, totals) {
                 return Err(Broken {
                     place: names + 3 + line,
                 });

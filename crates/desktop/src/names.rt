@@ -13,8 +13,8 @@ use listing::saying::Saying;
 use listing::{machine, saying};
 use monomial::Monomial;
 use roster::roster as sets;
+use wiring::held::Set;
 use wiring::panel::SET_EXPONENT;
-use wiring::sets::Set;
 
 const ABOVE: u64 = SET_EXPONENT as u64 + 1;
 
@@ -36,7 +36,8 @@ fn capped(x: u64) -> u64
 
 // The monomial with one power more.
 fn closed(mono: Monomial, variable: usize, power: u64) -> Monomial
-    requires { (variable < width) × (power ≤ above) }
+    requires inside { variable < width }
+    requires limited { power ≤ above }
     ensures { result.e ≡ set mono.e variable (cap (get_or mono.e variable 0 + power)) }
 {
     let mut e = mono.e;
@@ -74,8 +75,10 @@ fn note(k: Naming, said: Saying) -> Naming
 
 // The new names of a text, in its order.
 pub(crate) fn names_of(known: Known, text: &[u8]) -> Set
-    requires { Fair known × ((known.n ≤ width) × (known.cards ≡ cards)) }
-    ensures { (monomials_of result ≡ map capped (names known text.now)) × (result.len ≤ cards) }
+    requires fair { Fair known }
+    requires few { known.n ≤ width }
+    requires six { known.cards ≡ cards }
+    ensures { monomials_of result ≡ map capped (names known text.now) }
 {
     let mut k = Naming {
         names: Set::EMPTY,

@@ -15,6 +15,7 @@ use listing::machine::Known;
 use roster::roster as sets;
 use wiring::panel::{Panel, SET_BYTES};
 use wiring::reply::Reply;
+use wiring::system::System;
 use wiring::{signals, sockets, terms};
 
 // The most bytes that a text may have.
@@ -38,9 +39,10 @@ fn refused(reply: Reply) -> Heard
 }
 
 // Judges a readable text: its names are to form a set, and its lines to be true.
-fn judge(panel: Panel, terms: &[u8], text: &[u8]) -> Heard
-    requires { Reading panel terms.now text.now × Readable (listing (known_to panel)) text.now }
-    ensures { outcome result.reply result.set ≡ judged panel (system (records terms.now)) text.now }
+fn judge(panel: Panel, s: System, text: &[u8]) -> Heard
+    requires reading { Reading panel text.now }
+    requires reads { Readable (listing (known_to panel)) text.now }
+    ensures { outcome result.reply result.set ≡ judged panel (system (records s.entry.terms.now)) text.now }
 {
     let known = Known::from(panel);
     let names = names::names_of(known, text);
@@ -48,7 +50,7 @@ fn judge(panel: Panel, terms: &[u8], text: &[u8]) -> Heard
         return refused(Reply::BadSet);
     };
     let v = signals::signals_of(panel.n, names);
-    match lines::judge_lines(known, terms, v, text) {
+    match lines::judge_lines(known, s, v, text) {
         Ok(()) => Heard {
             reply: Reply::Done {
                 order: names.len as u64,
@@ -64,13 +66,13 @@ fn judge(panel: Panel, terms: &[u8], text: &[u8]) -> Heard
 }
 
 // Reads a text, once the rest is in order.
-fn read_text(panel: Panel, terms: &[u8], text: &[u8]) -> Heard
-    requires { Reading panel terms.now text.now }
+fn read_text(panel: Panel, s: System, text: &[u8]) -> Heard
+    requires { Reading panel text.now }
     ensures { outcome result.reply result.set
-        ≡ unless_broken Unreadable (said (listing (known_to panel)) text.now) (judged panel (system (records terms.now)) text.now) }
+        ≡ unless_broken Unreadable (said (listing (known_to panel)) text.now) (judged panel (system (records s.entry.terms.now)) text.now) }
 {
     match machine::read(Known::from(panel), text) {
-        Ok(()) => judge(panel, terms, text),
+        Ok(()) => judge(panel, s, text),
         Err(broken) => refused(Reply::Unreadable {
             place: broken.place,
         }),
@@ -95,8 +97,13 @@ pub fn read_listing(n: u64, marks: u64, degree: u64, terms: &[u8], text: &[u8]) 
         marks,
         degree,
     };
-    match terms::fault_of(panel, terms) {
-        Ok(()) => read_text(panel, terms, text),
-        Err(fault) => refused(Reply::from(fault)),
+    if let Err(fault) = terms::fault_of(panel, terms) {
+        return refused(Reply::from(fault));
     }
+    // Each total that a line is held against is summed, so nothing need be known of them.
+    let system = System {
+        terms,
+        cancels: true,
+    };
+    read_text(panel, system, text)
 }

@@ -3,4 +3,5 @@ pub mod Laws
 pub mod Cells
 pub mod Deciding
 pub mod Machine
+pub mod Ranges
 pub mod Places

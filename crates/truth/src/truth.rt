@@ -2,20 +2,21 @@
 ghost use Rattle.std.specs.Prelude.{◌≡◌, List, [], ◌∷◌, ◌++◌, ◌≤◌, ◌<◌, T};
 ghost use Rattle.monomial.specs.Monomial.{Mono};
 ghost use Rattle.monomial.specs.Product.{AtMost};
-ghost use Rattle.wiring.specs.Panel.{set_exponent, most_signals};
+ghost use Rattle.wiring.specs.Panel.{set_exponent};
 ghost use Rattle.wiring.specs.Poly.{plain};
 ghost use Rattle.wiring.specs.Derivative.{derivative};
 ghost use Rattle.wiring.specs.Quadratic.{in_v2};
 ghost use Rattle.wiring.specs.Signals.{Fitting, signals_of};
-ghost use Rattle.wiring.specs.Terms.{records, system, CleanTerms};
+ghost use Rattle.wiring.specs.Terms.{records, system};
 ghost use Rattle.listing.specs.Meaning.{Product, signed};
 ghost use Rattle.truth.specs.Truth.{line_true};
 ghost use Rattle.truth.specs.Sums.{most_number, most_sum, pair_cells, cell, Bounded, Summed, Told, agrees, row_agrees};
 
 use monomial::Monomial;
+use wiring::held::Signals;
 use wiring::panel::MOST_SIGNALS;
-use wiring::signals::Signals;
-use wiring::{derivative, wires};
+use wiring::system::System;
+use wiring::wires;
 
 // A cell for each pair of signals.
 pub const PAIR_CELLS: usize = MOST_SIGNALS * MOST_SIGNALS;
@@ -38,8 +39,10 @@ pub fn no_terms() -> Sums
 
 // The cell of m, which two signals multiply to.
 fn cell_of(v: Signals, m: Monomial) -> usize
-    requires { (v.len ≤ most_signals) × (Fitting set_exponent (signals_of v) × T (in_v2 plain (signals_of v) m.e)) }
-    ensures { (result ≡ cell (signals_of v) m.e) × (result < pair_cells) }
+    requires fits { Fitting set_exponent (signals_of v) }
+    requires met { T (in_v2 plain (signals_of v) m.e) }
+    ensures value { result ≡ cell (signals_of v) m.e }
+    ensures inside { result < pair_cells }
 {
     let p = wires::pair_of(v, m).unwrap();
     MOST_SIGNALS * p.a + p.b
@@ -56,7 +59,11 @@ fn coefficient_of(negative: bool, number: u64) -> i64
 
 // One term more: the product of signals a and b.
 pub fn add(v: Signals, sums: Sums, a: usize, b: usize, negative: bool, number: u64) -> Sums
-    requires { (v.len ≤ most_signals) × (Fitting set_exponent (signals_of v) × ((a < v.len) × ((b < v.len) × ((number ≤ most_number) × Bounded most_sum sums)))) }
+    requires fits { Fitting set_exponent (signals_of v) }
+    requires first { a < v.len }
+    requires second { b < v.len }
+    requires limited { number ≤ most_number }
+    requires bounded { Bounded most_sum sums }
     ensures { (line : List Product) → Summed (signals_of v) line sums →
         Summed (signals_of v) (line ++ ((record { a = a; b = b; coefficient = signed negative number }) ∷ [])) result }
 {
@@ -67,40 +74,35 @@ pub fn add(v: Signals, sums: Sums, a: usize, b: usize, negative: bool, number: u
 }
 
 // Whether the line and the derivative of z have the same coefficient of m, which two signals multiply to.
-fn agrees(terms: &[u8], v: Signals, sums: Sums, z: Monomial, m: Monomial) -> bool
-    requires { CleanTerms terms.now × ((v.len ≤ most_signals) × (Fitting set_exponent (signals_of v) × (AtMost set_exponent z.e × T (in_v2 plain (signals_of v) m.e)))) }
-    ensures { result ≡ agrees (signals_of v) sums (derivative plain (system (records terms.now)) z.e) m.e }
+fn agrees(s: System, v: Signals, sums: Sums, z: Monomial, m: Monomial) -> bool
+    requires fits { Fitting set_exponent (signals_of v) }
+    requires small { AtMost set_exponent z.e }
+    requires met { T (in_v2 plain (signals_of v) m.e) }
+    ensures { result ≡ agrees (signals_of v) sums (derivative plain (system (records s.entry.terms.now)) z.e) m.e }
 {
     let told = sums.cells[cell_of(v, m)];
-    told == i64::from(derivative::total(terms, z, m))
+    told == i64::from(s.total(z, m))
 }
 
 // Whether they agree at the products of signal a with itself and the signals behind it: with those before it they stand in earlier rows.
-fn row_agrees(terms: &[u8], v: Signals, sums: Sums, z: Monomial, a: usize) -> bool
-    requires { CleanTerms terms.now × ((v.len ≤ most_signals) × (Fitting set_exponent (signals_of v) × (AtMost set_exponent z.e × (a < v.len)))) }
-    ensures { result ≡ row_agrees (signals_of v) sums (derivative plain (system (records terms.now)) z.e) a }
+fn row_agrees(s: System, v: Signals, sums: Sums, z: Monomial, a: usize) -> bool
+    requires fits { Fitting set_exponent (signals_of v) }
+    requires small { AtMost set_exponent z.e }
+    requires inside { a < v.len }
+    ensures { result ≡ row_agrees (signals_of v) sums (derivative plain (system (records s.entry.terms.now)) z.e) a }
 {
     let x = v.m[a];
-    for b in a..v.len {
-        if !agrees(terms, v, sums, z, x.times(v.m[b])) {
-            return false;
-        }
-    }
-    true
+    (a..v.len).all(|b| agrees(s, v, sums, z, x.times(v.m[b])))
 }
 
 // Whether the line with these sums is the derivative of signal number left: at every product of two signals, also those that only the line has, and
 // the derivative has no other monomial.
-pub fn is_true(terms: &[u8], v: Signals, left: usize, sums: Sums) -> bool
-    requires { CleanTerms terms.now × ((v.len ≤ most_signals) × (Fitting set_exponent (signals_of v) × (left < v.len))) }
+pub fn is_true(s: System, v: Signals, left: usize, sums: Sums) -> bool
+    requires fits { Fitting set_exponent (signals_of v) }
+    requires inside { left < v.len }
     ensures { (line : List Product) → Told (signals_of v) line → Summed (signals_of v) line sums →
-        result ≡ line_true (signals_of v) (system (records terms.now)) left line }
+        result ≡ line_true (signals_of v) (system (records s.entry.terms.now)) left line }
 {
     let z = v.m[left];
-    for a in 0..v.len {
-        if !row_agrees(terms, v, sums, z, a) {
-            return false;
-        }
-    }
-    !wires::lacks_pair(terms, v, z, None)
+    (0..v.len).all(|a| row_agrees(s, v, sums, z, a)) && !s.lacks_pair(v, z, None)
 }

@@ -19,7 +19,7 @@ use Rattle.wiring.specs.Poly.{Poly}
 use Rattle.wiring.specs.Signals.{signals, signals_of}
 use Rattle.wiring.specs.Terms.{records, system}
 use Rattle.wiring.proofs.signals.Laws.{signals_length}
-use Rattle.wiring.specs.declared.signals.Signals.{Signals}
+use Rattle.wiring.specs.declared.held.Signals.{Signals}
 use Rattle.reader.specs.Reader.{run, heard, noted}
 use Rattle.reader.specs.Said.{whole, broken}
 use Rattle.reader.proofs.Loop.{noting_ends}
@@ -59,7 +59,7 @@ longer_both f (x ∷ a) [] k h i = absurd (omega arith)
 longer_both f (x ∷ a) (y ∷ b) zero h i = omega arith
 longer_both f (x ∷ a) (y ∷ b) (suc k) h i = let ih = longer_both f a b k (omega arith) (omega arith) in omega arith
 
-module _ (known : Known) (terms : List ℕ) (v : Signals) (text : List ℕ) (j : Judging known terms v text) where
+module _ (known : Known) (terms : List ℕ) (v : Signals) (text : List ℕ) (j : Judging known v text) where
   abbrev fs : List (Poly Mono)
   fs = system (records terms)
 
@@ -140,7 +140,7 @@ module _ (known : Known) (terms : List ℕ) (v : Signals) (text : List ℕ) (j :
 
       pub going_adds : Adding v sums t
       going_adds = record {
-        joinable = j.joinable;
+        fits = j.fits;
         first = rw (a.says.a, j.size) (omega (arith, known_so_far.first, grown));
         second = rw (a.says.b, j.size) (omega (arith, known_so_far.second, grown));
         limited = rw a.says.number known_so_far.limited;

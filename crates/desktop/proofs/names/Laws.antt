@@ -11,7 +11,7 @@ use Rattle.monomial.specs.declared.Monomial.{Monomial}
 use Rattle.monomial.proofs.Tests.{Tested, passed, failed, test}
 use Rattle.wiring.specs.Panel.{cards}
 use Rattle.wiring.specs.Sets.{monomials_of}
-use Rattle.wiring.specs.declared.sets.Set.{Set}
+use Rattle.wiring.specs.declared.held.Set.{Set}
 use Rattle.listing.specs.Meaning.{closed, named, unnamed}
 use Rattle.listing.specs.declared.saying.Saying.TheVariants.{Variable, Raised, Digit, NameEnds}
 use Rattle.desktop.specs.Names.{above, cap, capped, Notes, Holds}
@@ -130,6 +130,6 @@ module _ (k : Naming) (q : Notes) (h : Holds q k) where
   }
 
 -- before the first byte
-pub empty_holds : Holds unnamed (record { names = record { m = replicate cards (record { e = replicate width 0 }); len = 0 }; mono = record { e = replicate width 0 }; variable = 0; power = 0 })
+pub empty_holds : (few : 0 ≤ cards) → Holds unnamed (record { names = record { m = replicate cards (record { e = replicate width 0 }); len = 0; few = few }; mono = record { e = replicate width 0 }; variable = 0; power = 0 })
 unfolding cap
-empty_holds = record { whole = refl; size = refl; mono = refl; variable = refl; power = refl }
+empty_holds few = record { whole = refl; size = refl; mono = refl; variable = refl; power = refl }

@@ -16,18 +16,18 @@ use Rattle.monomial.specs.Claims.{◌∈◌}
 use Rattle.monomial.proofs.Tests.{Tested, passed, failed, test, is→T, same_test}
 use Rattle.monomial.proofs.Members.{here, there}
 use Rattle.monomial.proofs.product.Laws.{at_most_all}
-use Rattle.wiring.specs.Panel.{cards, set_exponent}
+use Rattle.wiring.specs.Panel.{set_exponent}
 use Rattle.wiring.specs.Sockets.{panel_right}
 use Rattle.wiring.specs.Reply.{Outcome, outcome}
 use Rattle.wiring.specs.Poly.{Poly}
 use Rattle.wiring.specs.Signals.{signals, signals_of, Fitting}
-use Rattle.wiring.specs.Terms.{records, length_right, fault, system}
+use Rattle.wiring.specs.Terms.{records, length_right, fault, system, CleanTerms}
 use Rattle.wiring.specs.Sets.{monomials_of, set_record}
 use Rattle.wiring.specs.Answers.{unless_fault}
 use Rattle.wiring.specs.declared.panel.Panel.{Panel}
 use Rattle.wiring.specs.declared.reply.Reply.TheVariants.{Done, Setting, Length, BadSet, Unreadable, FalseLine}
-use Rattle.wiring.specs.declared.sets.Set.{Set}
-use Rattle.wiring.specs.declared.signals.Signals.{Signals}
+use Rattle.wiring.specs.declared.held.Set.{Set}
+use Rattle.wiring.specs.declared.held.Signals.{Signals}
 use Rattle.wiring.specs.declared.terms.Fault.{Fault}
 use Rattle.wiring.proofs.signals.Laws.{signals_fitting}
 use Rattle.wiring.proofs.terms.Laws.{clean_for}
@@ -106,7 +106,7 @@ module _ (panel : Panel) (fs : List (Poly Mono)) (text : List ℕ) where
   judged_lines e v i = rw (e, i)
 
 -- its names, held by value
-module _ (panel : Panel) (terms text : List ℕ) (q : Reading panel terms text) (reads : Readable (listing (known_to panel)) text) (set : Set)
+module _ (panel : Panel) (text : List ℕ) (q : Reading panel text) (reads : Readable (listing (known_to panel)) text) (set : Set)
     (held : monomials_of set ≡ map capped (names (known_to panel) text)) where
   pub names_right : forms_set panel (monomials_of set) ≡ forms_set panel (names (known_to panel) text)
   names_right = ap (forms_set panel) held ∙ forms_capped panel (names (known_to panel) text)
@@ -123,16 +123,12 @@ module _ (panel : Panel) (terms text : List ℕ) (q : Reading panel terms text) 
         let k : m ∈ names (known_to panel) text = rw names_held at h in
         ((ended_of (known_to panel) text q.high reads).wide m k, at_most_all set_exponent m ((right_names panel (names (known_to panel) text) forms_them).small m k))
 
-    pub names_judging : (known : Known) → known ≡ known_to panel → set.len ≡ length (monomials_of set) → set.len ≤ cards
-        → (v : Signals) → signals_of v ≡ signals width panel.n (monomials_of set) → v.len ≡ panel.n + 1 + set.len → Judging known terms v text
-    names_judging known is long few v are size = subst (λ (k : Known). Judging k terms v text) (sym is) (record {
+    pub names_judging : (known : Known) → known ≡ known_to panel → set.len ≡ length (monomials_of set)
+        → (v : Signals) → signals_of v ≡ signals width panel.n (monomials_of set) → v.len ≡ panel.n + 1 + set.len → Judging known v text
+    names_judging known is long v are size = subst (λ (k : Known). Judging k v text) (sym is) (record {
       fair = fair_known panel q.low q.high;
       few = q.high;
-      clean = q.clean;
-      joinable = record {
-        few = omega (arith, q.high);
-        fits = subst (Fitting set_exponent) (sym are) (signals_fitting set_exponent panel.n (monomials_of set) (omega arith) names_fit);
-      };
+      fits = subst (Fitting set_exponent) (sym are) (signals_fitting set_exponent panel.n (monomials_of set) (omega (arith, q.high)) names_fit);
       size = size ∙ ap (λ (k : ℕ). panel.n + 1 + k) (long ∙ ap length names_held);
       holds = are ∙ ap (signals width panel.n) names_held;
       short = q.short;
@@ -165,7 +161,9 @@ module _ (panel : Panel) (terms text : List ℕ) where
     said_read h k q answer a = a ∙ said_rest h k (Ok tt) q
 
     -- what the text is read with
-    pub reading_of : length text ≤ most_text → fault panel (records terms) ≡ Ok tt → Reading panel terms text
-    reading_of k clean =
-        let r = panel_out panel (is→T _ e) in
-        record { low = r.low; high = r.high; clean = clean_for panel width terms r.high clean; short = k }
+    pub reading_of : length text ≤ most_text → Reading panel text
+    reading_of k = let r = panel_out panel (is→T _ e) in record { low = r.low; high = r.high; short = k }
+
+    -- and what the records are
+    pub clean_of : fault panel (records terms) ≡ Ok tt → CleanTerms terms
+    clean_of clean = clean_for panel width terms (panel_out panel (is→T _ e)).high clean

@@ -5,11 +5,12 @@ use mathlib.Core.Bool.{Bool, true, false, not, ◌&&◌}
 use mathlib.Core.List.Memᴰ
 use mathlib.Core.List.{List, [], ◌∷◌}
 use mathlib.Core.Logic.{⊎_elim}
-use Prim.Native.Nat.{ℕ, zero, suc, ◌+◌, ◌≤◌, ◌<◌}
+use Prim.Native.Nat.{ℕ, zero, suc, ◌≤◌, ◌<◌}
 use native.Mathlib.Omega.{arith}
 use lib.Dec.{T, T_not, not_T}
 use lib.IntN.{pos}
 use lib.ListN.{length, get_or, drop}
+use Rattle.std.specs.List.{list_all, range_with_len}
 use Rattle.monomial.specs.Lists.{below}
 use Rattle.monomial.specs.Monomial.{Mono}
 use Rattle.monomial.specs.Product.{mul}
@@ -17,7 +18,6 @@ use Rattle.monomial.specs.Claims.{◌∈◌}
 use Rattle.monomial.proofs.Tests.{Tested, passed, failed, test, is→T, is→n_t, and_l, and_r, and_i, same_test}
 use Rattle.monomial.proofs.Members.{here, there, map_at, drop_in, all_in, all_out, some_in, some_out}
 use Rattle.monomial.proofs.Counting.{at_in, below_in, below_out, below_length}
-use Rattle.monomial.proofs.Loops.{Checking, checking_start, checking_fails, checking_on, checking_ends}
 use Rattle.monomial.proofs.order.Laws.{mono_order}
 use Rattle.wiring.specs.Coefficient.{is_zero}
 use Rattle.wiring.specs.Poly.{Poly, plain, monos, coeff, Same}
@@ -34,17 +34,14 @@ use Rattle.truth.specs.Sums.{cell, held, Summed, Told, agrees, row_agrees, all_a
 use Rattle.truth.specs.declared.truth.Sums.{Sums}
 use Rattle.truth.proofs.truth.Laws.{zero_apart, apart_zero, line_same}
 use Rattle.truth.proofs.truth.Cells.{product_in, signals-in}
+use Rattle.truth.proofs.truth.Ranges.{all_from}
 
 -- a number below n, at its own place
-pub below_self : (n i d : ℕ) → i < n → get_or (below n) i d ≡ i
+below_self : (n i d : ℕ) → i < n → get_or (below n) i d ≡ i
 unfolding below
 below_self zero i d h = let z : ⊥ = omega arith in absurd z
 below_self (suc n) zero d h = refl
 below_self (suc n) (suc i) d h = map_at suc (below n) i 0 d (omega (arith, below_length n)) ∙ ap suc (below_self n i 0 (omega arith))
-
--- what is found of m is said of what m is
-pub agrees_at : (v : List Mono) (sums : Sums) (p : Poly Mono) (m n : Mono) (r : Bool) → m ≡ n → r ≡ agrees v sums p m → agrees v sums p n ≡ r
-agrees_at v sums p m n r e f = ap (agrees v sums p) (sym e) ∙ sym f
 
 -- an entry from number a on
 behind : {A : Type 0} (l : List A) (a b : ℕ) (d : A) → a ≤ b → b < length l → get_or l b d ∈ drop a l
@@ -151,26 +148,9 @@ module _ (v : List Mono) (fs : List (Poly Mono)) (left : ℕ) (line : List Produ
     pub decided_end : true ≡ all_agree v sums found → (b : Bool) → b ≡ lacking plain v found → not b ≡ line_true v fs left line
     decided_end e b f = ap not f ∙ ap (λ (a : Bool). a && not (lacking plain v found)) e ∙ sym decided_at
 
--- ---- the loop over the rows
-module _ (v : List Mono) (sums : Sums) (p : Poly Mono) where
-  -- it has come to row a
-  abbrev pub Rows : ℕ → Type 0
-  Rows a = Checking (row_agrees v sums p) (below (length v)) a
-
-  pub rows_start : Rows 0
-  rows_start = checking_start (row_agrees v sums p) (below (length v))
-
-  module _ (a : ℕ) (r : Rows a) where
-    row_at : a < length v → (b : Bool) → b ≡ row_agrees v sums p a → row_agrees v sums p (get_or (below (length v)) a 0) ≡ b
-    row_at h b e = ap (row_agrees v sums p) (below_self (length v) a 0 h) ∙ sym e
-
-    pub rows_fail : a < length v → (b : Bool) → b ≡ row_agrees v sums p a → b ≡ false → false ≡ all_agree v sums p
-    unfolding all_agree
-    rows_fail h b e f = checking_fails (row_agrees v sums p) 0 r (omega (arith, below_length (length v))) (row_at h b e ∙ f)
-
-    pub rows_on : a < length v → (b : Bool) → b ≡ row_agrees v sums p a → b ≡ true → Rows (a + 1)
-    rows_on h b e f = checking_on (row_agrees v sums p) 0 r (omega (arith, below_length (length v))) (row_at h b e ∙ f)
-
-    pub rows_end : length v ≤ a → true ≡ all_agree v sums p
-    unfolding all_agree
-    rows_end h = checking_ends (row_agrees v sums p) r (omega (arith, below_length (length v)))
+-- the rows are asked by their numbers
+pub rows_asked : (v : List Mono) (sums : Sums) (p : Poly Mono) (n : ℕ) → n ≡ length v → list_all (row_agrees v sums p) (range_with_len 0 n) ≡ all_agree v sums p
+unfolding all_agree
+rows_asked v sums p n e =
+    all_from 0 (row_agrees v sums p) (row_agrees v sums p) (below (length v)) 0 n (omega (arith, below_length (length v)))
+    (λ a low high. ap (row_agrees v sums p) (sym (below_self (length v) a 0 (omega (arith, below_length (length v))))))

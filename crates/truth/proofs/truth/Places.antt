@@ -1,6 +1,6 @@
 -- The signals as an array holds them: their places, and products of two of them. Assumes nothing.
 use mathlib.Core.Path.{◌≡◌, sym, ap₂, ◌∙◌, subst}
-use Prim.Native.Nat.{ℕ, ◌+◌, ◌*◌, ◌≤◌, ◌<◌}
+use Prim.Native.Nat.{ℕ, ◌+◌, ◌*◌, ◌<◌}
 use native.Mathlib.Omega.{arith}
 use lib.Dec.{T}
 use lib.ListN.{length}
@@ -12,7 +12,7 @@ use Rattle.wiring.specs.Poly.{plain}
 use Rattle.wiring.specs.Quadratic.{in_v2}
 use Rattle.wiring.specs.Signals.{Fitting, signals_of}
 use Rattle.wiring.specs.Wires.{signal, FirstPair}
-use Rattle.wiring.specs.declared.signals.Signals.{Signals}
+use Rattle.wiring.specs.declared.held.Signals.{Signals}
 use Rattle.wiring.specs.declared.wires.Pair.{Pair}
 use Rattle.std.specs.Prelude.{Option, Some}
 use Rattle.wiring.proofs.signals.Arrays.{entry, front_length, front_at, entry_fits}
@@ -26,18 +26,18 @@ cell_found v m r p e f =
     let pair = (rw e at f).pair in
     (ap₂ (λ (a b : ℕ). most_signals * a + b) pair.first pair.second, omega (arith, pair.a_small, pair.b_small))
 
-module _ (v : Signals) (room : length v.m ≡ most_signals) (few : v.len ≤ most_signals) (wide : Fitting set_exponent (signals_of v)) where
+module _ (v : Signals) (room : length v.m ≡ most_signals) (wide : Fitting set_exponent (signals_of v)) where
   pub long : length (signals_of v) ≡ v.len
-  long = front_length v.len v.m (omega arith)
+  long = front_length v.len v.m (omega (arith, v.few))
 
   pub within : (i : ℕ) → i < v.len → i < length (signals_of v)
   within i h = omega (arith, long)
 
   pub at : (i : ℕ) → i < v.len → signal plain (signals_of v) i ≡ entry v.m i
-  at i h = front_at v.len v.m i (plain.one 0) h (omega arith)
+  at i h = front_at v.len v.m i (plain.one 0) h (omega (arith, v.few))
 
   pub small : (i : ℕ) → i < v.len → AtMost set_exponent (entry v.m i)
-  small i h = entry_fits set_exponent v.len v.m i h (omega arith) wide
+  small i h = entry_fits set_exponent v.len v.m i h (omega (arith, v.few)) wide
 
   -- the product of two of them
   module _ (i j : ℕ) (hi : i < v.len) (hj : j < v.len) where

@@ -61,18 +61,18 @@ unwrap-left-requires c =
     let k = c.loop-x.invariant p in
     let more : c.loop-x.x-index < length c.args.text.now = omega arith in
     let ended = at_end (goal.at.unwrap-left-requires c).Then-ends_line in
-    is_there _ _ _ c.left_of.ensures.told (going_there _ _ _ _ p k more ended _ (going_named _ _ _ _ p))
+    is_there _ _ _ c.left_of.ensures.told (going_there _ _ _ _ p k more ended _ (going_named _ c.args.s.terms.now _ _ p))
 
 pub is_true-requires : goal.is_true-requires
 is_true-requires c =
     let p = c.requires in
     let within = rw c.unwrap-left.ensures at c.left_of.ensures.within in
-    (p.clean, (p.joinable.few, (p.joinable.fits, omega (arith, p.size, within.1))))
+    record { fits = p.fits; inside = omega (arith, p.size, within.1) }
 
 pub overflow_add-result : goal.overflow_add-result
 overflow_add-result c =
     let p = c.requires in
-    omega (arith, p.size, p.joinable.few)
+    omega (arith, p.size, c.args.v.few)
 
 pub overflow_add-result-then-not-is_true : goal.overflow_add-result-then-not-is_true
 overflow_add-result-then-not-is_true c =
@@ -80,7 +80,7 @@ overflow_add-result-then-not-is_true c =
     let k = c.loop-x.invariant p in
     let more : c.loop-x.x-index < length c.args.text.now = omega arith in
     let ended = at_end (goal.at.overflow_add-result-then-not-is_true c).Then-ends_line in
-    omega (arith, p.size, p.joinable.few, going_low _ _ _ _ p k more ended)
+    omega (arith, p.size, c.args.v.few, going_low _ _ _ _ p k more ended)
 
 pub returns-then-not-is_true : goal.returns-then-not-is_true
 returns-then-not-is_true c =
@@ -90,7 +90,7 @@ returns-then-not-is_true c =
     let heard = c.say-said.ensures in
     let ended = going_ended _ _ _ _ p k more _ heard _ c.ends_line.ensures ∙ c.if-ends_line.true in
     let sums = going_summed _ _ _ _ p k more _ heard _ c.add_ended-totals.ensures in
-    let count = going_named _ _ _ _ p in
+    let count = going_named _ c.args.s.terms.now _ _ p in
     let left = the_signal _ _ _ c.unwrap-left.ensures c.left_of.ensures.number in
     let told = going_verdict _ _ _ _ p k more ended _ sums _ _ count left _ c.is_true.ensures in
     rw count (going_false _ _ _ _ p k more ended (sym told ∙ c.if-not-is_true.true))
@@ -101,7 +101,7 @@ overflow_add-line c =
     let k = c.loop-x.invariant p in
     let more : c.loop-x.x-index < length c.args.text.now = omega arith in
     let ended = at_end (goal.at.overflow_add-line c).Then-ends_line in
-    omega (arith, p.size, p.joinable.few, going_low _ _ _ _ p k more ended)
+    omega (arith, p.size, c.args.v.few, going_low _ _ _ _ p k more ended)
 
 pub eat-g-requires : goal.eat-g-requires
 eat-g-requires c =
@@ -116,7 +116,7 @@ loop-x-preserved c = λ p.
     let ends = going_ended _ _ _ _ p k more _ heard _ c.ends_line.ensures in
     let sums = going_summed _ _ _ _ p k more _ heard _ c.add_ended-totals.ensures in
     let says = going_says _ _ _ _ p k more _ heard _ c.note-t.ensures in
-    let count = going_named _ _ _ _ p in
+    let count = going_named _ c.args.s.terms.now _ _ p in
     elim c.if-ends_line.branch [
       | then-ends_line+else-not-is_true w ↦
           let ended = ends ∙ w.if-ends_line.true in

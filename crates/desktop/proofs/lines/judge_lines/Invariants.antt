@@ -4,4 +4,4 @@ use Rattle.desktop.proofs.lines.Going.{Going}
 use Rattle.desktop.proofs.lines.judge_lines.Given as goal
 
 abbrev pub invariant-loop-x : goal.invariant-loop-x
-invariant-loop-x l = (j : Judging l.known l.terms l.v l.text) → Going l.known l.terms l.v l.text j l.g l.t l.totals l.line l.x-index
+invariant-loop-x l = (j : Judging l.known l.v l.text) → Going l.known l.s.terms.now l.v l.text j l.g l.t l.totals l.line l.x-index

@@ -5,21 +5,21 @@ use Rattle.desktop.proofs.names.Hearing.{hearing_start, hearing_ready, hearing_n
 use Rattle.desktop.proofs.names.names_of.Goals as goal
 
 pub loop-x-init : goal.loop-x-init
-loop-x-init c = rw c.begin-g.ensures (hearing_start _ _ _ empty_holds)
+loop-x-init c = rw c.begin-g.ensures (hearing_start _ _ _ (empty_holds _))
 
 pub say-requires : goal.say-requires
-say-requires c = let k = c.loop-x in record { fair = c.requires.0; stands = k.invariant.follows.stands }
+say-requires c = let k = c.loop-x in record { fair = c.requires.fair; stands = k.invariant.follows.stands }
 
 pub note-k-requires : goal.note-k-requires
-note-k-requires c = let k = c.loop-x in rw c.say.ensures (hearing_ready _ _ k.invariant c.requires.1.1 _ (omega arith))
+note-k-requires c = let k = c.loop-x in rw c.say.ensures (hearing_ready _ _ k.invariant c.requires.six _ (omega arith))
 
 pub eat-g-requires : goal.eat-g-requires
-eat-g-requires c = let k = c.loop-x in record { fair = c.requires.0; stands = k.invariant.follows.stands }
+eat-g-requires c = let k = c.loop-x in record { fair = c.requires.fair; stands = k.invariant.follows.stands }
 
 pub loop-x-preserved : goal.loop-x-preserved
 loop-x-preserved c = let k = c.loop-x in
     let heard = c.say.ensures in
-    rw c.eat-g.ensures (hearing_next _ _ k.invariant c.requires.1.0 (omega arith) _ (λ q h. rw (← heard) (c.note-k.ensures q h)))
+    rw c.eat-g.ensures (hearing_next _ _ k.invariant c.requires.few (omega arith) _ (λ q h. rw (← heard) (c.note-k.ensures q h)))
 
 pub returns : goal.returns
-returns c = let k = c.loop-x in (hearing_ends _ _ k.invariant (omega arith), rw k.invariant.holds.size (omega (arith, k.invariant.follows.few, c.requires.1.1)))
+returns c = hearing_ends _ _ c.loop-x.invariant (omega arith)

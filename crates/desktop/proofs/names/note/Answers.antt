@@ -10,13 +10,13 @@ use Rattle.desktop.proofs.names.Laws.{holds_variable, holds_raised, holds_digit,
 use Rattle.desktop.proofs.names.note.Goals as goal
 
 pub closed-requires : goal.closed-requires
-closed-requires c = (rw c.in-Variable.is at c.requires.closing, c.requires.power)
+closed-requires c = record { inside = rw c.in-Variable.is at c.requires.closing; limited = c.requires.power }
 
 pub overflow_add-k : goal.overflow_add-k
 overflow_add-k c = let small : c.in-Digit.d < 256 = rw c.in-Digit.is at c.requires.small in omega (arith, c.requires.power)
 
 pub closed-requires-in-NameEnds : goal.closed-requires-in-NameEnds
-closed-requires-in-NameEnds c = ((rw c.in-NameEnds.is at c.requires.closing).0, c.requires.power)
+closed-requires-in-NameEnds c = record { inside = (rw c.in-NameEnds.is at c.requires.closing).0; limited = c.requires.power }
 
 pub with_last-requires : goal.with_last-requires
 with_last-requires c = (rw c.in-NameEnds.is at c.requires.closing).1

@@ -24,17 +24,17 @@ use Rattle.desktop.proofs.read.judge.Goals as goal
 
 pub names_of-names-requires : goal.names_of-names-requires
 names_of-names-requires c =
-    let q = c.requires.0 in
-    rw c.from-known.ensures (fair_known c.args.panel q.low q.high, (q.high, refl))
+    let q = c.requires.reading in
+    rw c.from-known.ensures (record { fair = fair_known c.args.panel q.low q.high; few = q.high; six = refl })
 
 pub returns-in_default : goal.returns-in_default
 returns-in_default c =
     let a = c.args in
     let known = c.from-known in
     let found = c.names_of-names in
-    let held = found.ensures.0 ∙ ap (λ (k : Known). map capped (names k a.text.now)) known.ensures in
-    let right = sym (names_right a.panel a.terms.now a.text.now c.requires.0 c.requires.1 found.result held) in
-    c.refused.ensures ∙ judged_bad a.panel (system (records a.terms.now)) a.text.now (right ∙ c.in_default.ensures)
+    let held = found.ensures ∙ ap (λ (k : Known). map capped (names k a.text.now)) known.ensures in
+    let right = sym (names_right a.panel a.text.now c.requires.reading c.requires.reads found.result held) in
+    c.refused.ensures ∙ judged_bad a.panel (system (records a.s.terms.now)) a.text.now (right ∙ c.in_default.ensures)
 
 pub judge_lines-requires : goal.judge_lines-requires
 judge_lines-requires c =
@@ -42,10 +42,10 @@ judge_lines-requires c =
     let a = c.args in
     let known = c.from-known in
     let found = c.names_of-names in
-    let held = found.ensures.0 ∙ ap (λ (k : Known). map capped (names k a.text.now)) known.ensures in
-    let long = sym (front_length found.result.len found.result.m (omega (arith, found.ensures.1))) in
-    names_judging a.panel a.terms.now a.text.now c.requires.0 c.requires.1 found.result held c.in-Some.ensures.0
-    known.result known.ensures long found.ensures.1 c.signals_of-v.result c.signals_of-v.ensures.0 c.signals_of-v.ensures.1
+    let held = found.ensures ∙ ap (λ (k : Known). map capped (names k a.text.now)) known.ensures in
+    let long = sym (front_length found.result.len found.result.m (omega (arith, found.result.few))) in
+    names_judging a.panel a.text.now c.requires.reading c.requires.reads found.result held c.in-Some.ensures.0
+    known.result known.ensures long c.signals_of-v.result c.signals_of-v.ensures.0 c.signals_of-v.ensures.1
 
 pub returns-in-Ok : goal.returns-in-Ok
 returns-in-Ok c =
@@ -53,20 +53,20 @@ returns-in-Ok c =
     let a = c.args in
     let known = c.from-known in
     let found = c.names_of-names in
-    let held = found.ensures.0 ∙ ap (λ (k : Known). map capped (names k a.text.now)) known.ensures in
-    let right = sym (names_right a.panel a.terms.now a.text.now c.requires.0 c.requires.1 found.result held) in
-    let long = sym (front_length found.result.len found.result.m (omega (arith, found.ensures.1))) in
-    let own = names_held a.panel a.terms.now a.text.now c.requires.0 c.requires.1 found.result held c.in-Some.ensures.0 in
-    let told = sym c.in-Ok.is ∙ c.judge_lines.ensures ∙ ap (λ (k : Known). lines_said k (system (records a.terms.now)) a.text.now) known.ensures in
+    let held = found.ensures ∙ ap (λ (k : Known). map capped (names k a.text.now)) known.ensures in
+    let right = sym (names_right a.panel a.text.now c.requires.reading c.requires.reads found.result held) in
+    let long = sym (front_length found.result.len found.result.m (omega (arith, found.result.few))) in
+    let own = names_held a.panel a.text.now c.requires.reading c.requires.reads found.result held c.in-Some.ensures.0 in
+    let told = sym c.in-Ok.is ∙ c.judge_lines.ensures ∙ ap (λ (k : Known). lines_said k (system (records a.s.terms.now)) a.text.now) known.ensures in
     ap₂ (λ (i : ℕ) (r : List ℕ). outcome (Done i 0 0) r) (long ∙ ap length own) (c.in-Some.ensures.1 ∙ ap (λ (l : List Mono). set_record (arranged l)) own)
-    ∙ judged_lines a.panel (system (records a.terms.now)) a.text.now (right ∙ c.in-Some.ensures.0) whole told
+    ∙ judged_lines a.panel (system (records a.s.terms.now)) a.text.now (right ∙ c.in-Some.ensures.0) whole told
 
 pub returns-in-Err : goal.returns-in-Err
 returns-in-Err c =
     let a = c.args in
     let known = c.from-known in
     let found = c.names_of-names in
-    let held = found.ensures.0 ∙ ap (λ (k : Known). map capped (names k a.text.now)) known.ensures in
-    let right = sym (names_right a.panel a.terms.now a.text.now c.requires.0 c.requires.1 found.result held) in
-    let told = sym c.in-Err.is ∙ c.judge_lines.ensures ∙ ap (λ (k : Known). lines_said k (system (records a.terms.now)) a.text.now) known.ensures in
-    c.refused-in-Err.ensures ∙ judged_lines a.panel (system (records a.terms.now)) a.text.now (right ∙ c.in-Some.ensures.0) (Err c.in-Err.broken) told
+    let held = found.ensures ∙ ap (λ (k : Known). map capped (names k a.text.now)) known.ensures in
+    let right = sym (names_right a.panel a.text.now c.requires.reading c.requires.reads found.result held) in
+    let told = sym c.in-Err.is ∙ c.judge_lines.ensures ∙ ap (λ (k : Known). lines_said k (system (records a.s.terms.now)) a.text.now) known.ensures in
+    c.refused-in-Err.ensures ∙ judged_lines a.panel (system (records a.s.terms.now)) a.text.now (right ∙ c.in-Some.ensures.0) (Err c.in-Err.broken) told

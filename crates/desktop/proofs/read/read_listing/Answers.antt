@@ -4,7 +4,7 @@ use native.Mathlib.Omega.{arith}
 use Rattle.wiring.specs.Sockets.{panel_of}
 use Rattle.std.specs.Prelude.{Err}
 use Rattle.desktop.specs.Read.{refusal}
-use Rattle.desktop.proofs.read.Laws.{said_setting, said_terms_length, said_text_length, said_rest, said_read, reading_of}
+use Rattle.desktop.proofs.read.Laws.{said_setting, said_terms_length, said_text_length, said_rest, said_read, reading_of, clean_of}
 use Rattle.desktop.proofs.read.read_listing.Goals as goal
 
 pub returns-then-not-panel_right : goal.returns-then-not-panel_right
@@ -33,15 +33,22 @@ read_text-requires c =
     let a = c.args in
     let panel = panel_of a.n a.marks a.degree in
     let known = sym c.panel_right.ensures ∙ c.if-not-panel_right.false in
-    reading_of panel a.terms.now a.text.now known (omega arith) (sym c.fault_of.ensures ∙ c.in-Ok.is)
+    reading_of panel a.terms.now a.text.now known (omega arith)
 
-pub returns-in-Ok : goal.returns-in-Ok
-returns-in-Ok c =
+pub invariant_of-system-clause-clean : goal.invariant_of-system-clause-clean
+invariant_of-system-clause-clean c =
+    let a = c.args in
+    let panel = panel_of a.n a.marks a.degree in
+    let known = sym c.panel_right.ensures ∙ c.if-not-panel_right.false in
+    clean_of panel a.terms.now a.text.now known (sym c.fault_of.ensures ∙ c.in_default.is)
+
+pub returns : goal.returns
+returns c =
     let a = c.args in
     let panel = panel_of a.n a.marks a.degree in
     let known = sym c.panel_right.ensures ∙ c.if-not-panel_right.false in
     let measured = sym c.length_right.ensures ∙ c.if-not-length_right.false in
-    let clean = sym c.in-Ok.is ∙ c.fault_of.ensures in
+    let clean = sym c.in_default.is ∙ c.fault_of.ensures in
     said_read panel a.terms.now a.text.now known measured (omega arith) clean _ c.read_text.ensures
 
 pub returns-in-Err : goal.returns-in-Err

@@ -19,16 +19,16 @@ pub judge-requires : goal.judge-requires
 judge-requires c =
     let a = c.args in
     let reads = sym (c.read.ensures ∙ ap (λ (k : Known). said (listing k) a.text.now) c.from.ensures) ∙ c.in-Ok.is in
-    (c.requires, (whole_exact (listing (known_to a.panel)) a.text.now).0 reads)
+    record { reading = c.requires; reads = (whole_exact (listing (known_to a.panel)) a.text.now).0 reads }
 
 pub returns-in-Ok : goal.returns-in-Ok
 returns-in-Ok c =
     let a = c.args in
     let reads = sym (c.read.ensures ∙ ap (λ (k : Known). said (listing k) a.text.now) c.from.ensures) ∙ c.in-Ok.is in
-    c.judge.ensures ∙ ap (λ (v : Verdict). unless_broken Unreadable v (judged a.panel (system (records a.terms.now)) a.text.now)) (sym reads)
+    c.judge.ensures ∙ ap (λ (v : Verdict). unless_broken Unreadable v (judged a.panel (system (records a.s.terms.now)) a.text.now)) (sym reads)
 
 pub returns-in-Err : goal.returns-in-Err
 returns-in-Err c =
     let a = c.args in
     let reads = sym (c.read.ensures ∙ ap (λ (k : Known). said (listing k) a.text.now) c.from.ensures) ∙ c.in-Err.is in
-    c.refused.ensures ∙ ap (λ (v : Verdict). unless_broken Unreadable v (judged a.panel (system (records a.terms.now)) a.text.now)) (sym reads)
+    c.refused.ensures ∙ ap (λ (v : Verdict). unless_broken Unreadable v (judged a.panel (system (records a.s.terms.now)) a.text.now)) (sym reads)

@@ -17,46 +17,43 @@ pub times-requires : goal.times-requires
 times-requires c =
     let v = c.args.v in
     let room : length v.m ≡ most_signals = search (rules, array_length) in
-    product_fits v room c.requires.0 c.requires.1.0 c.args.a c.args.b c.requires.1.1.0 c.requires.1.1.1.0
+    product_fits v room c.requires.fits c.args.a c.args.b c.requires.first c.requires.second
 
 pub cell_of-at-requires : goal.cell_of-at-requires
 cell_of-at-requires c =
     let v = c.args.v in
     let room : length v.m ≡ most_signals = search (rules, array_length) in
-    (c.requires.0, (c.requires.1.0, product_met v room c.requires.0 c.requires.1.0 c.args.a c.args.b c.requires.1.1.0 c.requires.1.1.1.0 _ c.times.ensures))
+    record { fits = c.requires.fits; met = product_met v room c.requires.fits c.args.a c.args.b c.requires.first c.requires.second _ c.times.ensures }
 
 pub coefficient_of-requires : goal.coefficient_of-requires
-coefficient_of-requires c = c.requires.1.1.1.1.0
+coefficient_of-requires c = c.requires.limited
 
 pub bounds-cells-at : goal.bounds-cells-at
-bounds-cells-at c = c.cell_of-at.ensures.1
+bounds-cells-at c = c.cell_of-at.ensures.inside
 
 pub overflow_add-cells : goal.overflow_add-cells
 overflow_add-cells c =
-    let p = c.requires.1.1.1.1 in
     let at = c.cell_of-at.result in
     let q = c.coefficient_of in
-    sum_fits (held c.args.sums at) q.result (p.1 at) (rw q.ensures (signed_small _ _ p.0))
+    sum_fits (held c.args.sums at) q.result (c.requires.bounded at) (rw q.ensures (signed_small _ _ c.requires.limited))
 
 pub bounds-cells-at-2 : goal.bounds-cells-at-2
-bounds-cells-at-2 c = c.cell_of-at.ensures.1
+bounds-cells-at-2 c = c.cell_of-at.ensures.inside
 
 pub returns : goal.returns
 returns c =
     let v = c.args.v in
-    let p = c.requires.1.1.1.1 in
     let at = c.cell_of-at.result in
     let q = c.coefficient_of in
     let old = held c.args.sums at in
     let room : length v.m ≡ most_signals = search (rules, array_length) in
     let cells : length c.args.sums.cells ≡ pair_cells = search rules in
-    let few = c.requires.0 in
-    let wide = c.requires.1.0 in
-    let ha = c.requires.1.1.0 in
-    let hb = c.requires.1.1.1.0 in
-    let number = signed_small c.args.negative c.args.number p.0 in
-    let product = product_is v room few wide c.args.a c.args.b ha hb _ c.times.ensures in
-    let cell_is = c.cell_of-at.ensures.0 ∙ ap (cell (signals_of v)) product in
-    let sum = sum_is old q.result (p.1 at) (rw q.ensures (signed_small _ _ p.0)) ∙ ap (λ (x : ℤ). old +ℤ x) q.ensures in
-    λ line h. summed_next (signals_of v) (omega (arith, long v room few wide)) line _ (within v room few wide c.args.a ha) (within v room few wide c.args.b hb)
-    c.args.sums _ at cell_is (omega (arith, cells, c.cell_of-at.ensures.1)) (ap (set c.args.sums.cells at) sum) number h
+    let wide = c.requires.fits in
+    let ha = c.requires.first in
+    let hb = c.requires.second in
+    let number = signed_small c.args.negative c.args.number c.requires.limited in
+    let product = product_is v room wide c.args.a c.args.b ha hb _ c.times.ensures in
+    let cell_is = c.cell_of-at.ensures.value ∙ ap (cell (signals_of v)) product in
+    let sum = sum_is old q.result (c.requires.bounded at) (rw q.ensures (signed_small _ _ c.requires.limited)) ∙ ap (λ (x : ℤ). old +ℤ x) q.ensures in
+    λ line h. summed_next (signals_of v) (omega (arith, long v room wide)) line _ (within v room wide c.args.a ha) (within v room wide c.args.b hb)
+    c.args.sums _ at cell_is (omega (arith, cells, c.cell_of-at.ensures.inside)) (ap (set c.args.sums.cells at) sum) number h

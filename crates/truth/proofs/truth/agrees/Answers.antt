@@ -15,24 +15,24 @@ use Rattle.truth.proofs.truth.Machine.{cell_fits, bits_same}
 use Rattle.truth.proofs.truth.agrees.Goals as goal
 
 pub cell_of-requires : goal.cell_of-requires
-cell_of-requires c = let p = c.requires.1 in (p.0, (p.1.0, p.1.1.1))
+cell_of-requires c = record { fits = c.requires.fits; met = c.requires.met }
 
 pub bounds-sums-cell_of : goal.bounds-sums-cell_of
-bounds-sums-cell_of c = c.cell_of.ensures.1
+bounds-sums-cell_of c = c.cell_of.ensures.inside
 
 pub total-requires : goal.total-requires
-total-requires c = let p = c.requires in (p.0, p.1.1.1.0)
+total-requires c = c.requires.small
 
 pub returns : goal.returns
 unfolding agrees
 returns c =
-    let terms = c.args.terms.now in
+    let terms = c.args.s.terms.now in
     let z = c.args.z.e in
     let m = c.args.m.e in
     let long : length z ≡ width = search rules in
-    let small = c.requires.1.1.1.0 in
+    let small = c.requires.small in
     let at = c.cell_of in
     let told : SFits w64 (held c.args.sums at.result) = search (rules, cell_fits) in
-    let total = c.from.ensures ∙ total_held terms c.requires.0 z m long small _ c.total.ensures in
-    let fits : SFits w64 c.from.result = rw total (size_fits w64 _ (omega (arith, total_fits terms c.requires.0 z m long small))) in
-    bits_same _ _ told fits ∙ ap₂ (λ (x y : ℤ). is_zero (x -ℤ y)) (ap (held c.args.sums) at.ensures.0) total
+    let total = c.from.ensures ∙ total_held terms c.args.s.clean z m long small _ c.total.ensures in
+    let fits : SFits w64 c.from.result = rw total (size_fits w64 _ (omega (arith, total_fits terms c.args.s.clean z m long small))) in
+    bits_same _ _ told fits ∙ ap₂ (λ (x y : ℤ). is_zero (x -ℤ y)) (ap (held c.args.sums) at.ensures.value) total

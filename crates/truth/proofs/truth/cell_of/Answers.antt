@@ -5,10 +5,10 @@ use Rattle.truth.proofs.truth.Places.{cell_found}
 use Rattle.truth.proofs.truth.cell_of.Goals as goal
 
 pub pair_of-requires : goal.pair_of-requires
-pair_of-requires c = (c.requires.0, c.requires.1.0)
+pair_of-requires c = c.requires.fits
 
 pub unwrap-p-requires : goal.unwrap-p-requires
-unwrap-p-requires c = c.pair_of.ensures.told ∙ T→is _ c.requires.1.1
+unwrap-p-requires c = c.pair_of.ensures.told ∙ T→is _ c.requires.met
 
 pub returns : goal.returns
-returns c = cell_found _ _ c.pair_of.result _ c.unwrap-p.ensures c.pair_of.ensures
+returns c = let found = cell_found _ _ c.pair_of.result _ c.unwrap-p.ensures c.pair_of.ensures in record { value = found.0; inside = found.1 }

@@ -1,65 +1,57 @@
--- `is_true` meets its contract: the loop tests row after row (`Rows`), and what no row has is asked last (`decided_end`). Assumes nothing.
-use mathlib.Core.Path.{◌≡◌}
-use Prim.Native.Nat.{◌<◌, ◌≤◌}
+-- `is_true` meets its contract: every row is asked (`rows_asked`), and what no row has is asked last (`decided_end`). Assumes nothing.
+use mathlib.Core.Path.{◌≡◌, refl, ◌∙◌, sym}
 use native.Mathlib.Omega.{arith}
 use borrow.Author.Rules.{rules}
+use borrow.Author.Tests.{tests}
 use lib.ListN.{length}
+use Rattle.std.proofs.lemmas.Iterator.{serves_from_Range, YieldsList-from_range}
+use Rattle.std.proofs.lemmas.Iterator.Search.{all_from_yields_List}
 use Rattle.wiring.specs.Panel.{most_signals}
+use Rattle.wiring.specs.Poly.{plain}
+use Rattle.wiring.specs.Derivative.{derivative}
 use Rattle.wiring.specs.Quadratic.{unmet}
 use Rattle.wiring.specs.Signals.{signals_of}
-use Rattle.wiring.proofs.signals.Arrays.{array_length}
-use Rattle.truth.proofs.truth.Deciding.{rows_start, rows_fail, rows_on, rows_end, decided_no, decided_end}
-use Rattle.truth.proofs.truth.Places.{long, within, at, small}
+use Rattle.wiring.specs.Terms.{records, system}
+use Rattle.wiring.proofs.signals.Arrays.{entry, array_length}
+use Rattle.truth.specs.Sums.{row_agrees, all_agree}
+use Rattle.truth.proofs.truth.Deciding.{rows_asked, decided_no, decided_end}
+use Rattle.truth.proofs.truth.Places.{long, at, small}
 use Rattle.truth.proofs.truth.is_true.Goals as goal
+use Rattle.truth.proofs.truth.is_true.Goals.{After-all}
 
-pub loop-a-init : goal.loop-a-init
-loop-a-init c = rows_start _ _ _
-
-pub row_agrees-requires : goal.row_agrees-requires
-row_agrees-requires c =
+pub all-requires-clause-callable : goal.all-requires-clause-callable
+all-requires-clause-callable c =
     let v = c.args.v in
     let room : length v.m ≡ most_signals = search (rules, array_length) in
-    let few = c.requires.1.0 in
-    let wide = c.requires.1.1.0 in
-    (c.requires.0, (few, (wide, (small v room few wide c.args.left c.requires.1.1.1, omega arith))))
+    let low = small v room c.requires.fits c.args.left c.requires.inside in
+    serves_from_Range (λ a q k. search (rules, tests)) (λ a first last. search (rules, arith, v.few, c.requires.fits, low))
 
-pub returns-then-not-row_agrees : goal.returns-then-not-row_agrees
-returns-then-not-row_agrees c =
-    let v = c.args.v in
-    let k = c.loop-a in
-    let room : length v.m ≡ most_signals = search (rules, array_length) in
-    let few = c.requires.1.0 in
-    let wide = c.requires.1.1.0 in
-    let ha : k.a < v.len = omega arith in
-    let fails = rows_fail _ _ _ k.a k.invariant (within v room few wide k.a ha) _ c.row_agrees.ensures c.if-not-row_agrees.true in
-    λ line told sums. decided_no _ _ _ line _ told sums _ (at v room few wide c.args.left c.requires.1.1.1) fails
-
-pub loop-a-preserved : goal.loop-a-preserved
-loop-a-preserved c =
-    let v = c.args.v in
-    let k = c.loop-a in
-    let room : length v.m ≡ most_signals = search (rules, array_length) in
-    let few = c.requires.1.0 in
-    let wide = c.requires.1.1.0 in
-    let ha : k.a < v.len = omega arith in
-    rows_on _ _ _ k.a k.invariant (within v room few wide k.a ha) _ c.row_agrees.ensures c.if-not-row_agrees.false
-
-pub lacks_pair-requires : goal.lacks_pair-requires
-lacks_pair-requires c =
+pub lacks_pair-requires-clause-small : goal.lacks_pair-requires-clause-small
+lacks_pair-requires-clause-small c =
     let v = c.args.v in
     let room : length v.m ≡ most_signals = search (rules, array_length) in
-    let few = c.requires.1.0 in
-    let wide = c.requires.1.1.0 in
-    (c.requires.0, (few, (wide, small v room few wide c.args.left c.requires.1.1.1)))
+    small v room c.requires.fits c.args.left c.requires.inside
 
-pub returns : goal.returns
+-- what asking every row has found
+asked : (c : After-all) → c.all.result ≡ all_agree (signals_of c.args.v) c.args.sums (derivative plain (system (records c.args.s.terms.now)) (entry c.args.v.m c.args.left))
+asked c =
+    let v = c.args.v in
+    let room : length v.m ≡ most_signals = search (rules, array_length) in
+    let p = derivative plain (system (records c.args.s.terms.now)) (entry v.m c.args.left) in
+    all_from_yields_List (row_agrees (signals_of v) c.args.sums p) _ _ c.all.result c.all.ensures.ran (YieldsList-from_range 0 v.len _ refl refl) (λ a r q k. search (rules, tests))
+    ∙ rows_asked (signals_of v) c.args.sums p _ (omega (arith, long v room c.requires.fits))
+
+pub returns-then-all : goal.returns-then-all
 unfolding unmet
-returns c =
+returns-then-all c =
     let v = c.args.v in
-    let k = c.loop-a in
     let room : length v.m ≡ most_signals = search (rules, array_length) in
-    let few = c.requires.1.0 in
-    let wide = c.requires.1.1.0 in
-    let all : length (signals_of v) ≤ k.a = omega (arith, long v room few wide) in
-    let rows = rows_end _ _ _ k.a k.invariant all in
-    λ line told sums. decided_end _ _ _ line _ told sums _ (at v room few wide c.args.left c.requires.1.1.1) rows _ c.lacks_pair.ensures
+    let rows = sym c.if-all.true ∙ asked (goal.at.returns-then-all c).After-all in
+    λ line told sums. decided_end _ _ _ line _ told sums _ (at v room c.requires.fits c.args.left c.requires.inside) rows _ c.lacks_pair.ensures
+
+pub returns-else-all : goal.returns-else-all
+returns-else-all c =
+    let v = c.args.v in
+    let room : length v.m ≡ most_signals = search (rules, array_length) in
+    let rows = sym c.if-all.false ∙ asked (goal.at.returns-else-all c).After-all in
+    λ line told sums. c.if-all.false ∙ decided_no _ _ _ line _ told sums _ (at v room c.requires.fits c.args.left c.requires.inside) rows
