@@ -25,7 +25,7 @@ fn is_beyond(last: Option<Monomial>, m: Monomial) -> bool
     ensures { result ≡ beyond last m.e }
 {
     match last {
-        Some(last) => last.before(m),
+        Some(last) => last < m,
         None => true,
     }
 }

@@ -31,10 +31,8 @@ impl System<'_> {
         if v.is_square(m) {
             return None;
         }
-        if self.cancels {
-            if coefficient::is_zero(self.total(z, m)) {
-                return None;
-            }
+        if self.cancels && coefficient::is_zero(self.total(z, m)) {
+            return None;
         }
         Some(m)
     }

@@ -4,7 +4,7 @@ ghost use Rattle.monomial.specs.Lists.{any, all};
 ghost use Rattle.monomial.specs.Monomial.{constants, width};
 ghost use Rattle.monomial.specs.Order.{same};
 ghost use Rattle.wiring.specs.Panel.{cards};
-ghost use Rattle.wiring.specs.Sets.{places, size_of, ascending, monomial_right, monomials_of, SetReads};
+ghost use Rattle.wiring.specs.Sets.{places, size_of, ascending, monomial_right, set_right, monomials_of, SetReads};
 
 use super::held::Set;
 use super::panel::{CARDS, Panel, SET_BYTES, SET_EXPONENT};
@@ -17,7 +17,7 @@ fn is_constant(m: Monomial) -> bool
     ensures { result ≡ any (same m.e) (constants width) }
 {
     for i in 0..CONSTANTS {
-        if m.same(Monomial::constant(i)) {
+        if m == Monomial::constant(i) {
             return true;
         }
     }
@@ -38,7 +38,7 @@ fn size_of(s: &[u8; SET_BYTES]) -> usize
     ensures { (result ≡ size_of s.now) × (result ≤ cards) }
 {
     for i in 0..CARDS {
-        if Monomial::ONE.same(Monomial::read(s, WIDTH * i)) {
+        if Monomial::ONE == Monomial::read(s, WIDTH * i) {
             return i;
         }
     }
@@ -59,7 +59,7 @@ fn ascends(s: &[u8; SET_BYTES], len: usize) -> bool
     ensures { result ≡ ascending (take len (places s.now)) }
 {
     for i in 1..len {
-        if !Monomial::read(s, WIDTH * i - WIDTH).before(Monomial::read(s, WIDTH * i)) {
+        if Monomial::read(s, WIDTH * i - WIDTH) >= Monomial::read(s, WIDTH * i) {
             return false;
         }
     }
@@ -91,19 +91,20 @@ fn set_of(s: &[u8; SET_BYTES], len: usize) -> Set
     Set { m, len }
 }
 
+// Whether a record keeps its rule, once it is known how many places are used.
+#[tactic(auto, unfolding(crate::specs::Sets::set_right, crate::specs::Sets::set_of))]
+fn keeps_rule(panel: Panel, s: &[u8; SET_BYTES], len: usize) -> bool
+    requires used { len ≡ size_of s.now }
+    requires few { len ≤ cards }
+    ensures { result ≡ set_right panel s.now }
+{
+    zero_from(s, WIDTH * len) && ascends(s, len) && monomials_right(panel, s, len)
+}
+
 // Reads a set record: none where it breaks its rule.
 pub(crate) fn read_set(panel: Panel, s: &[u8; SET_BYTES]) -> Option<Set>
     ensures { SetReads panel s.now result }
 {
     let len = size_of(s);
-    if !zero_from(s, WIDTH * len) {
-        return None;
-    }
-    if !ascends(s, len) {
-        return None;
-    }
-    if !monomials_right(panel, s, len) {
-        return None;
-    }
-    Some(set_of(s, len))
+    keeps_rule(panel, s, len).then(|| set_of(s, len))
 }

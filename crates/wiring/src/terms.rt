@@ -88,7 +88,7 @@ fn records_alike(terms: &[u8], t: usize, u: usize) -> bool
 {
     let m = Monomial::read(terms, TERM_BYTES * t + MONOMIAL_AT);
     terms[TERM_BYTES * t] == terms[TERM_BYTES * u]
-        && m.same(Monomial::read(terms, TERM_BYTES * u + MONOMIAL_AT))
+        && m == Monomial::read(terms, TERM_BYTES * u + MONOMIAL_AT)
 }
 
 // An earlier record has the equation and exponents of record t.

@@ -41,7 +41,7 @@ pub fn pair_of(v: Signals, m: Monomial) -> Option<Pair>
             let rest = m.over(x);
             for b in a..len {
                 let y = v.m[b];
-                if y.same(rest) {
+                if y == rest {
                     return Some(Pair { a, b });
                 }
             }

@@ -28,7 +28,7 @@ use Rattle.wiring.specs.Signals.{Fitting}
 use Rattle.wiring.specs.Terms.{exponents_right}
 use Rattle.wiring.proofs.terms.Laws.{exponents_everywhere}
 use Rattle.wiring.proofs.kit.Laws.{may_can}
-use Rattle.wiring.specs.Sets.{places, size_of, set_of, ascending, monomial_right, set_right, monomials_of, SetReads}
+use Rattle.wiring.specs.Sets.{places, size_of, set_of, ascending, monomial_right, set_right, monomials_of, IsSetOf}
 use Rattle.wiring.specs.declared.held.Set.{Set}
 use Rattle.std.specs.Prelude.{Some, None}
 use Rattle.wiring.proofs.terms.Laws.{all_small}
@@ -193,45 +193,12 @@ module _ (panel : Panel) (m : Mono) (new : any (same m) (constants width) ≡ fa
       let fits = exponents_everywhere set_exponent panel.n m (is→T (exponents_right set_exponent panel.n m) e) in
       rw (new, e) (sym (may_can panel m (omega arith) (at_most_all set_exponent m (λ i. (fits i).small))))
 
--- ---- reading a record whose size is known: each test that fails refuses it, and one that passes all three holds its set
-module _ (panel : Panel) (bytes : List ℕ) (len : ℕ) (e : len ≡ size_of bytes) where
-  zeros : Bool
-  zeros = all (eqb 0) (drop (width * len) bytes)
-
-  order : Bool
-  order = ascending (take len (places bytes))
-
-  each : Bool
-  each = all (monomial_right panel) (take len (places bytes))
-
-  sized : set_right panel bytes ≡ zeros && order && each
-  unfolding set_right set_of zeros order each
-  sized = rw e
-
-  refused : (T (zeros && order && each) → ⊥) → SetReads panel bytes None
-  refused f = record { right = sym (sized ∙ n_t→is (zeros && order && each) f); set = tt }
-
-  pub refused_bytes : all (eqb 0) (drop (width * len) bytes) ≡ false → SetReads panel bytes None
-  unfolding zeros
-  refused_bytes f = refused (λ t. is→n_t zeros f (search (and_l, and_r, t)))
-
-  pub refused_order : ascending (take len (places bytes)) ≡ false → SetReads panel bytes None
-  unfolding order
-  refused_order f = refused (λ t. is→n_t order f (search (and_l, and_r, t)))
-
-  pub refused_monomial : all (monomial_right panel) (take len (places bytes)) ≡ false → SetReads panel bytes None
-  unfolding each
-  refused_monomial f = refused (λ t. is→n_t each f (search (and_l, and_r, t)))
-
-  pub accepted : all (eqb 0) (drop (width * len) bytes) ≡ true → ascending (take len (places bytes)) ≡ true → all (monomial_right panel) (take len (places bytes)) ≡ true
-      → (set : Set) → len ≤ cards → monomials_of set ≡ take len (places bytes) → set.len ≡ len → SetReads panel bytes (Some set)
-  unfolding set_of zeros order each
-  accepted z o m set h is long =
-      let whole : take len (places bytes) ≡ set_of bytes = ap (λ (k : ℕ). take k (places bytes)) e in
-      record {
-        right = sym (sized ∙ rw (z, o, m));
-        set = record { holds = is ∙ whole; size = long ∙ sym (used_length bytes len h) ∙ ap length whole };
-      }
+-- ---- the set of a record whose size is known
+pub holds_set : (bytes : List ℕ) (len : ℕ) → len ≡ size_of bytes → len ≤ cards → (s : Set) → monomials_of s ≡ take len (places bytes) → s.len ≡ len → IsSetOf bytes s
+unfolding set_of
+holds_set bytes len e h s is long =
+    let whole : take len (places bytes) ≡ set_of bytes = ap (λ (k : ℕ). take k (places bytes)) e in
+    record { holds = is ∙ whole; size = long ∙ sym (used_length bytes len h) ∙ ap length whole }
 
 -- ---- what a right record holds
 pub right_fits : (panel : Panel) (bytes : List ℕ) → length bytes ≡ set_bytes → T (set_right panel bytes) → Fitting set_exponent (set_of bytes)

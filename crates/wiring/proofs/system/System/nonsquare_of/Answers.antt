@@ -15,6 +15,7 @@ use Rattle.wiring.specs.Derivative.{derivative}
 use Rattle.wiring.specs.Terms.{record_at, records, system}
 use Rattle.wiring.proofs.quadratic.Records.{outside, offered_low, offered_fails, offered_zero, offered_here}
 use Rattle.wiring.proofs.system.System.nonsquare_of.Goals as goal
+use Rattle.wiring.proofs.system.System.nonsquare_of.Goals.{else-self-via-then-self+else-is_zero, else-self-via-else-self}
 
 pub returns-then-power-lt1 : goal.returns-then-power-lt1
 returns-then-power-lt1 c =
@@ -48,28 +49,20 @@ returns-then-is_zero c =
     x.ensures c.if-power-lt1.false m.ensures
     (ap not (sym c.is_square.ensures ∙ c.if-is_square.false)) zero
 
-pub returns-else-is_zero : goal.returns-else-is_zero
-returns-else-is_zero c =
-    let a = c.args in
-    let l = a.self.terms.now in
-    let x = c.power in
-    let m = c.image-m in
-    let sum = c.total in
-    let same_sum = to_z-of_z w32 sum.result (sfits_of sum.type_inv) in
-    let other = ap is_zero (sym sum.ensures ∙ sym same_sum) ∙ sym c.is_zero.ensures ∙ c.if-is_zero.false in
-    offered_here (outside (signals_at a.v.n a.v.set.now)) (system (records l)) a.z.e (record_at l a.t) x.result m.result
-    x.ensures c.if-power-lt1.false m.ensures
-    (ap not (sym c.is_square.ensures ∙ c.if-is_square.false)) other
-
--- no total is 0, so none is summed
-pub returns-else-self : goal.returns-else-self
-returns-else-self c =
+-- the total is summed and is not 0; or no total is 0, so none is summed
+pub returns : goal.returns
+returns c =
     let long : length c.args.z.e ≡ width = search rules in
     let a = c.args in
     let l = a.self.terms.now in
     let x = c.power in
     let m = c.image-m in
-    let other = c.args.self.sums c.if-self.false a.z.e a.t long (omega (arith, c.requires.inside)) (omega (arith, x.ensures, c.if-power-lt1.false)) in
+    let kept = elim c.else-self.branch as (λ _. is_zero (coeff plain (derivative plain (system (records l)) a.z.e) m.result.e) ≡ false) [
+      | else-self-via-then-self+else-is_zero w ↦
+          ap is_zero (sym w.total.ensures ∙ sym (to_z-of_z w32 w.total.result (sfits_of w.total.type_inv))) ∙ sym w.is_zero.ensures ∙ w.if-is_zero.false
+      | else-self-via-else-self w ↦
+          ap (λ (y : Mono). is_zero (coeff plain (derivative plain (system (records l)) a.z.e) y)) m.ensures
+          ∙ a.self.sums w.if-self.false a.z.e a.t long (omega (arith, c.requires.inside)) (omega (arith, x.ensures, c.if-power-lt1.false))
+    ] in
     offered_here (outside (signals_at a.v.n a.v.set.now)) (system (records l)) a.z.e (record_at l a.t) x.result m.result
-    x.ensures c.if-power-lt1.false m.ensures
-    (ap not (sym c.is_square.ensures ∙ c.if-is_square.false)) (ap (λ (y : Mono). is_zero (coeff plain (derivative plain (system (records l)) a.z.e) y)) m.ensures ∙ other)
+    x.ensures c.if-power-lt1.false m.ensures (ap not (sym c.is_square.ensures ∙ c.if-is_square.false)) kept
