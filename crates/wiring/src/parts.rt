@@ -10,7 +10,7 @@ ghost use Rattle.wiring.specs.Terms.{record_at, records, system};
 ghost use Rattle.wiring.specs.Choice.{Heads, beyond, Offered};
 
 use super::system::System;
-use super::{choice, coefficient};
+use super::choice;
 use monomial::Monomial;
 
 // A monomial of a derivative with its total.
@@ -70,7 +70,7 @@ impl System<'_> {
         let mut behind = last;
         while let Some(m) = self.next_image(z, behind) {
             let total = self.total(z, m);
-            if !coefficient::is_zero(total) {
+            if total != 0 {
                 return Some(Part { m, total });
             }
             behind = Some(m);

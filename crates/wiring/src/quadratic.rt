@@ -11,7 +11,6 @@ ghost use Rattle.wiring.specs.Signals.{Fitting, signals_at};
 ghost use Rattle.wiring.specs.Terms.{record_at, records, system};
 ghost use Rattle.wiring.specs.Choice.{Offered};
 
-use super::coefficient;
 use super::signals::Members;
 use super::system::System;
 use monomial::Monomial;
@@ -31,7 +30,7 @@ impl System<'_> {
         if v.is_square(m) {
             return None;
         }
-        if self.cancels && coefficient::is_zero(self.total(z, m)) {
+        if self.cancels && self.total(z, m) == 0 {
             return None;
         }
         Some(m)

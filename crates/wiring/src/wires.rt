@@ -13,7 +13,7 @@ ghost use Rattle.wiring.specs.Wires.{Wire, wire_record, Sheet, Wrote, FirstPair,
 use super::held::Signals;
 use super::panel::WIRE_BYTES;
 use super::system::System;
-use super::{buffer, coefficient};
+use super::buffer;
 use monomial::Monomial;
 
 // The numbers of two signals.
@@ -89,7 +89,7 @@ impl System<'_> {
         if pair_of(v, m).is_some() {
             return false;
         }
-        !coefficient::is_zero(self.total(z, m))
+        self.total(z, m) != 0
     }
 
     // Whether the derivative of z has a monomial behind the last one that no two signals multiply to. Where nothing is written any more, their order
