@@ -9,8 +9,8 @@ ghost use Rattle.wiring.specs.Derivative.{derivative, image, gives, images};
 ghost use Rattle.wiring.specs.Terms.{record_at, records, system};
 ghost use Rattle.wiring.specs.Choice.{Heads, beyond, Offered};
 
-use super::system::System;
 use super::choice;
+use super::system::System;
 use monomial::Monomial;
 
 // A monomial of a derivative with its total.

@@ -10,18 +10,13 @@ use super::held::Set;
 use super::panel::{CARDS, Panel, SET_BYTES, SET_EXPONENT};
 use super::{sockets, terms};
 use monomial::Monomial;
-use monomial::width::{CONSTANTS, WIDTH};
+use monomial::width::WIDTH;
 
-// Whether m is 1 or a single variable.
+// Whether m is 1 or a single variable: those are the monomials of degree below 2.
 fn is_constant(m: Monomial) -> bool
     ensures { result ≡ any (same m.e) (constants width) }
 {
-    for i in 0..CONSTANTS {
-        if m == Monomial::constant(i) {
-            return true;
-        }
-    }
-    false
+    m.is_low(WIDTH, 2)
 }
 
 #[tactic(auto, unfolding(crate::specs::Sets::monomial_right))]
@@ -35,14 +30,12 @@ pub fn monomial_right(panel: Panel, m: Monomial) -> bool
 
 // How many places of a record are used: up to the first that is all zero.
 fn size_of(s: &[u8; SET_BYTES]) -> usize
-    ensures { (result ≡ size_of s.now) × (result ≤ cards) }
+    ensures size { result ≡ size_of s.now }
+    ensures few { result ≤ cards }
 {
-    for i in 0..CARDS {
-        if Monomial::ONE == Monomial::read(s, WIDTH * i) {
-            return i;
-        }
-    }
-    CARDS
+    (0..CARDS)
+        .position(|i| Monomial::ONE == Monomial::read(s, WIDTH * i))
+        .unwrap_or(CARDS)
 }
 
 // Whether the bytes from at on are all zero.
@@ -58,12 +51,7 @@ fn ascends(s: &[u8; SET_BYTES], len: usize) -> bool
     requires { len ≤ cards }
     ensures { result ≡ ascending (take len (places s.now)) }
 {
-    for i in 1..len {
-        if Monomial::read(s, WIDTH * i - WIDTH) >= Monomial::read(s, WIDTH * i) {
-            return false;
-        }
-    }
-    true
+    (1..len).all(|i| Monomial::read(s, WIDTH * (i - 1)) < Monomial::read(s, WIDTH * i))
 }
 
 // Whether the first len places hold monomials that a set may have.
@@ -71,18 +59,14 @@ fn monomials_right(panel: Panel, s: &[u8; SET_BYTES], len: usize) -> bool
     requires { len ≤ cards }
     ensures { result ≡ all (monomial_right panel) (take len (places s.now)) }
 {
-    for i in 0..len {
-        if !monomial_right(panel, Monomial::read(s, WIDTH * i)) {
-            return false;
-        }
-    }
-    true
+    (0..len).all(|i| monomial_right(panel, Monomial::read(s, WIDTH * i)))
 }
 
 // The first len places as a set.
 fn set_of(s: &[u8; SET_BYTES], len: usize) -> Set
     requires { len ≤ cards }
-    ensures { (monomials_of result ≡ take len (places s.now)) × (result.len ≡ len) }
+    ensures holds { monomials_of result ≡ take len (places s.now) }
+    ensures size { result.len ≡ len }
 {
     let mut m = [Monomial::ONE; CARDS];
     for i in 0..len {

@@ -96,12 +96,7 @@ fn repeats(terms: &[u8], t: usize) -> bool
     requires { term_bytes * t + term_bytes ≤ length terms.now }
     ensures { result ≡ any (alike (record_at terms.now t)) (take t (records terms.now)) }
 {
-    for u in 0..t {
-        if records_alike(terms, t, u) {
-            return true;
-        }
-    }
-    false
+    (0..t).any(|u| records_alike(terms, t, u))
 }
 
 // The first record with a fault decides.

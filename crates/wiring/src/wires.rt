@@ -10,10 +10,10 @@ ghost use Rattle.wiring.specs.Signals.{Fitting, signals_of};
 ghost use Rattle.wiring.specs.Terms.{record_at, records, system};
 ghost use Rattle.wiring.specs.Wires.{Wire, wire_record, Sheet, Wrote, FirstPair, unmet_beyond, RowPassed, Passed};
 
+use super::buffer;
 use super::held::Signals;
 use super::panel::WIRE_BYTES;
 use super::system::System;
-use super::buffer;
 use monomial::Monomial;
 
 // The numbers of two signals.
@@ -99,12 +99,7 @@ impl System<'_> {
         requires small { AtMost set_exponent z.e }
         ensures { result ≡ some (keep (unmet_beyond (signals_of v) last) (support plain (derivative plain (system (records self.entry.terms.now)) z.e))) }
     {
-        for t in 0..self.count() {
-            if self.lacks_pair_at(t, v, z, last) {
-                return true;
-            }
-        }
-        false
+        (0..self.count()).any(|t| self.lacks_pair_at(t, v, z, last))
     }
 
     // Passes over the derivative of one left variable: its records go behind those of the list so far. Without room the rest of it is only judged.

@@ -21,7 +21,6 @@ use Rattle.monomial.specs.Product.{AtMost}
 use Rattle.monomial.specs.Claims.{◌∈◌}
 use Rattle.monomial.proofs.Tests.{Tested, passed, failed, test, T→is, is→T, n_t→is, is→n_t, and_l, and_r, and_i}
 use Rattle.monomial.proofs.Members.{here, any_in, all_out}
-use Rattle.monomial.proofs.Loops.{Seeking, seeking_start, seeking_found, seeking_on, seeking_ends}
 use Rattle.monomial.proofs.order.Laws.{mono_order}
 use Rattle.monomial.proofs.Counting.{below_in, below_out, below_length, below_at, at_in}
 use Rattle.wiring.specs.Panel.{term_bytes, most_coefficient, term_exponent}
@@ -353,32 +352,10 @@ module _ (bytes : List ℕ) {panel : Panel} {t : ℕ} (j : Judging panel (record
   pub records_on : term_right panel (record_at bytes t) ≡ true → any (alike (record_at bytes t)) (take t (records bytes)) ≡ false → Judging panel (records bytes) (t + 1)
   records_on e f = judging_on (record_at bytes t) j inside (ap (term_right panel) is ∙ e) (ap (λ (r : Record). any (alike r) (take t (records bytes))) is ∙ f)
 
--- ---- a loop that looks among the records before number t for one like it, and has come to number u
-pub record Repeating (bytes : List ℕ) (t u : ℕ) : Type 0 where
-  pub whole : t < length bytes / term_bytes
-  pub within : u ≤ t
-  pub seeks : Seeking (alike (record_at bytes t)) (take t (records bytes)) u
+-- ---- the records before number t
+module _ (bytes : List ℕ) (t : ℕ) (h : term_bytes * t + term_bytes ≤ length bytes) where
+  pub earlier_length : length (take t (records bytes)) ≡ t
+  earlier_length = length-take-le t (records bytes) (omega (arith, records_length bytes))
 
-pub repeating_start : (bytes : List ℕ) (t : ℕ) → term_bytes * t + term_bytes ≤ length bytes → Repeating bytes t 0
-repeating_start bytes t h = record { whole = omega arith; within = omega arith; seeks = seeking_start (alike (record_at bytes t)) (take t (records bytes)) }
-
-module _ {bytes : List ℕ} {t u : ℕ} (r : Repeating bytes t u) where
-  front : length (take t (records bytes)) ≡ t
-  front = let l : length (records bytes) ≡ length bytes / term_bytes = records_length bytes in let h = r.whole in length-take-le t (records bytes) (omega arith)
-
-  module _ (h : u < t) where
-    entry : get_or (take t (records bytes)) u (record_at bytes u) ≡ record_at bytes u
-    entry = get_or-take t (records bytes) u (record_at bytes u) h ∙ records_at bytes u (record_at bytes u) (let k = r.whole in omega arith)
-
-    pub repeating_found : alike (record_at bytes t) (record_at bytes u) ≡ true → true ≡ any (alike (record_at bytes t)) (take t (records bytes))
-    repeating_found e = seeking_found (alike (record_at bytes t)) (record_at bytes u) r.seeks (rw front h) (ap (alike (record_at bytes t)) entry ∙ e)
-
-    pub repeating_on : alike (record_at bytes t) (record_at bytes u) ≡ false → Repeating bytes t (u + 1)
-    repeating_on e = record {
-      whole = r.whole;
-      within = omega arith;
-      seeks = seeking_on (alike (record_at bytes t)) (record_at bytes u) r.seeks (rw front h) (ap (alike (record_at bytes t)) entry ∙ e);
-    }
-
-  pub repeating_ends : t ≤ u → false ≡ any (alike (record_at bytes t)) (take t (records bytes))
-  repeating_ends h = seeking_ends (alike (record_at bytes t)) r.seeks (rw front h)
+  pub earlier_at : (u : ℕ) (d : Record) → u < t → get_or (take t (records bytes)) u d ≡ record_at bytes u
+  earlier_at u d k = get_or-take t (records bytes) u d k ∙ records_at bytes u d (omega arith)

@@ -8,4 +8,4 @@ use Rattle.wiring.proofs.sets.read_set.Goals as goal
 pub returns : goal.returns
 returns c =
     let size = c.size_of-len.ensures in
-    record { right = c.then.ensures.variant ∙ c.keeps_rule.ensures; set = IfSome_then _ c.then.ensures.some (λ x p. holds_set _ _ size.0 size.1 x (search rules) (search rules)) }
+    record { right = c.then.ensures.variant ∙ c.keeps_rule.ensures; set = IfSome_then _ c.then.ensures.some (λ x p. holds_set _ _ size.size size.few x (search rules) (search rules)) }

@@ -2,7 +2,6 @@
 use mathlib.Core.Path.{sym, ap, ◌∙◌}
 use mathlib.Core.Bool.{not}
 use borrow.Author.Rules.{sfits_of}
-use Rattle.wiring.specs.Coefficient.{is_zero}
 use Rattle.wiring.specs.Signals.{signals_of}
 use Rattle.wiring.specs.Terms.{record_at, records, system}
 use Rattle.wiring.proofs.coefficient.Laws.{tests_zero}

@@ -1,9 +1,8 @@
 -- `next_part` meets its contract: what is behind the pick and has a coefficient is what is asked for (`Parting`). Assumes nothing.
-use mathlib.Core.Path.{sym, ap, ◌∙◌}
+use mathlib.Core.Path.{◌∙◌}
 use borrow.Author.Rules.{sfits_of}
 use mir.Syntax.{w32}
 use mir.ValLaws.{to_z-of_z}
-use Rattle.wiring.specs.Coefficient.{is_zero}
 use Rattle.wiring.proofs.coefficient.Laws.{tested_zero, tested_nonzero}
 use Rattle.wiring.proofs.parts.Laws.{parting_start, parting_none, parting_here, parting_on, parting_less}
 use Rattle.wiring.proofs.system.System.next_part.Goals as goal
