@@ -41,12 +41,7 @@ impl System<'_> {
         requires { AtMost set_exponent z.e }
         ensures { result ≡ lacking plain (signals_at v.entry.n v.entry.set.now) (derivative plain (system (records self.entry.terms.now)) z.e) }
     {
-        for t in 0..self.count() {
-            if self.nonsquare_of(t, z, v).is_some() {
-                return true;
-            }
-        }
-        false
+        (0..self.count()).any(|t| self.nonsquare_of(t, z, v).is_some())
     }
 
     // Whether the set has a nonsquare. The signals are asked from the last: the newest ones have most.

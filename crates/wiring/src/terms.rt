@@ -46,12 +46,7 @@ pub fn length_right(terms: &[u8]) -> bool
 pub(crate) fn exponents_right(most: u8, n: usize, m: Monomial) -> bool
     ensures { result ≡ exponents_right most n m.e }
 {
-    for i in 0..WIDTH {
-        if most < m.e[i] || n <= i && m.e[i] != 0 {
-            return false;
-        }
-    }
-    true
+    (0..WIDTH).all(|i| m.e[i] <= most && (i < n || m.e[i] == 0))
 }
 
 // A coefficient is nonzero, from -1,000,000 to 1,000,000.
@@ -83,7 +78,8 @@ fn term_right(panel: Panel, terms: &[u8], t: usize) -> bool
 
 // Records t and u have the same equation and exponents.
 fn records_alike(terms: &[u8], t: usize, u: usize) -> bool
-    requires { (term_bytes * t + term_bytes ≤ length terms.now) × (term_bytes * u + term_bytes ≤ length terms.now) }
+    requires one { term_bytes * t + term_bytes ≤ length terms.now }
+    requires other { term_bytes * u + term_bytes ≤ length terms.now }
     ensures { result ≡ alike (record_at terms.now t) (record_at terms.now u) }
 {
     let m = Monomial::read(terms, TERM_BYTES * t + MONOMIAL_AT);

@@ -52,7 +52,10 @@ pub fn pair_of(v: Signals, m: Monomial) -> Option<Pair>
 
 // Writes record number at.
 fn put_record(out: &mut [u8], at: usize, left: usize, p: Pair, c: i32)
-    requires { (wire_bytes * at + wire_bytes ≤ length out.old) × ((left < 256) × ((p.a < 256) × (p.b < 256))) }
+    requires inside { wire_bytes * at + wire_bytes ≤ length out.old }
+    requires left_small { left < 256 }
+    requires a_small { p.a < 256 }
+    requires b_small { p.b < 256 }
     ensures { out.new ≡ paste out.old (wire_bytes * at) (wire_record (record { left = left; a = p.a; b = p.b; coefficient = c })) wire_bytes }
 {
     let [c0, c1, c2, c3] = c.to_le_bytes();
@@ -63,7 +66,9 @@ fn put_record(out: &mut [u8], at: usize, left: usize, p: Pair, c: i32)
 // One record more behind the at records of the list: it is written where there is room. Given back is how far the list has come, and none where it is
 // longer than the buffer holds.
 fn enter(out: &mut [u8], at: usize, left: usize, p: Pair, c: i32) -> Option<usize>
-    requires { (left < 256) × ((p.a < 256) × (p.b < 256)) }
+    requires left_small { left < 256 }
+    requires a_small { p.a < 256 }
+    requires b_small { p.b < 256 }
     ensures { (done : List Wire) → Sheet done at out.old →
         Wrote (done ++ ((record { left = left; a = p.a; b = p.b; coefficient = c }) ∷ [])) result out.new }
 {

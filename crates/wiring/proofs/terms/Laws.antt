@@ -14,6 +14,9 @@ use lib.Dec.{T, leb, eqb, ltb, leb→le, le→leb, eqb→eq, T_not}
 use lib.IntN.{nat_abs}
 use lib.ListN.{length, get_or, take, drop, length-map, length-take, length-drop, drop_of_length-le, get_or-eq_default}
 use lib.Seq.{length-take-le, take-suc, drop-cons, drop-drop, get_or-drop, get_or-take}
+use Rattle.std.specs.Bool.{MatchBool}
+use Rattle.std.specs.List.{AllWithin, HoldsAt, range_with_len}
+use Rattle.std.proofs.lemmas.List.FromFn.{get_or-range_with_len}
 use Rattle.monomial.specs.Lists.{any, all, below}
 use Rattle.monomial.specs.Monomial.{Mono, width}
 use Rattle.monomial.specs.Order.{same}
@@ -172,28 +175,19 @@ exponents_everywhere most n m t i = go (test (ltb i (length m)))
     go (passed e) = exponents_out most n m t i (ltb-true i (length m) e)
     go (failed e) = let z : get_or m i 0 ≡ 0 = get_or-eq_default m 0 {n = i} (ltb-false i (length m) e) in record { small = omega arith; zero = λ h. z }
 
--- a loop that checks them, and has come to place i
-pub record FittingSoFar (w most n : ℕ) (m : Mono) (i : ℕ) : Type 0 where
-  pub within : i ≤ w
-  pub long : length m ≡ w
-  pub fits : (k : ℕ) → k < i → Fit most n (get_or m k 0) k
+-- a chain that asks about each of them
+abbrev pub FitAt : ℕ → ℕ → Mono → ℕ → Type 0
+FitAt most n m i = Fit most n (get_or m i 0) i
 
-pub fitting_start : (w most n : ℕ) (m : Mono) → length m ≡ w → FittingSoFar w most n m 0
-fitting_start w most n m l = record { within = omega arith; long = l; fits = λ k h. absurd (omega arith) }
-
-module _ {w most n i : ℕ} {m : Mono} (f : FittingSoFar w most n m i) where
-  pub fitting_fails : i < w → (Fit most n (get_or m i 0) i → ⊥) → false ≡ exponents_right most n m
-  fitting_fails h x = sym (n_t→is (exponents_right most n m) (λ t. x (exponents_out most n m t i (rw f.long h))))
-
-  pub fitting_on : i < w → Fit most n (get_or m i 0) i → FittingSoFar w most n m (i + 1)
-  fitting_on h x = record { within = omega arith; long = f.long; fits = λ k l. pick k l (test (eqb k i)) }
-    where
-      pick : (k : ℕ) → k < i + 1 → Tested (eqb k i) → Fit most n (get_or m k 0) k
-      pick k l (passed e) = subst (λ (j : ℕ). Fit most n (get_or m j 0) j) (sym (eqb-true k i e)) x
-      pick k l (failed e) = let d : k ≡ i → ⊥ = eqb-false k i e in f.fits k (omega arith)
-
-  pub fitting_ends : w ≤ i → true ≡ exponents_right most n m
-  fitting_ends h = sym (T→is (exponents_right most n m) (exponents_in most n m (λ k l. let long : length m ≡ w = f.long in f.fits k (omega arith))))
+pub exponents_asked : (most n : ℕ) (m : Mono) → length m ≡ width → (r : Bool)
+    → MatchBool r (AllWithin (FitAt most n m) (range_with_len 0 width) 0 width) ((k : ℕ) × (k < width) × HoldsAt (λ i. FitAt most n m i → ⊥) (range_with_len 0 width) k)
+    → r ≡ exponents_right most n m
+exponents_asked most n m l true h =
+    sym (T→is (exponents_right most n m) (exponents_in most n m (λ i k. subst (FitAt most n m) (get_or-range_with_len 0 width i 0 (omega arith) ∙ omega arith) (h i 0 (omega arith) (omega arith)))))
+exponents_asked most n m l false h =
+    let k = h.0 in
+    let at : get_or (range_with_len 0 width) k 0 ≡ k = get_or-range_with_len 0 width k 0 h.1 ∙ omega arith in
+    sym (n_t→is (exponents_right most n m) (λ t. h.2 0 (subst (FitAt most n m) (sym at) (exponents_everywhere most n m t k))))
 
 -- ---- the rule of a record, field by field
 pub record Fields (panel : Panel) (r : Record) : Type 0 where
