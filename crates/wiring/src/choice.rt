@@ -18,7 +18,7 @@ fn is_cheaper(a: Monomial, b: Monomial) -> bool
     if t < s {
         return false;
     }
-    a.before(b)
+    a < b
 }
 
 // The best so far, once m is met too: m takes its place where it comes earlier.
@@ -47,5 +47,5 @@ pub fn cheapest(best: Option<Monomial>, m: Monomial) -> Option<Monomial>
 pub(crate) fn least(best: Option<Monomial>, m: Monomial) -> Option<Monomial>
     ensures { (l : List Mono) → Best before l best → Best before (m.e ∷ l) result }
 {
-    better(best, m, Monomial::before)
+    better(best, m, |a, b| a < b)
 }

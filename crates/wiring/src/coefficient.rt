@@ -1,6 +1,6 @@
 // Signed 32-bit coefficients in four bytes, two's complement, low byte first.
 ghost use Rattle.std.specs.Prelude.{◌≡◌, ◌+◌, ◌≤◌, length};
-ghost use Rattle.wiring.specs.Coefficient.{word, signed, is_zero};
+ghost use Rattle.wiring.specs.Coefficient.{word, signed};
 
 // The number in the four bytes from at on.
 pub fn decode(b: &[u8], at: usize) -> i32
@@ -8,12 +8,4 @@ pub fn decode(b: &[u8], at: usize) -> i32
     ensures { result ≡ signed (word b.now at) }
 {
     i32::from_le_bytes([b[at], b[at + 1], b[at + 2], b[at + 3]])
-}
-
-// Whether a number is 0.
-#[tactic(auto, unfolding(crate::specs::Coefficient::is_zero))]
-pub(crate) fn is_zero(c: i32) -> bool
-    ensures { result ≡ is_zero c }
-{
-    c == 0
 }

@@ -42,7 +42,7 @@ impl System<'_> {
         let mut sum: i32 = 0;
         for t in 0..self.count() {
             let k = self.power(t, z);
-            if 0 < k && self.image(t, z).same(m) {
+            if 0 < k && self.image(t, z) == m {
                 sum += i32::from(k) * self.coefficient(t);
             }
         }
@@ -62,7 +62,7 @@ impl System<'_> {
         }
         let x = self.monomial(t).times(Monomial::constant(b));
         let y = self.monomial(u).times(Monomial::constant(a));
-        x.same(y)
+        x == y
     }
 
     // Whether some total may be 0: only where two records cross. Where none do, each monomial that a record gives has a coefficient, and no total need

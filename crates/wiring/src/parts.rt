@@ -9,8 +9,8 @@ ghost use Rattle.wiring.specs.Derivative.{derivative, image, gives, images};
 ghost use Rattle.wiring.specs.Terms.{record_at, records, system};
 ghost use Rattle.wiring.specs.Choice.{Heads, beyond, Offered};
 
+use super::choice;
 use super::system::System;
-use super::{choice, coefficient};
 use monomial::Monomial;
 
 // A monomial of a derivative with its total.
@@ -25,7 +25,7 @@ fn is_beyond(last: Option<Monomial>, m: Monomial) -> bool
     ensures { result ≡ beyond last m.e }
 {
     match last {
-        Some(last) => last.before(m),
+        Some(last) => last < m,
         None => true,
     }
 }
@@ -70,7 +70,7 @@ impl System<'_> {
         let mut behind = last;
         while let Some(m) = self.next_image(z, behind) {
             let total = self.total(z, m);
-            if !coefficient::is_zero(total) {
+            if total != 0 {
                 return Some(Part { m, total });
             }
             behind = Some(m);

@@ -11,7 +11,6 @@ ghost use Rattle.wiring.specs.Signals.{Fitting, signals_at};
 ghost use Rattle.wiring.specs.Terms.{record_at, records, system};
 ghost use Rattle.wiring.specs.Choice.{Offered};
 
-use super::coefficient;
 use super::signals::Members;
 use super::system::System;
 use monomial::Monomial;
@@ -31,7 +30,7 @@ impl System<'_> {
         if v.is_square(m) {
             return None;
         }
-        if self.cancels && coefficient::is_zero(self.total(z, m)) {
+        if self.cancels && self.total(z, m) == 0 {
             return None;
         }
         Some(m)
@@ -42,12 +41,7 @@ impl System<'_> {
         requires { AtMost set_exponent z.e }
         ensures { result ≡ lacking plain (signals_at v.entry.n v.entry.set.now) (derivative plain (system (records self.entry.terms.now)) z.e) }
     {
-        for t in 0..self.count() {
-            if self.nonsquare_of(t, z, v).is_some() {
-                return true;
-            }
-        }
-        false
+        (0..self.count()).any(|t| self.nonsquare_of(t, z, v).is_some())
     }
 
     // Whether the set has a nonsquare. The signals are asked from the last: the newest ones have most.

@@ -4,24 +4,19 @@ ghost use Rattle.monomial.specs.Lists.{any, all};
 ghost use Rattle.monomial.specs.Monomial.{constants, width};
 ghost use Rattle.monomial.specs.Order.{same};
 ghost use Rattle.wiring.specs.Panel.{cards};
-ghost use Rattle.wiring.specs.Sets.{places, size_of, ascending, monomial_right, monomials_of, SetReads};
+ghost use Rattle.wiring.specs.Sets.{places, size_of, ascending, monomial_right, set_right, monomials_of, SetReads};
 
 use super::held::Set;
 use super::panel::{CARDS, Panel, SET_BYTES, SET_EXPONENT};
 use super::{sockets, terms};
 use monomial::Monomial;
-use monomial::width::{CONSTANTS, WIDTH};
+use monomial::width::WIDTH;
 
-// Whether m is 1 or a single variable.
+// Whether m is 1 or a single variable: those are the monomials of degree below 2.
 fn is_constant(m: Monomial) -> bool
     ensures { result ≡ any (same m.e) (constants width) }
 {
-    for i in 0..CONSTANTS {
-        if m.same(Monomial::constant(i)) {
-            return true;
-        }
-    }
-    false
+    m.is_low(WIDTH, 2)
 }
 
 #[tactic(auto, unfolding(crate::specs::Sets::monomial_right))]
@@ -35,14 +30,12 @@ pub fn monomial_right(panel: Panel, m: Monomial) -> bool
 
 // How many places of a record are used: up to the first that is all zero.
 fn size_of(s: &[u8; SET_BYTES]) -> usize
-    ensures { (result ≡ size_of s.now) × (result ≤ cards) }
+    ensures size { result ≡ size_of s.now }
+    ensures few { result ≤ cards }
 {
-    for i in 0..CARDS {
-        if Monomial::ONE.same(Monomial::read(s, WIDTH * i)) {
-            return i;
-        }
-    }
-    CARDS
+    (0..CARDS)
+        .position(|i| Monomial::ONE == Monomial::read(s, WIDTH * i))
+        .unwrap_or(CARDS)
 }
 
 // Whether the bytes from at on are all zero.
@@ -58,12 +51,7 @@ fn ascends(s: &[u8; SET_BYTES], len: usize) -> bool
     requires { len ≤ cards }
     ensures { result ≡ ascending (take len (places s.now)) }
 {
-    for i in 1..len {
-        if !Monomial::read(s, WIDTH * i - WIDTH).before(Monomial::read(s, WIDTH * i)) {
-            return false;
-        }
-    }
-    true
+    (1..len).all(|i| Monomial::read(s, WIDTH * (i - 1)) < Monomial::read(s, WIDTH * i))
 }
 
 // Whether the first len places hold monomials that a set may have.
@@ -71,18 +59,14 @@ fn monomials_right(panel: Panel, s: &[u8; SET_BYTES], len: usize) -> bool
     requires { len ≤ cards }
     ensures { result ≡ all (monomial_right panel) (take len (places s.now)) }
 {
-    for i in 0..len {
-        if !monomial_right(panel, Monomial::read(s, WIDTH * i)) {
-            return false;
-        }
-    }
-    true
+    (0..len).all(|i| monomial_right(panel, Monomial::read(s, WIDTH * i)))
 }
 
 // The first len places as a set.
 fn set_of(s: &[u8; SET_BYTES], len: usize) -> Set
     requires { len ≤ cards }
-    ensures { (monomials_of result ≡ take len (places s.now)) × (result.len ≡ len) }
+    ensures holds { monomials_of result ≡ take len (places s.now) }
+    ensures size { result.len ≡ len }
 {
     let mut m = [Monomial::ONE; CARDS];
     for i in 0..len {
@@ -91,19 +75,20 @@ fn set_of(s: &[u8; SET_BYTES], len: usize) -> Set
     Set { m, len }
 }
 
+// Whether a record keeps its rule, once it is known how many places are used.
+#[tactic(auto, unfolding(crate::specs::Sets::set_right, crate::specs::Sets::set_of))]
+fn keeps_rule(panel: Panel, s: &[u8; SET_BYTES], len: usize) -> bool
+    requires used { len ≡ size_of s.now }
+    requires few { len ≤ cards }
+    ensures { result ≡ set_right panel s.now }
+{
+    zero_from(s, WIDTH * len) && ascends(s, len) && monomials_right(panel, s, len)
+}
+
 // Reads a set record: none where it breaks its rule.
 pub(crate) fn read_set(panel: Panel, s: &[u8; SET_BYTES]) -> Option<Set>
     ensures { SetReads panel s.now result }
 {
     let len = size_of(s);
-    if !zero_from(s, WIDTH * len) {
-        return None;
-    }
-    if !ascends(s, len) {
-        return None;
-    }
-    if !monomials_right(panel, s, len) {
-        return None;
-    }
-    Some(set_of(s, len))
+    keeps_rule(panel, s, len).then(|| set_of(s, len))
 }

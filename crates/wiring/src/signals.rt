@@ -36,7 +36,7 @@ pub fn is_among(list: &[u8], m: Monomial) -> bool
     ensures { result ≡ any (same m.e) (tabled list.now) }
 {
     for i in 0..list.len() / WIDTH {
-        if m.same(Monomial::read(list, WIDTH * i)) {
+        if m == Monomial::read(list, WIDTH * i) {
             return true;
         }
     }

@@ -46,12 +46,7 @@ pub fn length_right(terms: &[u8]) -> bool
 pub(crate) fn exponents_right(most: u8, n: usize, m: Monomial) -> bool
     ensures { result ≡ exponents_right most n m.e }
 {
-    for i in 0..WIDTH {
-        if most < m.e[i] || n <= i && m.e[i] != 0 {
-            return false;
-        }
-    }
-    true
+    (0..WIDTH).all(|i| m.e[i] <= most && (i < n || m.e[i] == 0))
 }
 
 // A coefficient is nonzero, from -1,000,000 to 1,000,000.
@@ -83,12 +78,13 @@ fn term_right(panel: Panel, terms: &[u8], t: usize) -> bool
 
 // Records t and u have the same equation and exponents.
 fn records_alike(terms: &[u8], t: usize, u: usize) -> bool
-    requires { (term_bytes * t + term_bytes ≤ length terms.now) × (term_bytes * u + term_bytes ≤ length terms.now) }
+    requires one { term_bytes * t + term_bytes ≤ length terms.now }
+    requires other { term_bytes * u + term_bytes ≤ length terms.now }
     ensures { result ≡ alike (record_at terms.now t) (record_at terms.now u) }
 {
     let m = Monomial::read(terms, TERM_BYTES * t + MONOMIAL_AT);
     terms[TERM_BYTES * t] == terms[TERM_BYTES * u]
-        && m.same(Monomial::read(terms, TERM_BYTES * u + MONOMIAL_AT))
+        && m == Monomial::read(terms, TERM_BYTES * u + MONOMIAL_AT)
 }
 
 // An earlier record has the equation and exponents of record t.
@@ -96,12 +92,7 @@ fn repeats(terms: &[u8], t: usize) -> bool
     requires { term_bytes * t + term_bytes ≤ length terms.now }
     ensures { result ≡ any (alike (record_at terms.now t)) (take t (records terms.now)) }
 {
-    for u in 0..t {
-        if records_alike(terms, t, u) {
-            return true;
-        }
-    }
-    false
+    (0..t).any(|u| records_alike(terms, t, u))
 }
 
 // The first record with a fault decides.

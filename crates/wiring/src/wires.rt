@@ -10,10 +10,10 @@ ghost use Rattle.wiring.specs.Signals.{Fitting, signals_of};
 ghost use Rattle.wiring.specs.Terms.{record_at, records, system};
 ghost use Rattle.wiring.specs.Wires.{Wire, wire_record, Sheet, Wrote, FirstPair, unmet_beyond, RowPassed, Passed};
 
+use super::buffer;
 use super::held::Signals;
 use super::panel::WIRE_BYTES;
 use super::system::System;
-use super::{buffer, coefficient};
 use monomial::Monomial;
 
 // The numbers of two signals.
@@ -42,7 +42,7 @@ pub fn pair_of(v: Signals, m: Monomial) -> Option<Pair>
             let rest = m.over(x);
             for b in a..len {
                 let y = v.m[b];
-                if y.same(rest) {
+                if y == rest {
                     return Some(Pair { a, b });
                 }
             }
@@ -53,7 +53,10 @@ pub fn pair_of(v: Signals, m: Monomial) -> Option<Pair>
 
 // Writes record number at.
 fn put_record(out: &mut [u8], at: usize, left: usize, p: Pair, c: i32)
-    requires { (wire_bytes * at + wire_bytes ≤ length out.old) × ((left < 256) × ((p.a < 256) × (p.b < 256))) }
+    requires inside { wire_bytes * at + wire_bytes ≤ length out.old }
+    requires left_small { left < 256 }
+    requires a_small { p.a < 256 }
+    requires b_small { p.b < 256 }
     ensures { out.new ≡ paste out.old (wire_bytes * at) (wire_record (record { left = left; a = p.a; b = p.b; coefficient = c })) wire_bytes }
 {
     let [c0, c1, c2, c3] = c.to_le_bytes();
@@ -64,7 +67,9 @@ fn put_record(out: &mut [u8], at: usize, left: usize, p: Pair, c: i32)
 // One record more behind the at records of the list: it is written where there is room. Given back is how far the list has come, and none where it is
 // longer than the buffer holds.
 fn enter(out: &mut [u8], at: usize, left: usize, p: Pair, c: i32) -> Option<usize>
-    requires { (left < 256) × ((p.a < 256) × (p.b < 256)) }
+    requires left_small { left < 256 }
+    requires a_small { p.a < 256 }
+    requires b_small { p.b < 256 }
     ensures { (done : List Wire) → Sheet done at out.old →
         Wrote (done ++ ((record { left = left; a = p.a; b = p.b; coefficient = c }) ∷ [])) result out.new }
 {
@@ -90,7 +95,7 @@ impl System<'_> {
         if pair_of(v, m).is_some() {
             return false;
         }
-        !coefficient::is_zero(self.total(z, m))
+        self.total(z, m) != 0
     }
 
     // Whether the derivative of z has a monomial behind the last one that no two signals multiply to. Where nothing is written any more, their order
@@ -100,12 +105,7 @@ impl System<'_> {
         requires small { AtMost set_exponent z.e }
         ensures { result ≡ some (keep (unmet_beyond (signals_of v) last) (support plain (derivative plain (system (records self.entry.terms.now)) z.e))) }
     {
-        for t in 0..self.count() {
-            if self.lacks_pair_at(t, v, z, last) {
-                return true;
-            }
-        }
-        false
+        (0..self.count()).any(|t| self.lacks_pair_at(t, v, z, last))
     }
 
     // Passes over the derivative of one left variable: its records go behind those of the list so far. Without room the rest of it is only judged.

@@ -9,7 +9,7 @@ use lib.Dec.{eqb}
 use lib.ListN.{length, get_or, drop, drop_of_length-le}
 use lib.Seq.{drop-cons}
 use Rattle.std.specs.Cmp.Lexicographic.{pointwise, slice_partial_cmp}
-use Rattle.std.specs.Ordering.{nat_cmp, is_lt, is_le, is_some_and, as_partial_cmp, partial_ordering_then}
+use Rattle.std.specs.Ordering.{nat_cmp, is_lt, is_le, is_ge, is_some_and, as_partial_cmp, partial_ordering_then}
 use Rattle.std.specs.declared.cmp.Ordering.{Ordering}
 use Rattle.std.specs.declared.cmp.Ordering.TheVariants.{Equal}
 use Rattle.std.specs.declared.option.Option.{Option}
@@ -38,6 +38,11 @@ before_from_lt = same_from_slice_cmp_tested nat_cmp is_lt before refl (λ _ _. r
 pub not_before_from_le : (a b : Mono) (r : Bool) → r ≡ is_some_and is_le (compared a b) → r ≡ not (before b a)
 unfolding dictionary
 not_before_from_le = same_from_slice_cmp_tested nat_cmp is_le (λ a b. not (before b a)) refl (λ _ _. refl) (λ _ _. refl) (λ x y xs ys o h. grind (arith, nat_tests))
+
+-- `a >= b`: its answer cites `c.ge.ensures`
+pub not_before_from_ge : (a b : Mono) (r : Bool) → r ≡ is_some_and is_ge (compared a b) → r ≡ not (before a b)
+unfolding dictionary
+not_before_from_ge = same_from_slice_cmp_tested nat_cmp is_ge (λ a b. not (before a b)) refl (λ _ _. refl) (λ _ _. refl) (λ x y xs ys o h. grind (arith, nat_tests))
 
 -- ---- one place of the two
 ties : (x y : ℕ) → x ≡ y → nat_cmp x y ≡ Equal

@@ -1,15 +1,16 @@
 -- Coefficients in four bytes: what the machine's steps on 32 bits come to, and that reading a number takes back what writing it did.
 -- The checker's arithmetic reads no whole numbers, so a bound is said of a number's size. Assumes nothing.
-use mathlib.Core.Path.{◌≡◌, refl, ap, ◌∙◌}
-use mathlib.Core.Bool.{cond}
+use mathlib.Core.Path.{◌≡◌, refl, sym, ap, ◌∙◌}
+use mathlib.Core.Bool.{true, false, cond}
+use mathlib.Core.Logic.{◌≢◌}
 use Prim.Native.Nat.{ℕ, zero, suc, ◌+◌, ◌*◌, ◌-◌, ◌/◌, ◌%◌, ◌<◌}
 use native.Mathlib.Omega.{arith}
-use borrow.Author.Tests.{lt-ltb, le-ltb}
-use lib.Dec.{ltb}
+use borrow.Author.Tests.{lt-ltb, le-ltb, eq-eqb, ne_eqb}
+use lib.Dec.{eqb, ltb}
 use lib.IntN.{ℤ, pos, negsuc, nat_abs, ◌-ℤ◌}
 use mir.Syntax.{w32}
 use mir.Val.{SFits, to_z, of_z}
-use Rattle.wiring.specs.Coefficient.{word, signed, unsigned, four_bytes}
+use Rattle.wiring.specs.Coefficient.{word, signed, unsigned, four_bytes, is_zero}
 
 -- ---- two's complement, of a word
 minus : (k : ℕ) → negsuc 0 -ℤ pos k ≡ negsuc k
@@ -26,6 +27,23 @@ pub bits_are : (z : ℤ) → SFits w32 z → of_z w32 z ≡ unsigned z
 unfolding unsigned
 bits_are (pos n) f = refl
 bits_are (negsuc n) f = omega arith
+
+-- the machine tests the bits for 0
+zero_bits : (z : ℤ) → SFits w32 z → eqb (of_z w32 z) 0 ≡ is_zero z
+unfolding is_zero
+zero_bits (pos zero) h = refl
+zero_bits (pos (suc n)) h = ne_eqb _ _ (λ q. let z : ⊥ = omega arith in z)
+zero_bits (negsuc n) h = ne_eqb _ _ (λ q. let z : ⊥ = omega arith in z)
+
+module _ (sum : ℤ) {c : ℤ} (f : SFits w32 sum) (e : sum ≡ c) where
+  pub tests_zero : eqb (of_z w32 sum) 0 ≡ is_zero c
+  tests_zero = zero_bits sum f ∙ ap is_zero e
+
+  pub tested_zero : of_z w32 sum ≡ 0 → is_zero c ≡ true
+  tested_zero h = sym tests_zero ∙ eq-eqb _ _ h
+
+  pub tested_nonzero : of_z w32 sum ≢ 0 → is_zero c ≡ false
+  tested_nonzero h = sym tests_zero ∙ ne_eqb _ _ h
 
 -- ---- there and back
 pub signed_unsigned : (c : ℤ) → nat_abs c < 2147483648 → signed (unsigned c) ≡ c

@@ -2,7 +2,7 @@
 -- each set that may stand in one is right and holds that set. Assumes nothing.
 use mathlib.Core.Path.{◌≡◌, refl, sym, ap, ap₂, subst, ◌∙◌}
 use mathlib.Core.Logic.{◌↔◌}
-use mathlib.Core.Bool.{Bool, cond, not, ◌&&◌}
+use mathlib.Core.Bool.{Bool, not, ◌&&◌}
 use mathlib.Core.List.Memᴰ
 use mathlib.Core.List.{List, [], ◌∷◌, ◌++◌}
 use Prim.Native.Nat.{ℕ, zero, suc, ◌+◌, ◌*◌, ◌-◌, ◌<◌, ◌≤◌}
@@ -14,7 +14,7 @@ use Rattle.monomial.specs.Lists.{any, all, place}
 use Rattle.monomial.specs.Monomial.{Mono, one, constants, width}
 use Rattle.monomial.specs.Order.{same, before}
 use Rattle.monomial.specs.Claims.{◌∈◌, ◌⊆◌, Ascending}
-use Rattle.monomial.proofs.Tests.{Tested, passed, failed, test, T→is, n_t→is, and_l, and_r, and_i}
+use Rattle.monomial.proofs.Tests.{T→is, n_t→is, and_l, and_r, and_i}
 use Rattle.monomial.proofs.Members.{here, all_in, all_out, take_in, fill_at}
 use Rattle.monomial.proofs.Counting.{at_in}
 use Rattle.monomial.proofs.Strips.{strip_length, strip_at}
@@ -31,7 +31,7 @@ use Rattle.wiring.specs.Claims.{Permitted, Buildable, RightRecord, Recordable, W
 use Rattle.wiring.proofs.kit.Laws.{may_buildable, buildable_may}
 use Rattle.wiring.proofs.terms.Laws.{Fit, exponents_in, exponents_everywhere}
 use Rattle.wiring.proofs.signals.Tables.{flat_cuts}
-use Rattle.wiring.proofs.sets.Laws.{place_at, places_length, places_at, places_width, set_narrow, used_length, used_at, ascending_in, ascending_out}
+use Rattle.wiring.proofs.sets.Laws.{place_at, places_length, size_few, places_at, places_width, set_narrow, used_length, used_at, ascending_in, ascending_out}
 
 -- ---- zeros
 zero_all : (l : List ℕ) → T (all (eqb 0) l) → (k : ℕ) → get_or l k 0 ≡ 0
@@ -111,15 +111,6 @@ module _ (panel : Panel) where
 
 -- ---- the first entry that passes
 module _ {A : Type 0} (f : A → Bool) where
-  place_most : (l : List A) → place f l ≤ length l
-  unfolding place
-  place_most [] = omega arith
-  place_most (x ∷ l) = go (test (f x)) (place_most l)
-    where
-      go : Tested (f x) → place f l ≤ length l → cond (f x) 0 (suc (place f l)) ≤ suc (length l)
-      go (passed e) h = rw e (omega arith)
-      go (failed e) h = rw e (omega arith)
-
   place_is : (l : List A) (i : ℕ) (d : A) → i ≤ length l → ((j : ℕ) → j < i → T (f (get_or l j d)) → ⊥) → (i < length l → T (f (get_or l i d))) → place f l ≡ i
   unfolding place
   place_is [] i d h least here = omega arith
@@ -228,26 +219,22 @@ bytes_used bytes k h =
     flat_cuts bytes (places bytes) (λ i j. places_at bytes i [] (omega arith)) k (omega arith)
 
 module _ (panel : Panel) (bytes : List ℕ) (t : T (set_right panel bytes)) (l : length bytes ≡ set_bytes) where
-  size_few : size_of bytes ≤ cards
-  unfolding size_of
-  size_few = omega (arith, place_most (same (one width)) (places bytes), places_length bytes)
-
   set_long : length (set_of bytes) ≡ size_of bytes
   unfolding set_of
-  set_long = used_length bytes (size_of bytes) size_few
+  set_long = used_length bytes (size_of bytes) (size_few bytes)
 
   -- the set of a right record may stand in a record
   pub right_recordable : Recordable panel.n (set_of bytes)
   unfolding set_of
   right_recordable = record {
-    few = omega (arith, set_long, size_few);
+    few = omega (arith, set_long, (size_few bytes));
     wide = λ m h. places_width bytes l m (take_in (size_of bytes) (places bytes) h);
     permitted = ((right_iff panel bytes).0 t).permitted;
   }
 
   right_front : flat (set_of bytes) ≡ take (width * size_of bytes) bytes
   unfolding set_of
-  right_front = bytes_used bytes (size_of bytes) size_few
+  right_front = bytes_used bytes (size_of bytes) (size_few bytes)
 
   right_tail : replicate (set_bytes - width * length (set_of bytes)) 0 ≡ drop (width * size_of bytes) bytes
   right_tail =

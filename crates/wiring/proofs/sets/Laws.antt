@@ -1,21 +1,21 @@
 -- Set records: their places, the loops that judge and read them, and what a right record holds. Assumes nothing.
 use mathlib.Core.Path.{◌≡◌, refl, sym, ap, ap₂, subst, ◌∙◌}
 use mathlib.Core.Logic.{⊎_elim}
-use mathlib.Core.Bool.{Bool, true, false, ◌&&◌, and-false}
+use mathlib.Core.Bool.{Bool, true, false, cond, ◌&&◌, and-false}
 use mathlib.Core.List.Memᴰ
 use mathlib.Core.List.{List, [], ◌∷◌}
 use Prim.Native.Nat.{ℕ, zero, suc, ◌+◌, ◌*◌, ◌-◌, ◌<◌, ◌≤◌, min}
 use native.Mathlib.Omega.{arith}
-use lib.Dec.{T, eqb}
+use lib.Dec.{T}
 use lib.ListN.{length, get_or, take, drop, length-take, length-drop}
-use lib.Seq.{length-take-le, get_or-take, drop-cons}
+use lib.Seq.{length-take-le, get_or-take}
 use Rattle.std.specs.Bool.{MatchBool}
-use Rattle.std.specs.List.{AllWithin, HoldsAt}
-use Rattle.monomial.specs.Lists.{any, all, below}
-use Rattle.monomial.specs.Monomial.{Mono, constants, width}
+use Rattle.std.specs.List.{AllWithin, HoldsAt, list_all, range_with_len}
+use Rattle.monomial.specs.Lists.{any, all, place, below}
+use Rattle.monomial.specs.Monomial.{Mono, one, constants, width}
 use Rattle.monomial.specs.Order.{same, before}
 use Rattle.monomial.specs.Claims.{◌∈◌, Ascending, empty, first}
-use Rattle.monomial.proofs.Tests.{is→T, is→n_t, n_t→is, and_l, and_r, and_i, same_test}
+use Rattle.monomial.proofs.Tests.{Tested, passed, failed, test, is→T, and_l, and_r, and_i, same_test}
 use Rattle.monomial.proofs.Members.{here, all_in, all_out, take_in}
 use Rattle.monomial.proofs.Counting.{below_out, below_at}
 use Rattle.monomial.proofs.product.Laws.{at_most_all}
@@ -28,9 +28,8 @@ use Rattle.wiring.specs.Signals.{Fitting}
 use Rattle.wiring.specs.Terms.{exponents_right}
 use Rattle.wiring.proofs.terms.Laws.{exponents_everywhere}
 use Rattle.wiring.proofs.kit.Laws.{may_can}
-use Rattle.wiring.specs.Sets.{places, size_of, set_of, ascending, monomial_right, set_right, monomials_of, SetReads}
+use Rattle.wiring.specs.Sets.{places, size_of, set_of, ascending, monomial_right, set_right, monomials_of, IsSetOf}
 use Rattle.wiring.specs.declared.held.Set.{Set}
-use Rattle.std.specs.Prelude.{Some, None}
 use Rattle.wiring.proofs.terms.Laws.{all_small}
 
 -- ---- a chain that tests every entry says what the test of all says
@@ -58,6 +57,20 @@ place_at bytes i = take width (drop (width * i) bytes)
 pub places_length : (bytes : List ℕ) → length (places bytes) ≡ cards
 unfolding places below
 places_length bytes = refl
+
+-- no more places are used than there are
+place_most : {A : Type 0} (f : A → Bool) (l : List A) → place f l ≤ length l
+unfolding place
+place_most f [] = omega arith
+place_most f (x ∷ l) = go (test (f x)) (place_most f l)
+  where
+    go : Tested (f x) → place f l ≤ length l → cond (f x) 0 (suc (place f l)) ≤ suc (length l)
+    go (passed e) h = rw e (omega arith)
+    go (failed e) h = rw e (omega arith)
+
+pub size_few : (bytes : List ℕ) → size_of bytes ≤ cards
+unfolding size_of
+size_few bytes = omega (arith, place_most (same (one width)) (places bytes), places_length bytes)
 
 pub places_at : (bytes : List ℕ) (i : ℕ) (d : Mono) → i < cards → get_or (places bytes) i d ≡ place_at bytes i
 unfolding places
@@ -127,63 +140,16 @@ ascending_short [] h = refl
 ascending_short (x ∷ []) h = refl
 ascending_short (x ∷ y ∷ l) h = let z : ⊥ = omega arith in absurd z
 
--- a loop that compares neighbours, and has come to place i, from 1
-pub record Rising (l : List Mono) (i : ℕ) : Type 0 where
-  pub low : 1 ≤ i
-  pub rest : ascending (drop (i - 1) l) ≡ ascending l
-
-pub climbing_start : (l : List Mono) → Rising l 1
-climbing_start l = record { low = omega arith; rest = refl }
-
-module _ {l : List Mono} {i : ℕ} (c : Rising l i) where
-  turn : i < length l → before (get_or l (i - 1) []) (get_or l i []) && ascending (drop i l) ≡ ascending l
-  turn h =
-      let back : suc (i - 1) ≡ i = omega (arith, c.low) in
-      let x = get_or l (i - 1) [] in
-      let y = get_or l i [] in
-      let rest : drop i l ≡ y ∷ drop (suc i) l = drop-cons l i [] h in
-      let last : drop (i - 1) l ≡ x ∷ drop i l = drop-cons l (i - 1) [] (omega arith) ∙ ap (λ (k : ℕ). x ∷ drop k l) back in
-      rw rest (sym (ascending_step x y (drop (suc i) l)) ∙ ap (λ (r : List Mono). ascending r) (sym (last ∙ ap (◌∷◌ x) rest)) ∙ c.rest)
-
-  pub climbing_fails : i < length l → before (get_or l (i - 1) []) (get_or l i []) ≡ false → false ≡ ascending l
-  climbing_fails h e = rw e at (turn h)
-
-  pub climbing_on : i < length l → before (get_or l (i - 1) []) (get_or l i []) ≡ true → Rising l (i + 1)
-  climbing_on h e =
-      let back : i + 1 - 1 ≡ i = omega arith in
-      record { low = omega arith; rest = rw back (rw e at (turn h)) }
-
-  pub climbing_ends : length l ≤ i → true ≡ ascending l
-  climbing_ends h = sym (ascending_short (drop (i - 1) l) (omega (arith, c.low, length-drop (i - 1) l))) ∙ c.rest
-
--- the same for the first len places of a record, each by its bytes
-pub record Neighbouring (bytes : List ℕ) (len i : ℕ) : Type 0 where
-  pub few : len ≤ cards
-  pub climbing : Rising (take len (places bytes)) i
-
-pub neighbouring_start : (bytes : List ℕ) (len : ℕ) → len ≤ cards → Neighbouring bytes len 1
-neighbouring_start bytes len h = record { few = h; climbing = climbing_start (take len (places bytes)) }
-
-module _ {bytes : List ℕ} {len i : ℕ} (c : Neighbouring bytes len i) where
-  used : i < len → i < length (take len (places bytes))
-  used h = omega (arith, used_length bytes len c.few)
-
-  neighbours : i < len → (x y : Mono) → x ≡ take width (drop (width * i - width) bytes) → y ≡ place_at bytes i
-      → before (get_or (take len (places bytes)) (i - 1) []) (get_or (take len (places bytes)) i []) ≡ before x y
-  neighbours h x y d e =
-      let p = used_before bytes len c.few i [] c.climbing.low h ∙ sym d in
-      let q = used_at bytes len c.few i [] h ∙ sym e in
-      ap₂ before p q
-
-  pub neighbouring_fails : i < len → (x y : Mono) → x ≡ take width (drop (width * i - width) bytes) → y ≡ place_at bytes i → before x y ≡ false
-      → false ≡ ascending (take len (places bytes))
-  neighbouring_fails h x y d e f = climbing_fails c.climbing (used h) (neighbours h x y d e ∙ f)
-
-  pub neighbouring_on : i < len → (x y : Mono) → x ≡ take width (drop (width * i - width) bytes) → y ≡ place_at bytes i → before x y ≡ true → Neighbouring bytes len (i + 1)
-  neighbouring_on h x y d e t = record { few = c.few; climbing = climbing_on c.climbing (used h) (neighbours h x y d e ∙ t) }
-
-  pub neighbouring_ends : len ≤ i → true ≡ ascending (take len (places bytes))
-  neighbouring_ends h = climbing_ends c.climbing (omega (arith, used_length bytes len c.few))
+-- a chain that from number a on compares neighbours
+pub neighbours_ascend : (p : ℕ → Bool) (a : ℕ) (l : List Mono) (n : ℕ) → n ≡ length l - 1
+    → ((i : ℕ) → suc i < length l → p (a + i) ≡ before (get_or l i []) (get_or l (suc i) [])) → list_all p (range_with_len a n) ≡ ascending l
+neighbours_ascend p a [] n e h = rw e (sym (ascending_short [] (omega arith)))
+neighbours_ascend p a (x ∷ []) n e h = rw e (sym (ascending_short (x ∷ []) (omega arith)))
+neighbours_ascend p a (x ∷ y ∷ l) zero e h = absurd (omega arith)
+neighbours_ascend p a (x ∷ y ∷ l) (suc n) e h =
+    let here : a ≡ a + 0 = omega arith in
+    let rest = neighbours_ascend p (a + 1) (y ∷ l) n (omega arith) (λ i k. let on : a + 1 + i ≡ a + suc i = omega arith in ap p on ∙ h (suc i) (omega arith)) in
+    ap₂ ◌&&◌ (ap p here ∙ h 0 (omega arith)) rest ∙ sym (ascending_step x y l)
 
 -- ---- a monomial of a record: what passes the first two tests is judged by the third
 module _ (panel : Panel) (m : Mono) (new : any (same m) (constants width) ≡ false) where
@@ -193,45 +159,12 @@ module _ (panel : Panel) (m : Mono) (new : any (same m) (constants width) ≡ fa
       let fits = exponents_everywhere set_exponent panel.n m (is→T (exponents_right set_exponent panel.n m) e) in
       rw (new, e) (sym (may_can panel m (omega arith) (at_most_all set_exponent m (λ i. (fits i).small))))
 
--- ---- reading a record whose size is known: each test that fails refuses it, and one that passes all three holds its set
-module _ (panel : Panel) (bytes : List ℕ) (len : ℕ) (e : len ≡ size_of bytes) where
-  zeros : Bool
-  zeros = all (eqb 0) (drop (width * len) bytes)
-
-  order : Bool
-  order = ascending (take len (places bytes))
-
-  each : Bool
-  each = all (monomial_right panel) (take len (places bytes))
-
-  sized : set_right panel bytes ≡ zeros && order && each
-  unfolding set_right set_of zeros order each
-  sized = rw e
-
-  refused : (T (zeros && order && each) → ⊥) → SetReads panel bytes None
-  refused f = record { right = sym (sized ∙ n_t→is (zeros && order && each) f); set = tt }
-
-  pub refused_bytes : all (eqb 0) (drop (width * len) bytes) ≡ false → SetReads panel bytes None
-  unfolding zeros
-  refused_bytes f = refused (λ t. is→n_t zeros f (search (and_l, and_r, t)))
-
-  pub refused_order : ascending (take len (places bytes)) ≡ false → SetReads panel bytes None
-  unfolding order
-  refused_order f = refused (λ t. is→n_t order f (search (and_l, and_r, t)))
-
-  pub refused_monomial : all (monomial_right panel) (take len (places bytes)) ≡ false → SetReads panel bytes None
-  unfolding each
-  refused_monomial f = refused (λ t. is→n_t each f (search (and_l, and_r, t)))
-
-  pub accepted : all (eqb 0) (drop (width * len) bytes) ≡ true → ascending (take len (places bytes)) ≡ true → all (monomial_right panel) (take len (places bytes)) ≡ true
-      → (set : Set) → len ≤ cards → monomials_of set ≡ take len (places bytes) → set.len ≡ len → SetReads panel bytes (Some set)
-  unfolding set_of zeros order each
-  accepted z o m set h is long =
-      let whole : take len (places bytes) ≡ set_of bytes = ap (λ (k : ℕ). take k (places bytes)) e in
-      record {
-        right = sym (sized ∙ rw (z, o, m));
-        set = record { holds = is ∙ whole; size = long ∙ sym (used_length bytes len h) ∙ ap length whole };
-      }
+-- ---- the set of a record whose size is known
+pub holds_set : (bytes : List ℕ) (len : ℕ) → len ≡ size_of bytes → len ≤ cards → (s : Set) → monomials_of s ≡ take len (places bytes) → s.len ≡ len → IsSetOf bytes s
+unfolding set_of
+holds_set bytes len e h s is long =
+    let whole : take len (places bytes) ≡ set_of bytes = ap (λ (k : ℕ). take k (places bytes)) e in
+    record { holds = is ∙ whole; size = long ∙ sym (used_length bytes len h) ∙ ap length whole }
 
 -- ---- what a right record holds
 pub right_fits : (panel : Panel) (bytes : List ℕ) → length bytes ≡ set_bytes → T (set_right panel bytes) → Fitting set_exponent (set_of bytes)

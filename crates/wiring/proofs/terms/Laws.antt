@@ -14,6 +14,9 @@ use lib.Dec.{T, leb, eqb, ltb, leb→le, le→leb, eqb→eq, T_not}
 use lib.IntN.{nat_abs}
 use lib.ListN.{length, get_or, take, drop, length-map, length-take, length-drop, drop_of_length-le, get_or-eq_default}
 use lib.Seq.{length-take-le, take-suc, drop-cons, drop-drop, get_or-drop, get_or-take}
+use Rattle.std.specs.Bool.{MatchBool}
+use Rattle.std.specs.List.{AllWithin, HoldsAt, range_with_len}
+use Rattle.std.proofs.lemmas.List.FromFn.{get_or-range_with_len}
 use Rattle.monomial.specs.Lists.{any, all, below}
 use Rattle.monomial.specs.Monomial.{Mono, width}
 use Rattle.monomial.specs.Order.{same}
@@ -21,7 +24,6 @@ use Rattle.monomial.specs.Product.{AtMost}
 use Rattle.monomial.specs.Claims.{◌∈◌}
 use Rattle.monomial.proofs.Tests.{Tested, passed, failed, test, T→is, is→T, n_t→is, is→n_t, and_l, and_r, and_i}
 use Rattle.monomial.proofs.Members.{here, any_in, all_out}
-use Rattle.monomial.proofs.Loops.{Seeking, seeking_start, seeking_found, seeking_on, seeking_ends}
 use Rattle.monomial.proofs.order.Laws.{mono_order}
 use Rattle.monomial.proofs.Counting.{below_in, below_out, below_length, below_at, at_in}
 use Rattle.wiring.specs.Panel.{term_bytes, most_coefficient, term_exponent}
@@ -173,28 +175,19 @@ exponents_everywhere most n m t i = go (test (ltb i (length m)))
     go (passed e) = exponents_out most n m t i (ltb-true i (length m) e)
     go (failed e) = let z : get_or m i 0 ≡ 0 = get_or-eq_default m 0 {n = i} (ltb-false i (length m) e) in record { small = omega arith; zero = λ h. z }
 
--- a loop that checks them, and has come to place i
-pub record FittingSoFar (w most n : ℕ) (m : Mono) (i : ℕ) : Type 0 where
-  pub within : i ≤ w
-  pub long : length m ≡ w
-  pub fits : (k : ℕ) → k < i → Fit most n (get_or m k 0) k
+-- a chain that asks about each of them
+abbrev pub FitAt : ℕ → ℕ → Mono → ℕ → Type 0
+FitAt most n m i = Fit most n (get_or m i 0) i
 
-pub fitting_start : (w most n : ℕ) (m : Mono) → length m ≡ w → FittingSoFar w most n m 0
-fitting_start w most n m l = record { within = omega arith; long = l; fits = λ k h. absurd (omega arith) }
-
-module _ {w most n i : ℕ} {m : Mono} (f : FittingSoFar w most n m i) where
-  pub fitting_fails : i < w → (Fit most n (get_or m i 0) i → ⊥) → false ≡ exponents_right most n m
-  fitting_fails h x = sym (n_t→is (exponents_right most n m) (λ t. x (exponents_out most n m t i (rw f.long h))))
-
-  pub fitting_on : i < w → Fit most n (get_or m i 0) i → FittingSoFar w most n m (i + 1)
-  fitting_on h x = record { within = omega arith; long = f.long; fits = λ k l. pick k l (test (eqb k i)) }
-    where
-      pick : (k : ℕ) → k < i + 1 → Tested (eqb k i) → Fit most n (get_or m k 0) k
-      pick k l (passed e) = subst (λ (j : ℕ). Fit most n (get_or m j 0) j) (sym (eqb-true k i e)) x
-      pick k l (failed e) = let d : k ≡ i → ⊥ = eqb-false k i e in f.fits k (omega arith)
-
-  pub fitting_ends : w ≤ i → true ≡ exponents_right most n m
-  fitting_ends h = sym (T→is (exponents_right most n m) (exponents_in most n m (λ k l. let long : length m ≡ w = f.long in f.fits k (omega arith))))
+pub exponents_asked : (most n : ℕ) (m : Mono) → length m ≡ width → (r : Bool)
+    → MatchBool r (AllWithin (FitAt most n m) (range_with_len 0 width) 0 width) ((k : ℕ) × (k < width) × HoldsAt (λ i. FitAt most n m i → ⊥) (range_with_len 0 width) k)
+    → r ≡ exponents_right most n m
+exponents_asked most n m l true h =
+    sym (T→is (exponents_right most n m) (exponents_in most n m (λ i k. subst (FitAt most n m) (get_or-range_with_len 0 width i 0 (omega arith) ∙ omega arith) (h i 0 (omega arith) (omega arith)))))
+exponents_asked most n m l false h =
+    let k = h.0 in
+    let at : get_or (range_with_len 0 width) k 0 ≡ k = get_or-range_with_len 0 width k 0 h.1 ∙ omega arith in
+    sym (n_t→is (exponents_right most n m) (λ t. h.2 0 (subst (FitAt most n m) (sym at) (exponents_everywhere most n m t k))))
 
 -- ---- the rule of a record, field by field
 pub record Fields (panel : Panel) (r : Record) : Type 0 where
@@ -353,32 +346,10 @@ module _ (bytes : List ℕ) {panel : Panel} {t : ℕ} (j : Judging panel (record
   pub records_on : term_right panel (record_at bytes t) ≡ true → any (alike (record_at bytes t)) (take t (records bytes)) ≡ false → Judging panel (records bytes) (t + 1)
   records_on e f = judging_on (record_at bytes t) j inside (ap (term_right panel) is ∙ e) (ap (λ (r : Record). any (alike r) (take t (records bytes))) is ∙ f)
 
--- ---- a loop that looks among the records before number t for one like it, and has come to number u
-pub record Repeating (bytes : List ℕ) (t u : ℕ) : Type 0 where
-  pub whole : t < length bytes / term_bytes
-  pub within : u ≤ t
-  pub seeks : Seeking (alike (record_at bytes t)) (take t (records bytes)) u
+-- ---- the records before number t
+module _ (bytes : List ℕ) (t : ℕ) (h : term_bytes * t + term_bytes ≤ length bytes) where
+  pub earlier_length : length (take t (records bytes)) ≡ t
+  earlier_length = length-take-le t (records bytes) (omega (arith, records_length bytes))
 
-pub repeating_start : (bytes : List ℕ) (t : ℕ) → term_bytes * t + term_bytes ≤ length bytes → Repeating bytes t 0
-repeating_start bytes t h = record { whole = omega arith; within = omega arith; seeks = seeking_start (alike (record_at bytes t)) (take t (records bytes)) }
-
-module _ {bytes : List ℕ} {t u : ℕ} (r : Repeating bytes t u) where
-  front : length (take t (records bytes)) ≡ t
-  front = let l : length (records bytes) ≡ length bytes / term_bytes = records_length bytes in let h = r.whole in length-take-le t (records bytes) (omega arith)
-
-  module _ (h : u < t) where
-    entry : get_or (take t (records bytes)) u (record_at bytes u) ≡ record_at bytes u
-    entry = get_or-take t (records bytes) u (record_at bytes u) h ∙ records_at bytes u (record_at bytes u) (let k = r.whole in omega arith)
-
-    pub repeating_found : alike (record_at bytes t) (record_at bytes u) ≡ true → true ≡ any (alike (record_at bytes t)) (take t (records bytes))
-    repeating_found e = seeking_found (alike (record_at bytes t)) (record_at bytes u) r.seeks (rw front h) (ap (alike (record_at bytes t)) entry ∙ e)
-
-    pub repeating_on : alike (record_at bytes t) (record_at bytes u) ≡ false → Repeating bytes t (u + 1)
-    repeating_on e = record {
-      whole = r.whole;
-      within = omega arith;
-      seeks = seeking_on (alike (record_at bytes t)) (record_at bytes u) r.seeks (rw front h) (ap (alike (record_at bytes t)) entry ∙ e);
-    }
-
-  pub repeating_ends : t ≤ u → false ≡ any (alike (record_at bytes t)) (take t (records bytes))
-  repeating_ends h = seeking_ends (alike (record_at bytes t)) r.seeks (rw front h)
+  pub earlier_at : (u : ℕ) (d : Record) → u < t → get_or (take t (records bytes)) u d ≡ record_at bytes u
+  earlier_at u d k = get_or-take t (records bytes) u d k ∙ records_at bytes u d (omega arith)

@@ -1,26 +1,18 @@
--- `is_constant` meets its contract: the loop looks through the constants (`Seeking`). Assumes nothing.
+-- `is_constant` meets its contract: of degree below 2 are 1 and the variables (`low_among`). Assumes nothing.
 use mathlib.Core.Path.{sym, ap, ◌∙◌}
+use Prim.Native.Nat.{suc}
 use native.Mathlib.Omega.{arith}
-use Rattle.monomial.specs.Monomial.{one, width}
+use borrow.Author.Rules.{rules}
+use lib.Seq.{take_all}
+use Rattle.monomial.specs.Lists.{any}
+use Rattle.monomial.specs.Monomial.{constants, width}
 use Rattle.monomial.specs.Order.{same}
-use Rattle.monomial.proofs.Loops.{seeking_start, seeking_found, seeking_on, seeking_ends}
 use Rattle.monomial.proofs.Variables.{vars_length}
+use Rattle.monomial.proofs.degree.Laws.{low_among}
 use Rattle.wiring.proofs.sets.is_constant.Goals as goal
 
-pub loop-i-init : goal.loop-i-init
-loop-i-init c = seeking_start _ _
-
-pub returns-then-same : goal.returns-then-same
-returns-then-same c =
-    let f = same c.args.m.e in
-    let test = ap f (sym c.constant.ensures) ∙ sym c.same.ensures ∙ c.if-same.true in
-    seeking_found f (one width) c.loop-i.invariant (omega (arith, vars_length width)) test
-
-pub loop-i-preserved : goal.loop-i-preserved
-loop-i-preserved c =
-    let f = same c.args.m.e in
-    let test = ap f (sym c.constant.ensures) ∙ sym c.same.ensures ∙ c.if-same.false in
-    seeking_on f (one width) c.loop-i.invariant (omega (arith, vars_length width)) test
-
 pub returns : goal.returns
-returns c = seeking_ends _ c.loop-i.invariant (omega (arith, vars_length width))
+returns c =
+    let m = c.args.m.e in
+    let every = take_all (suc width) (constants width) (omega (arith, vars_length width)) in
+    c.is_low.ensures ∙ sym (low_among width width m (search rules)) ∙ ap (any (same m)) every

@@ -1,32 +1,20 @@
--- `monomials_right` meets its contract: the loop tests the used places (`Checking`). Assumes nothing.
-use mathlib.Core.Path.{sym, ap, ◌∙◌}
-use mathlib.Core.List.{[]}
+-- `monomials_right` meets its contract: the chain tests the used places. Assumes nothing.
+use mathlib.Core.Path.{refl, sym, ap, ◌∙◌}
 use native.Mathlib.Omega.{arith}
-use Rattle.monomial.proofs.Loops.{checking_start, checking_fails, checking_on, checking_ends}
-use Rattle.wiring.specs.Sets.{monomial_right}
-use Rattle.wiring.proofs.sets.Laws.{used_length, used_at}
+use borrow.Author.Rules.{rules}
+use borrow.Author.Tests.{tests}
+use lib.ListN.{take}
+use Rattle.std.proofs.lemmas.Iterator.{YieldsList-from_range}
+use Rattle.std.proofs.lemmas.Iterator.Search.{all_from_yields_List}
+use Rattle.wiring.specs.Sets.{places, monomial_right}
+use Rattle.wiring.proofs.Ranges.{all_range}
+use Rattle.wiring.proofs.sets.Laws.{place_at, used_length, used_at}
 use Rattle.wiring.proofs.sets.monomials_right.Goals as goal
-
-pub loop-i-init : goal.loop-i-init
-loop-i-init c = checking_start _ _
-
-pub returns-then-not-monomial_right : goal.returns-then-not-monomial_right
-returns-then-not-monomial_right c =
-    let a = c.args in
-    let i = c.loop-i.i in
-    let place = used_at a.s.now a.len (omega arith) i [] (omega arith) ∙ sym c.read.ensures in
-    let test = ap (monomial_right a.panel) place ∙ sym c.monomial_right.ensures in
-    checking_fails _ [] c.loop-i.invariant (omega (arith, used_length a.s.now a.len (omega arith))) (test ∙ c.if-not-monomial_right.true)
-
-pub loop-i-preserved : goal.loop-i-preserved
-loop-i-preserved c =
-    let a = c.args in
-    let i = c.loop-i.i in
-    let place = used_at a.s.now a.len (omega arith) i [] (omega arith) ∙ sym c.read.ensures in
-    let test = ap (monomial_right a.panel) place ∙ sym c.monomial_right.ensures in
-    checking_on _ [] c.loop-i.invariant (omega (arith, used_length a.s.now a.len (omega arith))) (test ∙ c.if-not-monomial_right.false)
 
 pub returns : goal.returns
 returns c =
-    let a = c.args in
-    checking_ends _ c.loop-i.invariant (omega (arith, used_length a.s.now a.len (omega arith)))
+    let len = c.args.len in
+    let s = c.args.s.now in
+    let f = monomial_right c.args.panel in
+    all_from_yields_List (λ i. f (place_at s i)) _ _ _ c.all.ensures.ran (YieldsList-from_range 0 len len refl (omega arith)) (λ i b q k. search (rules, tests))
+    ∙ all_range f _ (take len (places s)) len (used_length s len c.requires) (λ i d h. ap f (sym (used_at s len c.requires i d h)))

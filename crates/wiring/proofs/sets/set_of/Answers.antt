@@ -21,8 +21,8 @@ loop-i-preserved c =
     let place = c.read.ensures ∙ sym (used_at a.s.now a.len (omega arith) i [] (omega arith)) in
     (omega arith, copying_next c.loop-i.invariant.1 c.read.result [] (omega (arith, used_length a.s.now a.len (omega arith))) place)
 
-pub returns : goal.returns
-returns c =
+pub returns-clause-holds : goal.returns-clause-holds
+returns-clause-holds c =
     let a = c.args in
     let i : c.loop-i.i ≡ a.len = omega arith in
-    (ap (λ (k : ℕ). front k c.loop-i.m) (sym i) ∙ copying_end c.loop-i.invariant.1 (omega (arith, used_length a.s.now a.len (omega arith))), refl)
+    ap (λ (k : ℕ). front k c.loop-i.m) (sym i) ∙ copying_end c.loop-i.invariant.1 (omega (arith, used_length a.s.now a.len (omega arith)))

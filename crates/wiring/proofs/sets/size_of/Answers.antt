@@ -1,38 +1,26 @@
--- `size_of` meets its contract: the loop looks for the first place that is all zero (`Placing`). Assumes nothing.
-use mathlib.Core.Path.{sym, ap, ◌∙◌}
-use mathlib.Core.List.{[]}
+-- `size_of` meets its contract: the chain looks for the first place that is all zero. Assumes nothing.
+use mathlib.Core.Path.{refl, sym, ◌∙◌, ◌≡◌}
+use mathlib.Core.Bool.{Bool, true, false}
+use Prim.Native.Nat.{ℕ}
 use native.Mathlib.Omega.{arith}
+use borrow.Author.Rules.{rules}
+use borrow.Author.Tests.{tests}
+use Rattle.std.proofs.lemmas.Iterator.{YieldsList-from_range, IsFirst-from_position, index_from_first}
+use Rattle.std.specs.List.{range_with_len}
+use Rattle.monomial.specs.Lists.{place, below}
 use Rattle.monomial.specs.Monomial.{one, width}
 use Rattle.monomial.specs.Order.{same}
-use Rattle.monomial.proofs.Loops.{placing_start, placing_found, placing_on, placing_ends}
-use Rattle.wiring.specs.Sets.{size_of}
-use Rattle.wiring.proofs.sets.Laws.{places_length, places_at}
+use Rattle.monomial.proofs.order.Derived.{same_from_eq}
+use Rattle.wiring.specs.Sets.{places, size_of}
+use Rattle.wiring.proofs.sets.Laws.{place_at, size_few}
 use Rattle.wiring.proofs.sets.size_of.Goals as goal
 
-pub loop-i-init : goal.loop-i-init
-loop-i-init c = placing_start _ _
-
-pub returns-then-same : goal.returns-then-same
-unfolding size_of
-returns-then-same c =
-    let bytes = c.args.s.now in
-    let i = c.loop-i.i in
-    let read = c.read.ensures in
-    let here = ap (same (one width)) (places_at bytes i [] (omega arith) ∙ sym read) ∙ sym c.same.ensures ∙ c.if-same.true in
-    (placing_found _ [] c.loop-i.invariant (omega (arith, places_length bytes)) here, omega arith)
-
-pub loop-i-preserved : goal.loop-i-preserved
-loop-i-preserved c =
-    let bytes = c.args.s.now in
-    let i = c.loop-i.i in
-    let read = c.read.ensures in
-    let here = ap (same (one width)) (places_at bytes i [] (omega arith) ∙ sym read) ∙ sym c.same.ensures ∙ c.if-same.false in
-    placing_on _ [] c.loop-i.invariant (omega (arith, places_length bytes)) here
-
 pub returns : goal.returns
-unfolding size_of
+unfolding size_of place places below
 returns c =
-    let bytes = c.args.s.now in
-    let long = places_length bytes in
-    let all = placing_ends _ c.loop-i.invariant (omega arith) in
-    (omega arith, omega arith)
+    let s = c.args.s.now in
+    let free : ℕ → Bool = λ i. same (one width) (place_at s i) in
+    let first = IsFirst-from_position _ _ c.position.result (λ i. free i ≡ true) (λ i. free i ≡ false) c.position.ensures.ran (YieldsList-from_range 0 6 6 refl refl) (λ i q k. sym (same_from_eq _ _ _ (search (rules, tests)))) (λ i q k. (search rules, sym (same_from_eq _ _ _ (search (rules, tests))))) in
+    let found = index_from_first (place free) (λ i. free i ≡ true) (λ i. free i ≡ false) refl (λ x xs y. rw y) (λ x xs n. rw n (omega arith)) (range_with_len 0 6) c.position.result first in
+    let size : c.unwrap_or.result ≡ size_of s = c.unwrap_or.ensures ∙ sym found in
+    record { size = size; few = omega (arith, size, size_few s) }

@@ -19,6 +19,7 @@ use Rattle.wiring.specs.declared.held.Signals.{Signals}
 use Rattle.wiring.specs.Signals.{Fitting, signals_of}
 use Rattle.wiring.proofs.signals.Arrays.{array_length, front_length, front_at}
 use Rattle.wiring.proofs.wires.Pairs.{beside, beside_quotient, row_skips, row_start, row_ends, pair_first, pair_second, pair_in, pair_there}
+use Rattle.monomial.proofs.order.Derived.{same_from_eq}
 use Rattle.wiring.proofs.wires.pair_of.Goals as goal
 use Rattle.wiring.proofs.wires.pair_of.Goals.{then-divides+else-loop-b-test, else-divides}
 
@@ -71,8 +72,8 @@ loop-b-preserved c =
     let at_b = at v room v.few c.requires k.b hb in
     let long = alike v room v.few c.requires o.a k.invariant.below (get_or (signals_of v) k.b []) (at_in (signals_of v) k.b [] in_b) in
     let quotient = sym (beside_quotient (signals_of v) c.args.m.e (get_or (signals_of v) o.a []) (get_or (signals_of v) k.b []) long k.invariant.divided) in
-    let told = quotient ∙ ap₂ same at_b (sym k.invariant.quotient) ∙ sym c.same.ensures in
-    let inner = placing_on (beside (signals_of v) c.args.m.e (get_or (signals_of v) o.a [])) [] k.invariant.inner in_b (told ∙ c.if-same.false) in
+    let told = quotient ∙ ap₂ same at_b (sym k.invariant.quotient) ∙ sym (same_from_eq _ _ _ c.eq.ensures) in
+    let inner = placing_on (beside (signals_of v) c.args.m.e (get_or (signals_of v) o.a [])) [] k.invariant.inner in_b (told ∙ c.if-eq.false) in
     record { long = k.invariant.long; below = k.invariant.below; divided = k.invariant.divided; quotient = k.invariant.quotient; outer = k.invariant.outer; inner = inner }
 
 pub loop-a-preserved : goal.loop-a-preserved
@@ -101,8 +102,8 @@ returns c =
     let no = n_t→is (in_v2 plain (signals_of v) c.args.m.e) (pair_there (signals_of v) c.args.m.e k.a k.invariant.1 (beyond v room v.few c.requires k.a ha)) in
     record { told = sym no; pair = tt }
 
-pub returns-then-same : goal.returns-then-same
-returns-then-same c =
+pub returns-then-eq : goal.returns-then-eq
+returns-then-eq c =
     let v = c.args.v in
     let o = c.loop-a in
     let k = c.loop-b in
@@ -112,8 +113,8 @@ returns-then-same c =
     let at_b = at v room v.few c.requires k.b hb in
     let long = alike v room v.few c.requires o.a k.invariant.below (get_or (signals_of v) k.b []) (at_in (signals_of v) k.b [] in_b) in
     let quotient = sym (beside_quotient (signals_of v) c.args.m.e (get_or (signals_of v) o.a []) (get_or (signals_of v) k.b []) long k.invariant.divided) in
-    let told = quotient ∙ ap₂ same at_b (sym k.invariant.quotient) ∙ sym c.same.ensures in
-    let hit = told ∙ c.if-same.true in
+    let told = quotient ∙ ap₂ same at_b (sym k.invariant.quotient) ∙ sym (same_from_eq _ _ _ c.eq.ensures) in
+    let hit = told ∙ c.if-eq.true in
     let in_a = within v room v.few c.requires o.a k.invariant.below in
     let first = pair_first (signals_of v) c.args.m.e o.a in_a k.invariant.outer k.b in_b k.invariant.inner hit in
     let second = pair_second (signals_of v) c.args.m.e o.a in_a k.invariant.outer k.b in_b k.invariant.inner hit in

@@ -6,6 +6,7 @@ use Rattle.monomial.specs.Product.{FitsBytes}
 use Rattle.wiring.specs.Terms.{record_at}
 use Rattle.wiring.proofs.terms.Laws.{clean_at}
 use Rattle.wiring.proofs.derivative.Cancelling.{crosses_alone, crosses_says, crossing_made, crossing_fits}
+use Rattle.monomial.proofs.order.Derived.{same_from_eq}
 use Rattle.wiring.proofs.system.System.crosses.Goals as goal
 
 pub returns-then-a-b : goal.returns-then-a-b
@@ -38,4 +39,4 @@ returns c =
     let q = record_at l c.args.u in
     let first = c.times-x.ensures ∙ crossing_made r _ _ _ q.equation c.monomial.ensures c.constant.ensures c.equation-b.ensures.value in
     let second = c.times-y.ensures ∙ crossing_made q _ _ _ r.equation c.monomial-2.ensures c.constant-2.ensures c.equation-a.ensures.value in
-    c.same.ensures ∙ ap₂ same first second ∙ sym (crosses_says r q (λ e. c.if-a-b.false (c.equation-a.ensures.value ∙ e ∙ sym c.equation-b.ensures.value)))
+    (same_from_eq _ _ _ c.eq.ensures) ∙ ap₂ same first second ∙ sym (crosses_says r q (λ e. c.if-a-b.false (c.equation-a.ensures.value ∙ e ∙ sym c.equation-b.ensures.value)))

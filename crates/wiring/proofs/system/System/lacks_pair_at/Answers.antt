@@ -2,11 +2,9 @@
 use mathlib.Core.Path.{sym, ap, ◌∙◌}
 use mathlib.Core.Bool.{not}
 use borrow.Author.Rules.{sfits_of}
-use mir.Syntax.{w32}
-use mir.ValLaws.{to_z-of_z}
-use Rattle.wiring.specs.Coefficient.{is_zero}
 use Rattle.wiring.specs.Signals.{signals_of}
 use Rattle.wiring.specs.Terms.{record_at, records, system}
+use Rattle.wiring.proofs.coefficient.Laws.{tests_zero}
 use Rattle.wiring.proofs.quadratic.Records.{lacks_none, lacks_met, lacks_unmet}
 use Rattle.wiring.proofs.system.System.lacks_pair_at.Goals as goal
 
@@ -27,7 +25,5 @@ returns c =
     let a = c.args in
     let m = c.in-Some in
     let unmet = sym c.pair_of.ensures.told ∙ sym c.is_some.ensures ∙ c.if-is_some.false in
-    let sum = c.total in
-    let same_sum = to_z-of_z w32 sum.result (sfits_of sum.type_inv) in
-    ap not (c.is_zero.ensures ∙ ap is_zero (same_sum ∙ sum.ensures))
+    ap not (tests_zero _ (sfits_of c.total.type_inv) c.total.ensures)
     ∙ lacks_unmet (signals_of a.v) a.last (system (records a.self.terms.now)) a.z.e (record_at a.self.terms.now a.t) m.m.e m.ensures.is (sym m.ensures.told) unmet

@@ -1,9 +1,9 @@
 -- `next_part` meets its contract: what is behind the pick and has a coefficient is what is asked for (`Parting`). Assumes nothing.
-use mathlib.Core.Path.{sym, ap, ◌∙◌}
+use mathlib.Core.Path.{◌∙◌}
 use borrow.Author.Rules.{sfits_of}
 use mir.Syntax.{w32}
 use mir.ValLaws.{to_z-of_z}
-use Rattle.wiring.specs.Coefficient.{is_zero}
+use Rattle.wiring.proofs.coefficient.Laws.{tested_zero, tested_nonzero}
 use Rattle.wiring.proofs.parts.Laws.{parting_start, parting_none, parting_here, parting_on, parting_less}
 use Rattle.wiring.proofs.system.System.next_part.Goals as goal
 
@@ -14,13 +14,12 @@ pub returns : goal.returns
 returns c =
     record { heads = parting_none _ _ _ c.loop-m.invariant c.in_default.ensures; total_value = tt }
 
-pub returns-then-not-is_zero : goal.returns-then-not-is_zero
-returns-then-not-is_zero c =
+pub returns-then-total-ne0 : goal.returns-then-total-ne0
+returns-then-total-ne0 c =
     let m = c.in-Some in
     let sum = c.total-total in
-    let same_sum = to_z-of_z w32 sum.result (sfits_of sum.type_inv) in
-    let counts = ap is_zero (sym sum.ensures ∙ sym same_sum) ∙ sym c.is_zero.ensures ∙ c.if-not-is_zero.true in
-    record { heads = parting_here _ _ _ c.loop-m.invariant m.m m.ensures counts; total_value = same_sum ∙ sum.ensures }
+    let counts = tested_nonzero _ (sfits_of sum.type_inv) sum.ensures c.if-total-ne0.true in
+    record { heads = parting_here _ _ _ c.loop-m.invariant m.m m.ensures counts; total_value = to_z-of_z w32 sum.result (sfits_of sum.type_inv) ∙ sum.ensures }
 
 pub loop-m-smaller : goal.loop-m-smaller
 loop-m-smaller c = parting_less _ _ _ c.loop-m.invariant c.in-Some.m c.in-Some.ensures
@@ -29,6 +28,5 @@ pub loop-m-preserved : goal.loop-m-preserved
 loop-m-preserved c =
     let m = c.in-Some in
     let sum = c.total-total in
-    let same_sum = to_z-of_z w32 sum.result (sfits_of sum.type_inv) in
-    let zero = ap is_zero (sym sum.ensures ∙ sym same_sum) ∙ sym c.is_zero.ensures ∙ c.if-not-is_zero.false in
+    let zero = tested_zero _ (sfits_of sum.type_inv) sum.ensures c.if-total-ne0.false in
     parting_on _ _ _ c.loop-m.invariant m.m m.ensures zero

@@ -5,17 +5,16 @@ use Rattle.wiring.specs.Signals.{signals_at}
 use native.Mathlib.Omega.{arith}
 use lib.ListN.{length}
 use borrow.Author.Rules.{rules, sfits_of}
-use mir.Syntax.{w32}
-use mir.ValLaws.{to_z-of_z}
 use Rattle.monomial.proofs.product.Laws.{at_most_weaken}
 use Rattle.monomial.specs.Monomial.{Mono, width}
 use Rattle.wiring.specs.Coefficient.{is_zero}
 use Rattle.wiring.specs.Poly.{plain, coeff}
 use Rattle.wiring.specs.Derivative.{derivative}
 use Rattle.wiring.specs.Terms.{record_at, records, system}
+use Rattle.wiring.proofs.coefficient.Laws.{tested_zero, tested_nonzero}
 use Rattle.wiring.proofs.quadratic.Records.{outside, offered_low, offered_fails, offered_zero, offered_here}
 use Rattle.wiring.proofs.system.System.nonsquare_of.Goals as goal
-use Rattle.wiring.proofs.system.System.nonsquare_of.Goals.{else-self-via-then-self+else-is_zero, else-self-via-else-self}
+use Rattle.wiring.proofs.system.System.nonsquare_of.Goals.{else-self-via-then-self+else-total-eq0, else-self-via-else-self}
 
 pub returns-then-power-lt1 : goal.returns-then-power-lt1
 returns-then-power-lt1 c =
@@ -36,18 +35,15 @@ returns-then-is_square c =
     offered_fails (outside (signals_at a.v.n a.v.set.now)) (system (records l)) a.z.e (record_at l a.t) x.result m.result
     x.ensures c.if-power-lt1.false m.ensures (ap not (sym c.is_square.ensures ∙ c.if-is_square.true))
 
-pub returns-then-is_zero : goal.returns-then-is_zero
-returns-then-is_zero c =
+pub returns-then-total-eq0 : goal.returns-then-total-eq0
+returns-then-total-eq0 c =
     let a = c.args in
     let l = a.self.terms.now in
     let x = c.power in
     let m = c.image-m in
-    let sum = c.total in
-    let same_sum = to_z-of_z w32 sum.result (sfits_of sum.type_inv) in
-    let zero = ap is_zero (sym sum.ensures ∙ sym same_sum) ∙ sym c.is_zero.ensures ∙ c.if-is_zero.true in
     offered_zero (outside (signals_at a.v.n a.v.set.now)) (system (records l)) a.z.e (record_at l a.t) x.result m.result
     x.ensures c.if-power-lt1.false m.ensures
-    (ap not (sym c.is_square.ensures ∙ c.if-is_square.false)) zero
+    (ap not (sym c.is_square.ensures ∙ c.if-is_square.false)) (tested_zero _ (sfits_of c.total.type_inv) c.total.ensures c.if-total-eq0.true)
 
 -- the total is summed and is not 0; or no total is 0, so none is summed
 pub returns : goal.returns
@@ -58,8 +54,8 @@ returns c =
     let x = c.power in
     let m = c.image-m in
     let kept = elim c.else-self.branch as (λ _. is_zero (coeff plain (derivative plain (system (records l)) a.z.e) m.result.e) ≡ false) [
-      | else-self-via-then-self+else-is_zero w ↦
-          ap is_zero (sym w.total.ensures ∙ sym (to_z-of_z w32 w.total.result (sfits_of w.total.type_inv))) ∙ sym w.is_zero.ensures ∙ w.if-is_zero.false
+      | else-self-via-then-self+else-total-eq0 w ↦
+          tested_nonzero _ (sfits_of w.total.type_inv) w.total.ensures w.if-total-eq0.false
       | else-self-via-else-self w ↦
           ap (λ (y : Mono). is_zero (coeff plain (derivative plain (system (records l)) a.z.e) y)) m.ensures
           ∙ a.self.sums w.if-self.false a.z.e a.t long c.requires.inside (omega (arith, x.ensures, c.if-power-lt1.false))

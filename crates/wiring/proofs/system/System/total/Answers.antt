@@ -4,8 +4,9 @@ use native.Mathlib.Omega.{arith}
 use Rattle.monomial.proofs.product.Laws.{at_most_weaken}
 use Rattle.wiring.proofs.derivative.Bounds.{adding_start, adding_ends, adding_flat, adding_miss, adding_hit, product_fits, sum_of_fits}
 use borrow.Author.Rules.{rules}
+use Rattle.monomial.proofs.order.Derived.{same_from_eq}
 use Rattle.wiring.proofs.system.System.total.Goals as goal
-use Rattle.wiring.proofs.system.System.total.Goals.{then-k-gt0+then-same, else-k-gt0, else-k-gt0-via-then-k-gt0+else-same, else-k-gt0-via-else-k-gt0}
+use Rattle.wiring.proofs.system.System.total.Goals.{then-k-gt0+then-eq, else-k-gt0, else-k-gt0-via-then-k-gt0+else-eq, else-k-gt0-via-else-k-gt0}
 
 pub loop-t-init : goal.loop-t-init
 loop-t-init c = adding_start _ _ _ c.args.self.clean (search rules) c.requires
@@ -19,7 +20,7 @@ overflow_mul-sum c =
 
 pub overflow_add-sum : goal.overflow_add-sum
 overflow_add-sum c =
-    let hit = sym c.same.ensures ∙ c.if-same.true in
+    let hit = sym (same_from_eq _ _ _ c.eq.ensures) ∙ c.if-eq.true in
     rw c.from.ensures (sum_of_fits c.loop-t.invariant (rw c.count-t-end.ensures at c.loop-t-test.true) _ _ c.power-k.ensures c.coefficient.ensures _ c.image.ensures hit)
 
 pub loop-t-preserved : goal.loop-t-preserved
@@ -27,9 +28,9 @@ loop-t-preserved c =
     let inv = c.loop-t.invariant in
     let more = rw c.count-t-end.ensures at c.loop-t-test.true in
     elim c.if-k-gt0.branch [
-      | then-k-gt0+then-same w ↦ rw (w.sum-is, w.from.ensures) (adding_hit inv more _ _ c.power-k.ensures w.coefficient.ensures _ w.image.ensures (sym w.same.ensures ∙ w.if-same.true))
+      | then-k-gt0+then-eq w ↦ rw (w.sum-is, w.from.ensures) (adding_hit inv more _ _ c.power-k.ensures w.coefficient.ensures _ w.image.ensures (sym (same_from_eq _ _ _ w.eq.ensures) ∙ w.if-eq.true))
       | else-k-gt0 w ↦ rw w.sum-is (elim w.else-k-gt0.branch [
-        | else-k-gt0-via-then-k-gt0+else-same x ↦ adding_miss inv more _ x.image.ensures (sym x.same.ensures ∙ x.if-same.false)
+        | else-k-gt0-via-then-k-gt0+else-eq x ↦ adding_miss inv more _ x.image.ensures (sym (same_from_eq _ _ _ x.eq.ensures) ∙ x.if-eq.false)
         | else-k-gt0-via-else-k-gt0 x ↦ adding_flat inv more (omega (arith, c.power-k.ensures, x.if-k-gt0.false))
       ])
     ]
