@@ -1,13 +1,25 @@
 -- The head of a case: numbers in two, four and eight bytes, low byte first, and which heads are answered. Assumes nothing.
-use Rattle.std.specs.Prelude.{Bool, ◌&&◌, List, ℕ, ◌+◌, ◌*◌, leb, get_or}
+use Rattle.std.specs.Prelude.{◌≡◌, Bool, ◌&&◌, Option, Some, None, option_map, Result, MatchResult, List, ℕ, ◌+◌, ◌*◌, if◌then◌else◌, ◌==◌, leb, get_or}
 use Rattle.compare.specs.declared.head.Head.{Head}
+use Rattle.compare.specs.declared.head.Operation.{Operation}
+use Rattle.compare.specs.declared.head.Operation.TheVariants.{Plan, Wire, Thin, Read}
+use Rattle.compare.specs.declared.head.UnknownOperation.{UnknownOperation}
 
 abbrev pub head_bytes : ℕ
 head_bytes = 56
 
 -- the operations are numbered from 1
-abbrev pub operations : ℕ
-operations = 4
+abbrev pub operation_of : ℕ → Option Operation
+operation_of number =
+    if number == 1 then Some Plan
+    else if number == 2 then Some Wire
+    else if number == 3 then Some Thin
+    else if number == 4 then Some Read
+    else None
+
+-- the operation with this number, or an error with a number that no operation has
+abbrev pub Numbered : ℕ → Result Operation UnknownOperation → Type 0
+Numbered number r = MatchResult r (λ o. operation_of number ≡ Some o) (λ e. (e.0 ≡ number) × (operation_of number ≡ None))
 
 -- the longest terms, set or text, and buffer that are answered
 abbrev pub longest_terms : ℕ
@@ -28,9 +40,10 @@ four l at = two l at + 65536 * two l (at + 2)
 abbrev pub eight : List ℕ → ℕ → ℕ
 eight l at = four l at + 4294967296 * four l (at + 4)
 
-unfoldable pub head_of : List ℕ → Head
-head_of bytes = record {
-  operation = two bytes 0;
+-- the head that asks for an operation
+unfoldable pub head_with : List ℕ → Operation → Head
+head_with bytes operation = record {
+  operation = operation;
   terms = two bytes 2;
   given = four bytes 4;
   n = eight bytes 8;
@@ -41,6 +54,10 @@ head_of bytes = record {
   size = eight bytes 48;
 }
 
--- a known operation, and lengths within the limits
-unfoldable pub right : Head → Bool
-right h = leb 1 h.operation && leb h.operation operations && leb h.terms longest_terms && leb h.given longest_given && leb h.size longest_buffer
+-- nothing where the operation is unknown
+unfoldable pub head_of : List ℕ → Option Head
+head_of bytes = option_map (head_with bytes) (operation_of (two bytes 0))
+
+-- lengths within the limits
+abbrev pub right : Head → Bool
+right h = leb h.terms longest_terms && leb h.given longest_given && leb h.size longest_buffer

@@ -2,7 +2,7 @@
 ghost use Rattle.std.specs.Prelude.{length};
 ghost use Rattle.compare.specs.Answer.{case_of, Answers};
 
-use super::head::Head;
+use super::head::{Head, Operation};
 use desktop::read;
 use lines::case;
 use lines::lengths::LINE_BYTES;
@@ -25,18 +25,22 @@ pub(crate) fn answer_case(
     ensures { Answers (case_of h terms.now given.now (length buffer.old)) line.new buffer.new }
 {
     buffer.fill(FILLER);
-    let operation = h.operation;
-    if operation == 1 {
-        let planned = plan::plan(h.n, h.marks, h.degree, h.cap, h.limit, terms, buffer);
-        case::case_line(reply::numbers(planned), buffer, line);
-    } else if operation == 2 {
-        let wired = answers::wire(h.n, h.marks, h.degree, terms, given, buffer);
-        case::case_line(reply::numbers(wired), buffer, line);
-    } else if operation == 3 {
-        let thinned = thinning::thin(h.n, h.marks, h.degree, terms, given, buffer);
-        case::case_line(reply::numbers(thinned), buffer, line);
-    } else {
-        let heard = read::read_listing(h.n, h.marks, h.degree, terms, given);
-        case::case_line(reply::numbers(heard.reply), &heard.set, line);
+    match h.operation {
+        Operation::Plan => {
+            let planned = plan::plan(h.n, h.marks, h.degree, h.cap, h.limit, terms, buffer);
+            case::case_line(reply::numbers(planned), buffer, line);
+        },
+        Operation::Wire => {
+            let wired = answers::wire(h.n, h.marks, h.degree, terms, given, buffer);
+            case::case_line(reply::numbers(wired), buffer, line);
+        },
+        Operation::Thin => {
+            let thinned = thinning::thin(h.n, h.marks, h.degree, terms, given, buffer);
+            case::case_line(reply::numbers(thinned), buffer, line);
+        },
+        Operation::Read => {
+            let heard = read::read_listing(h.n, h.marks, h.degree, terms, given);
+            case::case_line(reply::numbers(heard.reply), &heard.set, line);
+        },
     }
 }

@@ -33,12 +33,7 @@ fn fetch(buffer: &mut [u8], n: usize) -> Result<(), Stop>
 }
 
 // Reads what follows the head, and answers.
-fn answer_rest(
-    h: Head,
-    terms: &mut [u8],
-    given: &mut [u8],
-    buffer: &mut [u8],
-) -> Result<(), Stop>
+fn answer_rest(h: Head, terms: &mut [u8], given: &mut [u8], buffer: &mut [u8]) -> Result<(), Stop>
     requires terms { h.terms ≤ length terms.old }
     requires given { h.given ≤ length given.old }
     requires size { h.size ≤ length buffer.old }
@@ -78,7 +73,7 @@ fn answer_next() -> Result<(), Stop> {
     if got < HEAD_BYTES {
         return Err(Stop::Broken);
     }
-    answer_head(head::read(&bytes))
+    answer_head(head::read(&bytes).ok_or(Stop::Broken)?)
 }
 
 fn main() {

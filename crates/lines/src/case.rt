@@ -8,7 +8,7 @@ use super::digest;
 use super::lengths::{LINE_BYTES, SHOWN_BYTES};
 use super::text::Line;
 
-// A number below 16 to the power of `places` in so many hexadecimal digits.
+// A number below 16 to the power of `places` in so many hexadecimal digits. `write!` is no plainer, as for `put_number`.
 fn put_hex(n: u64, places: usize, line: &mut Line<LINE_BYTES>)
     requires some { 1 ≤ places }
     requires few { places ≤ 16 }

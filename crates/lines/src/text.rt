@@ -50,7 +50,7 @@ impl<const N: usize> Line<N> {
         self.end = end;
     }
 
-    // A number in decimal.
+    // A number in decimal. `write!` is no plainer: it can fail, and each call here would have to rule that out.
     pub fn put_number(&mut self, n: u64)
         requires { length self.old + number_bytes ≤ N }
         ensures text { self.new ≡ self.old ++ decimal n }

@@ -8,23 +8,14 @@ use std::env::{Env, FillError};
 const WORD_BYTES: usize = 4096;
 
 fn has_word<R: Env>(rt: &R, i: usize) -> bool {
-    let mut none = [0u8; 0];
-    match rt.arg(i, &mut none) {
-        Err(FillError::NotPresent) => false,
-        _ => true,
-    }
+    !matches!(rt.arg(i, &mut []), Err(FillError::NotPresent))
 }
 
 // How many words there are, the program's name among them; `most` where there are more.
 pub fn count_words<R: Env>(rt: &R, most: usize) -> usize
     ensures { result ≤ most }
 {
-    for i in 0..most {
-        if !has_word(rt, i) {
-            return i;
-        }
-    }
-    most
+    (0..most).take_while(|&i| has_word(rt, i)).count()
 }
 
 // Word number i, read as a number; the program's name has number 0. One that is missing or over 4,096 bytes is no number.

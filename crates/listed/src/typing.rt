@@ -9,7 +9,7 @@ use lines::text::Line;
 use listing::machine::Known;
 use typed::typed as listings;
 use typed::typed::LISTED_BYTES;
-use wiring::panel::{CARDS, SET_BYTES, TERMS_BYTES, WIRES_BYTES};
+use wiring::panel::{Panel, SET_BYTES, TERMS_BYTES, WIRES_BYTES};
 use wiring::reply::Reply;
 use wiring::{answers, buffer, reply};
 
@@ -48,11 +48,11 @@ pub(crate) fn prepare_typing(
     let mut set = [0u8; SET_BYTES];
     buffer::put(&mut set, 0, given);
     let reply = answers::wire(n, marks, degree, terms, given, wires);
-    let known = Known {
-        n,
+    let known = Known::from(Panel {
+        n: n as usize,
         marks,
-        cards: CARDS as u64,
-    };
+        degree,
+    });
     Typing { reply, known, set }
 }
 

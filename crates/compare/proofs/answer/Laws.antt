@@ -3,7 +3,6 @@ use mathlib.Core.Path.{◌≡◌, refl, sym, subst, ◌∙◌}
 use mathlib.Core.List.{List}
 use Prim.Native.Nat.{ℕ}
 use lib.ListN.{replicate}
-use borrow.Author.Tests.{eq-eqb, ne_eqb}
 use Rattle.wiring.specs.Sockets.{panel_of}
 use Rattle.wiring.specs.Reply.{Outcome, numbers, in_order, outcome}
 use Rattle.wiring.specs.Answers.{wired}
@@ -14,7 +13,8 @@ use Rattle.desktop.specs.Read.{read_listing}
 use Rattle.lines.specs.Case.{case_line}
 use Rattle.lines.proofs.text.Laws.{stands_one}
 use Rattle.compare.specs.declared.head.Head.{Head}
-use Rattle.compare.specs.Answer.{Case, filler, outcome_case, read_case, case_of, Answers}
+use Rattle.compare.specs.declared.head.Operation.TheVariants.{Plan, Wire, Thin, Read}
+use Rattle.compare.specs.Answer.{Case, filler, outcome_case, read_case, asked_case, case_of, Answers}
 
 -- a reply and a buffer, told as they are
 told : (r : Reply) (o : Outcome) (five bytes : List ℕ) {m : List ℕ} → outcome r bytes ≡ o
@@ -22,32 +22,31 @@ told : (r : Reply) (o : Outcome) (five bytes : List ℕ) {m : List ℕ} → outc
 told r o five bytes {m} e f s = subst (λ (x : Outcome). Answers (outcome_case x) m bytes) e (record { text = rw f at s; bytes = refl })
 
 module _ (h : Head) (terms given : List ℕ) (size now : ℕ) (same : now ≡ size) {m : List ℕ} where
-  pub plan_told : h.operation ≡ 1 → (r : Reply) (five bytes : List ℕ)
+  pub plan_told : h.operation ≡ Plan → (r : Reply) (five bytes : List ℕ)
       → outcome r bytes ≡ planned (panel_of h.n h.marks h.degree) h.cap h.limit terms now → five ≡ in_order (numbers r)
       → m ≡ case_line five bytes → Answers (case_of h terms given size) m bytes
-  unfolding case_of
-  plan_told p r five bytes e f s = rw (eq-eqb h.operation 1 p) (told r _ five bytes (rw same at e) f s)
+  unfolding asked_case
+  plan_told p r five bytes e f s = rw p (told r _ five bytes (rw same at e) f s)
 
-  pub wire_told : (h.operation ≡ 1 → ⊥) → h.operation ≡ 2 → (r : Reply) (five bytes : List ℕ)
+  pub wire_told : h.operation ≡ Wire → (r : Reply) (five bytes : List ℕ)
       → outcome r bytes ≡ wired (panel_of h.n h.marks h.degree) terms given now → five ≡ in_order (numbers r)
       → m ≡ case_line five bytes → Answers (case_of h terms given size) m bytes
-  unfolding case_of
-  wire_told p q r five bytes e f s = rw (ne_eqb h.operation 1 p, eq-eqb h.operation 2 q) (told r _ five bytes (rw same at e) f s)
+  unfolding asked_case
+  wire_told p r five bytes e f s = rw p (told r _ five bytes (rw same at e) f s)
 
-  pub thin_told : (h.operation ≡ 1 → ⊥) → (h.operation ≡ 2 → ⊥) → h.operation ≡ 3 → (r : Reply) (five bytes : List ℕ)
+  pub thin_told : h.operation ≡ Thin → (r : Reply) (five bytes : List ℕ)
       → outcome r bytes ≡ thinned (panel_of h.n h.marks h.degree) terms given now → five ≡ in_order (numbers r)
       → m ≡ case_line five bytes → Answers (case_of h terms given size) m bytes
-  unfolding case_of
-  thin_told p q o r five bytes e f s = rw (ne_eqb h.operation 1 p, ne_eqb h.operation 2 q, eq-eqb h.operation 3 o) (told r _ five bytes (rw same at e) f s)
+  unfolding asked_case
+  thin_told p r five bytes e f s = rw p (told r _ five bytes (rw same at e) f s)
 
   -- reading leaves the buffer as it was filled, and the set in the line
-  pub read_told : (h.operation ≡ 1 → ⊥) → (h.operation ≡ 2 → ⊥) → (h.operation ≡ 3 → ⊥) → (r : Reply) (five set bytes : List ℕ)
+  pub read_told : h.operation ≡ Read → (r : Reply) (five set bytes : List ℕ)
       → outcome r set ≡ read_listing (panel_of h.n h.marks h.degree) terms given → five ≡ in_order (numbers r) → bytes ≡ replicate size filler
       → m ≡ case_line five set → Answers (case_of h terms given size) m bytes
-  unfolding case_of
-  read_told p q o r five set bytes e f b s =
-      rw (ne_eqb h.operation 1 p, ne_eqb h.operation 2 q, ne_eqb h.operation 3 o)
-      (subst (λ (x : Outcome). Answers (read_case x size) m bytes) e (record { text = rw f at s; bytes = b }))
+  unfolding asked_case
+  read_told p r five set bytes e f b s =
+      rw p (subst (λ (x : Outcome). Answers (read_case x size) m bytes) e (record { text = rw f at s; bytes = b }))
 
 -- two answers that the promise allows are equal
 pub answer_determined : (c : Case) {m n b d : List ℕ} → Answers c m b → Answers c n d → (m ≡ n) × (b ≡ d)

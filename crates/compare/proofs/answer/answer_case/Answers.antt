@@ -5,26 +5,23 @@ use Rattle.compare.proofs.answer.Laws.{plan_told, wire_told, thin_told, read_tol
 use borrow.Author.Rules.{rules}
 use Rattle.compare.proofs.answer.answer_case.Goals as goal
 
-pub returns-then-operation-eq1 : goal.returns-then-operation-eq1
-returns-then-operation-eq1 c =
+pub returns-in-Plan : goal.returns-in-Plan
+returns-in-Plan c =
     let long : length c.fill.new.self ≡ length c.args.buffer.now = search rules in
-    plan_told _ _ _ _ _ long c.if-operation-eq1.true c.plan-planned.result _ _ c.plan-planned.ensures c.numbers.ensures
-    c.case_line.ensures
+    plan_told _ _ _ _ _ long c.in-Plan.is c.plan-planned.result _ _ c.plan-planned.ensures c.numbers.ensures c.case_line.ensures
 
-pub returns-then-operation-eq2 : goal.returns-then-operation-eq2
-returns-then-operation-eq2 c =
+pub returns-in-Wire : goal.returns-in-Wire
+returns-in-Wire c =
     let long : length c.fill.new.self ≡ length c.args.buffer.now = search rules in
-    wire_told _ _ _ _ _ long c.if-operation-eq1.false c.if-operation-eq2.true c.wire-wired.result _ _ c.wire-wired.ensures
-    c.numbers-then-operation-eq2.ensures c.case_line-then-operation-eq2.ensures
+    wire_told _ _ _ _ _ long c.in-Wire.is c.wire-wired.result _ _ c.wire-wired.ensures c.numbers-in-Wire.ensures c.case_line-in-Wire.ensures
 
-pub returns-then-operation-eq3 : goal.returns-then-operation-eq3
-returns-then-operation-eq3 c =
+pub returns-in-Thin : goal.returns-in-Thin
+returns-in-Thin c =
     let long : length c.fill.new.self ≡ length c.args.buffer.now = search rules in
-    thin_told _ _ _ _ _ long c.if-operation-eq1.false c.if-operation-eq2.false c.if-operation-eq3.true c.thin-thinned.result _ _
-    c.thin-thinned.ensures c.numbers-then-operation-eq3.ensures c.case_line-then-operation-eq3.ensures
+    thin_told _ _ _ _ _ long c.in-Thin.is c.thin-thinned.result _ _ c.thin-thinned.ensures c.numbers-in-Thin.ensures c.case_line-in-Thin.ensures
 
-pub returns-else-operation-eq3 : goal.returns-else-operation-eq3
-returns-else-operation-eq3 c =
+pub returns-in-Read : goal.returns-in-Read
+returns-in-Read c =
     let long : length c.fill.new.self ≡ length c.args.buffer.now = search rules in
-    read_told _ _ _ _ _ long c.if-operation-eq1.false c.if-operation-eq2.false c.if-operation-eq3.false c.read_listing-heard.result.reply _ _ _
-    c.read_listing-heard.ensures c.numbers-else-operation-eq3.ensures (c.fill.ensures.after (λ y h. search rules)) c.case_line-else-operation-eq3.ensures
+    read_told _ _ _ _ _ long c.in-Read.is c.read_listing-heard.result.reply _ _ _ c.read_listing-heard.ensures c.numbers-in-Read.ensures
+    (c.fill.ensures.after (λ y h. search rules)) c.case_line-in-Read.ensures

@@ -28,4 +28,4 @@ returns c =
     let long : length a.wires.now ≡ wires_bytes = search rules in
     let front = front_within input set_bytes _ at in
     let held = held_padded (set_in input) _ (rw front at c.put.ensures) in
-    types a.n a.marks a.degree _ _ _ _ _ long (rw (rest_within input set_bytes _ at, front) at c.wire-reply.ensures) _ held
+    rw c.from-known.ensures (types a.n a.marks a.degree _ _ _ _ _ long (rw (rest_within input set_bytes _ at, front) at c.wire-reply.ensures) _ held)
