@@ -1,7 +1,7 @@
 -- Set records: their places, the loops that judge and read them, and what a right record holds. Assumes nothing.
 use mathlib.Core.Path.{◌≡◌, refl, sym, ap, ap₂, subst, ◌∙◌}
 use mathlib.Core.Logic.{⊎_elim}
-use mathlib.Core.Bool.{Bool, true, false, cond, ◌&&◌, and-false}
+use mathlib.Core.Bool.{Bool, true, false, cond, ◌&&◌}
 use mathlib.Core.List.Memᴰ
 use mathlib.Core.List.{List, [], ◌∷◌}
 use Prim.Native.Nat.{ℕ, zero, suc, ◌+◌, ◌*◌, ◌-◌, ◌<◌, ◌≤◌, min}
@@ -9,8 +9,7 @@ use native.Mathlib.Omega.{arith}
 use lib.Dec.{T}
 use lib.ListN.{length, get_or, take, drop, length-take, length-drop}
 use lib.Seq.{length-take-le, get_or-take}
-use Rattle.std.specs.Bool.{MatchBool}
-use Rattle.std.specs.List.{AllWithin, HoldsAt, list_all, range_with_len}
+use Rattle.std.specs.List.{list_all, range_with_len}
 use Rattle.monomial.specs.Lists.{any, all, place, below}
 use Rattle.monomial.specs.Monomial.{Mono, one, constants, width}
 use Rattle.monomial.specs.Order.{same, before}
@@ -31,23 +30,6 @@ use Rattle.wiring.proofs.kit.Laws.{may_can}
 use Rattle.wiring.specs.Sets.{places, size_of, set_of, ascending, monomial_right, set_right, monomials_of, IsSetOf}
 use Rattle.wiring.specs.declared.held.Set.{Set}
 use Rattle.wiring.proofs.terms.Laws.{all_small}
-
--- ---- a chain that tests every entry says what the test of all says
-all_passes : {A : Type 0} (f : A → Bool) (l : List A) → ((k : ℕ) (d : A) → k < length l → f (get_or l k d) ≡ true) → true ≡ all f l
-unfolding all
-all_passes f [] h = refl
-all_passes f (x ∷ l) h = rw (h 0 x (omega arith)) (all_passes f l (λ k d i. h (suc k) d (omega arith)))
-
-all_meets : {A : Type 0} (f : A → Bool) (l : List A) (k : ℕ) → k < length l → ((d : A) → f (get_or l k d) ≡ false) → false ≡ all f l
-unfolding all
-all_meets f [] k i h = absurd (omega arith)
-all_meets f (x ∷ l) zero i h = rw (h x) refl
-all_meets f (x ∷ l) (suc k) i h = rw (sym (all_meets f l k (omega arith) h)) (sym (and-false (f x)))
-
-pub all_says : {A : Type 0} (f : A → Bool) (l : List A) (r : Bool)
-    → MatchBool r (AllWithin (λ x. f x ≡ true) l 0 (length l)) ((k : ℕ) × (k < length l) × HoldsAt (λ x. f x ≡ false) l k) → r ≡ all f l
-all_says f l true h = all_passes f l (λ k d i. h k d (omega arith) i)
-all_says f l false h = all_meets f l h.0 h.1 h.2
 
 -- ---- the places of a record
 -- the six bytes from place i on

@@ -7,7 +7,7 @@ use lib.ListN.{take}
 use Rattle.std.proofs.lemmas.Iterator.{YieldsList-from_range}
 use Rattle.std.proofs.lemmas.Iterator.Search.{all_from_yields_List}
 use Rattle.wiring.specs.Sets.{places, monomial_right}
-use Rattle.wiring.proofs.Ranges.{all_range}
+use Rattle.wiring.proofs.Chains.{all_range}
 use Rattle.wiring.proofs.sets.Laws.{place_at, used_length, used_at}
 use Rattle.wiring.proofs.sets.monomials_right.Goals as goal
 

@@ -1,9 +1,8 @@
 -- `terms::exponents_right` meets its contract: the chain asks whether each exponent is `Fit`. Assumes nothing.
-use native.Mathlib.Omega.{arith}
 use borrow.Author.Rules.{rules}
 use borrow.Author.Tests.{tests}
-use mathlib.Core.Path.{◌≡◌, refl, ◌∙◌}
-use lib.ListN.{length, get_or}
+use mathlib.Core.Path.{◌≡◌, refl}
+use lib.ListN.{length}
 use Rattle.std.proofs.lemmas.Iterator.{YieldsList-from_range, cases_from_all}
 use Rattle.monomial.specs.Monomial.{width}
 use Rattle.wiring.proofs.terms.Laws.{FitAt, exponents_asked}

@@ -7,7 +7,7 @@ use lib.ListN.{take}
 use Rattle.std.proofs.lemmas.Iterator.{YieldsList-from_range}
 use Rattle.std.proofs.lemmas.Iterator.Search.{any_from_yields_List}
 use Rattle.wiring.specs.Terms.{record_at, records, alike}
-use Rattle.wiring.proofs.Ranges.{any_range}
+use Rattle.wiring.proofs.Chains.{any_range}
 use Rattle.wiring.proofs.terms.Laws.{earlier_length, earlier_at}
 use Rattle.wiring.proofs.terms.repeats.Goals as goal
 

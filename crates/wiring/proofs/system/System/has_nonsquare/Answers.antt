@@ -7,7 +7,7 @@ use Rattle.std.proofs.lemmas.Iterator.{YieldsList-from_range}
 use Rattle.std.proofs.lemmas.Iterator.Search.{any_from_yields_List}
 use Rattle.wiring.specs.Signals.{signals_at}
 use Rattle.wiring.specs.Terms.{record_at, records}
-use Rattle.wiring.proofs.Ranges.{any_range}
+use Rattle.wiring.proofs.Chains.{any_range}
 use Rattle.wiring.proofs.terms.Laws.{records_length, records_at}
 use Rattle.wiring.proofs.quadratic.Records.{outside, offering, found_unmet}
 use Rattle.wiring.proofs.system.System.has_nonsquare.Goals as goal

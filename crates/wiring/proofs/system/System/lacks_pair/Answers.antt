@@ -8,7 +8,7 @@ use Rattle.std.proofs.lemmas.Iterator.Search.{any_from_yields_List}
 use Rattle.wiring.specs.Signals.{signals_of}
 use Rattle.wiring.specs.Terms.{record_at, records}
 use Rattle.wiring.specs.Wires.{unmet_beyond}
-use Rattle.wiring.proofs.Ranges.{any_range}
+use Rattle.wiring.proofs.Chains.{any_range}
 use Rattle.wiring.proofs.terms.Laws.{records_length, records_at}
 use Rattle.wiring.proofs.quadratic.Records.{offering, offers_some}
 use Rattle.wiring.proofs.system.System.lacks_pair.Goals as goal

@@ -1,4 +1,4 @@
--- Chains over the numbers of a range: one that asks about the entries of a list, each by its number, says what the test of the entries says. Assumes nothing.
+-- Chains that ask about the entries of a list say what the test of the entries says: one over the entries, and one over their numbers. Assumes nothing.
 use mathlib.Core.Path.{◌≡◌, refl, sym, ap, ap₂, ◌∙◌}
 use mathlib.Core.Bool.{Bool, ◌&&◌, ◌||◌}
 use mathlib.Core.List.{List, [], ◌∷◌}
@@ -8,6 +8,13 @@ use lib.ListN.{length, get_or}
 use Rattle.std.specs.List.{list_any, list_all, range_with_len}
 use Rattle.monomial.specs.Lists.{any, all}
 
+-- ---- over the entries
+pub all_list : {A : Type 0} (f : A → Bool) (l : List A) → list_all f l ≡ all f l
+unfolding all
+all_list f [] = refl
+all_list f (x ∷ l) = ap (◌&&◌ (f x)) (all_list f l)
+
+-- ---- over their numbers
 module _ {A : Type 0} (f : A → Bool) (p : ℕ → Bool) where
   -- from number a on the chain asks about the entries of l
   Asks : ℕ → List A → Type 0
