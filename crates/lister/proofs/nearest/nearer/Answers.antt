@@ -31,14 +31,6 @@ module _ (c : After-is_of) where
   told : c.is_of.result ≡ cheap v (split m x)
   told = c.is_of.ensures v (split m x) held
 
-pub returns-then-not-is_of : goal.returns-then-not-is_of
-returns-then-not-is_of c =
-    let w = (goal.at.returns-then-not-is_of c).After-is_of in
-    let a = c.args in
-    let dear = sym (told w) ∙ c.if-not-is_of.true in
-    λ j n e. nearing_by (v w) (m w) a.a.e n
-    (subst (NotBehind (v w) (m w) a.a.e a.near) e (λ d. absurd (is→n_t _ dear d.cheap)))
-
 pub returns : goal.returns
 returns c =
     let w = (goal.at.returns c).After-is_of in
