@@ -6,11 +6,11 @@ use lib.Dec.{T}
 use Rattle.monomial.specs.Monomial.{Mono}
 use Rattle.monomial.specs.Order.{before}
 use Rattle.monomial.specs.Claims.{split}
-use Rattle.monomial.proofs.Tests.{is→T, is→n_t}
+use Rattle.monomial.proofs.Tests.{is→T}
 use Rattle.wiring.specs.Signals.{signals_at}
 use Rattle.lister.specs.Cheap.{cheap, Holds}
-use Rattle.lister.specs.Nearest.{CheapFrom, NotBehind}
-use Rattle.lister.proofs.nearest.Laws.{nearing_by, nearing_take, nearer_out}
+use Rattle.lister.specs.Nearest.{CheapFrom}
+use Rattle.lister.proofs.nearest.Laws.{nearing_take, nearer_out}
 use Rattle.lister.proofs.nearest.nearer.Goals as goal
 use Rattle.lister.proofs.nearest.nearer.Goals.{After-is_of}
 
