@@ -30,6 +30,7 @@ fn half(m: Monomial) -> Monomial
 }
 
 // The first of the pair of m that w is of. What divides nothing is taken for 1, which is the first of a pair too.
+#[tactic(auto, using(crate::proofs::nearest::Laws::lead_one, crate::proofs::nearest::Laws::lead_own, crate::proofs::nearest::Laws::lead_other))]
 fn lead_of(w: Monomial, m: Monomial) -> Monomial
     ensures { result.e ≡ lead_of m.e w.e }
 {
@@ -91,6 +92,7 @@ fn nearer(v: Members, m: Monomial, a: Monomial, near: Option<Near>, c: Monomial)
 }
 
 // The first cheap pair of m from a on.
+#[tactic(auto, using(crate::proofs::nearest::Laws::lead_divides, crate::proofs::nearest::Laws::lead_leads))]
 pub fn nearest(v: Members, m: Monomial, a: Monomial) -> Option<Near>
     requires { v.n ≤ width }
     ensures { Nearest (signals_at v.entry.n v.entry.set.now) m.e a.e result }

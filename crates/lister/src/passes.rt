@@ -31,6 +31,7 @@ pub struct Hand {
 }
 
 // So many pairs has m: of two divisors one leads, and the root of a square by itself.
+#[tactic(auto, using(monomial::proofs::divisors::Count::pairs_count))]
 fn count(m: Monomial) -> u64
     ensures { result ≡ length (pairs m.e) }
 {

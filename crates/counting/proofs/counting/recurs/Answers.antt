@@ -7,7 +7,7 @@ use Rattle.monomial.specs.Monomial.{one, width}
 use Rattle.wiring.specs.Signals.{tabled, signals_at}
 use Rattle.wiring.proofs.signals.Tables.{tabled_length, tabled_at}
 use Rattle.counting.specs.Counting.{shares}
-use Rattle.counting.proofs.counting.Hits.{recurring_start, recurring_short, recurring_end, recurring_hit, recurring_miss}
+use Rattle.counting.proofs.counting.Hits.{recurring_start, recurring_short, recurring_hit, recurring_miss}
 use Rattle.counting.proofs.counting.recurs.Goals as goal
 use Rattle.counting.proofs.counting.recurs.Goals.{then-is_multiple, else-is_multiple}
 
@@ -22,17 +22,6 @@ returns-then-len-a c =
     let k = c.loop-left in
     let l = c.args.list.now in
     recurring_short _ _ k.invariant.1 (omega (arith, tabled_length l))
-
-pub read-requires : goal.read-requires
-read-requires c =
-    let k = c.loop-left in
-    omega (arith, c.if-len-a.false)
-
-pub loop-left-smaller : goal.loop-left-smaller
-loop-left-smaller c =
-    let k = c.loop-left in
-    let near = c.if-len-a.false in
-    omega arith
 
 pub loop-left-preserved : goal.loop-left-preserved
 loop-left-preserved c =
@@ -50,6 +39,3 @@ loop-left-preserved c =
         | else-is_multiple w ↦ rw w.left-is (recurring_miss _ _ k.invariant.1 (one width) few (here ∙ met ∙ w.if-is_multiple.false))
       ],
     )
-
-pub returns : goal.returns
-returns c = recurring_end _ _ c.loop-left.invariant.1 (omega arith)

@@ -13,7 +13,7 @@ use Rattle.wiring.specs.Signals.{tabled, signals_at}
 use Rattle.wiring.specs.Terms.{records, system}
 use Rattle.wiring.proofs.signals.Tables.{tabled_at}
 use Rattle.wiring.proofs.signals.Laws.{signals_new, signals_constant, signals_at_length, fitting_at}
-use Rattle.counting.proofs.gathering.Laws.{Gathering, gathering_next, gathering_over, gathering_ends, holds_none, holds_lent}
+use Rattle.counting.proofs.gathering.Laws.{Gathering, gathering_next, gathering_over, gathering_ends, holds_none}
 use Rattle.counting.proofs.gathering.gather.Goals as goal
 use Rattle.counting.proofs.gathering.gather.Goals.{After-read-z, After-constant-z}
 
@@ -39,12 +39,12 @@ module _ (c : After-constant-z) where
 pub loop-i-init : goal.loop-i-init
 loop-i-init c = (refl, collecting_last _ _ _ _ (omega (arith, c.order-i.ensures, signals_at_length c.args.v.n c.args.v.set.now c.requires.few)) (holds_none _ _))
 
-pub gather_in-requires : goal.gather_in-requires
-gather_in-requires c =
-    let w = (goal.at.gather_in-requires c).After-read-z in
+pub gather_in-requires-clause-small : goal.gather_in-requires-clause-small
+gather_in-requires-clause-small c =
+    let w = (goal.at.gather_in-requires-clause-small c).After-read-z in
     let k = c.loop-i in
     let fits = fitting_at set_exponent (v w) (at w) (one width) c.requires.fits (omega (arith, k.invariant.1.within)) in
-    record { small = rw (sym (set_signal w)) fits; lent = holds_lent k.invariant.1.holds (omega (arith, c.requires.room, k.invariant.0)) }
+    rw (sym (set_signal w)) fits
 
 pub returns-in_err-len : goal.returns-in_err-len
 returns-in_err-len c =
@@ -60,13 +60,13 @@ loop-i-preserved c =
       gathering_next (v w) (derivative plain (system (records c.args.s.terms.now))) k.invariant.1 (at w) (omega arith) _ (set_signal w) _ _ c.in_ok-len.ensures,
     )
 
-pub gather_in-requires-in-loop-j : goal.gather_in-requires-in-loop-j
-gather_in-requires-in-loop-j c =
-    let w = (goal.at.gather_in-requires-in-loop-j c).After-constant-z in
+pub gather_in-requires-in-loop-j-clause-small : goal.gather_in-requires-in-loop-j-clause-small
+gather_in-requires-in-loop-j-clause-small c =
+    let w = (goal.at.gather_in-requires-in-loop-j-clause-small c).After-constant-z in
     let k = c.loop-j in
     let v = signals_at c.args.v.n c.args.v.set.now in
     let fits = fitting_at set_exponent v (k.j - 1) (one width) c.requires.fits (omega (arith, k.invariant.1.within)) in
-    record { small = rw (sym (old_signal w)) fits; lent = holds_lent k.invariant.1.holds (omega (arith, c.requires.room, k.invariant.0, c.loop-i.invariant.0)) }
+    rw (sym (old_signal w)) fits
 
 pub returns-in_err-len-2 : goal.returns-in_err-len-2
 returns-in_err-len-2 c =

@@ -17,10 +17,8 @@ use Rattle.counting.proofs.verdict.Laws.{list_fits, over_closes, list_closes, sp
 use borrow.Author.Rules.{rules}
 use Rattle.counting.proofs.verdict.verdict_of.Goals as goal
 
-pub gather-requires : goal.gather-requires
-gather-requires c =
-    let w = c.requires.weighed in
-    record { few = w.few; fits = w.fitting; room = omega (arith, list_fits w c.len-members.ensures, c.requires.lent) }
+pub gather-requires-clause-room : goal.gather-requires-clause-room
+gather-requires-clause-room c = omega (arith, list_fits c.requires.weighed c.len-members.ensures, c.requires.lent)
 
 -- with so little room there are few
 pub overflow_mul-most : goal.overflow_mul-most

@@ -6,11 +6,11 @@ use lib.Dec.{T}
 use Rattle.monomial.specs.Monomial.{Mono}
 use Rattle.monomial.specs.Order.{before}
 use Rattle.monomial.specs.Claims.{split}
-use Rattle.monomial.proofs.Tests.{is→T, is→n_t}
+use Rattle.monomial.proofs.Tests.{is→T}
 use Rattle.wiring.specs.Signals.{signals_at}
 use Rattle.lister.specs.Cheap.{cheap, Holds}
-use Rattle.lister.specs.Nearest.{CheapFrom, NotBehind}
-use Rattle.lister.proofs.nearest.Laws.{nearing_by, nearing_take, nearer_out}
+use Rattle.lister.specs.Nearest.{CheapFrom}
+use Rattle.lister.proofs.nearest.Laws.{nearing_take, nearer_out}
 use Rattle.lister.proofs.nearest.nearer.Goals as goal
 use Rattle.lister.proofs.nearest.nearer.Goals.{After-is_of}
 
@@ -30,14 +30,6 @@ module _ (c : After-is_of) where
 
   told : c.is_of.result ≡ cheap v (split m x)
   told = c.is_of.ensures v (split m x) held
-
-pub returns-then-not-is_of : goal.returns-then-not-is_of
-returns-then-not-is_of c =
-    let w = (goal.at.returns-then-not-is_of c).After-is_of in
-    let a = c.args in
-    let dear = sym (told w) ∙ c.if-not-is_of.true in
-    λ j n e. nearing_by (v w) (m w) a.a.e n
-    (subst (NotBehind (v w) (m w) a.a.e a.near) e (λ d. absurd (is→n_t _ dear d.cheap)))
 
 pub returns : goal.returns
 returns c =

@@ -1,5 +1,5 @@
 -- `find` meets its contract: one pass ends with a pair, or with nothing more to list, or the rest begins. Assumes nothing.
-use mathlib.Core.Path.{◌≡◌, refl, sym, ap, ◌∙◌}
+use mathlib.Core.Path.{◌≡◌, sym, ap, ◌∙◌}
 use mathlib.Core.Bool.{true}
 use Prim.Native.Nat.{◌≤◌}
 use native.Mathlib.Omega.{arith}
@@ -14,12 +14,6 @@ use Rattle.lister.proofs.passes.Laws.{standing_start, at_none, found_of, found_t
 use borrow.Author.Rules.{rules}
 use Rattle.lister.proofs.passes.find.Goals as goal
 use Rattle.lister.proofs.passes.find.Goals.{then-is_some-via-then-is_some, then-is_some-via-else-is_some+then-at, then-is_some-via-else-is_some+else-at+then-not-all, then-is_some-via-else-is_some+else-at+else-not-all+then-left-lt1}
-
-pub loop-m-init : goal.loop-m-init
-loop-m-init c = (c.requires.stands, (c.requires.asked, refl))
-
-pub pass-h-requires : goal.pass-h-requires
-pass-h-requires c = record { few = c.requires.few; proper = c.requires.proper; stands = c.loop-m.invariant.0 }
 
 pub left-requires : goal.left-requires
 left-requires c =
@@ -45,9 +39,6 @@ returns-then-is_some c =
           let through : length (pairs a.m.e) ≤ h.at.listed = omega (arith, w.left.ensures, w.if-left-lt1.true) in
           found_through v a.m.e a.all k.at ask h.at h.held c.pass-h.ensures (sym c.is_some.ensures ∙ w.if-is_some.false) w.if-at.false through
     ])
-
-pub loop-m-smaller : goal.loop-m-smaller
-loop-m-smaller c = rw (c.rest_of-at.ensures.rest, c.if-at.false) (omega arith)
 
 pub loop-m-preserved : goal.loop-m-preserved
 loop-m-preserved c =
