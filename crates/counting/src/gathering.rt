@@ -15,8 +15,9 @@ ghost use Rattle.counting.specs.Gathering.{Lent, Notes, Gathers};
 
 use monomial::Monomial;
 use monomial::width::WIDTH;
-use wiring::panel::TERM_BYTES;
-use wiring::{choice, quadratic, signals};
+use wiring::signals::Members;
+use wiring::system::System;
+use wiring::{choice, signals};
 
 // The list with m in it, once: how many it lists then; none, where they are more than it may hold.
 fn note(list: &mut [u8], len: usize, most: usize, m: Monomial) -> Option<usize>
@@ -35,21 +36,20 @@ fn note(list: &mut [u8], len: usize, most: usize, m: Monomial) -> Option<usize>
 
 // The list, once the nonsquares of the derivative of z are met too.
 fn gather_in(
-    terms: &[u8],
+    s: System,
     list: &mut [u8],
     len: usize,
     most: usize,
     z: Monomial,
-    n: usize,
-    set: &[u8],
-    cancels: bool,
+    v: Members,
 ) -> Option<usize>
-    requires { CleanTerms terms.now × (AtMost set_exponent z.e × (Lent most len list.old × (cancels ≡ false → Uncancelled terms.now))) }
-    ensures { Notes (unmet plain (signals_at n set.now) (derivative plain (system (records terms.now)) z.e) ++ listed len list.old) most result list.new }
+    requires small { AtMost set_exponent z.e }
+    requires lent { Lent most len list.old }
+    ensures { Notes (unmet plain (signals_at v.entry.n v.entry.set.now) (derivative plain (system (records s.entry.terms.now)) z.e) ++ listed len list.old) most result list.new }
 {
     let mut held = len;
-    for t in 0..terms.len() / TERM_BYTES {
-        if let Some(m) = quadratic::nonsquare_of(terms, t, z, n, set, cancels) {
+    for t in 0..s.count() {
+        if let Some(m) = s.nonsquare_of(t, z, v) {
             held = note(list, held, most, m)?;
         }
     }
@@ -58,25 +58,20 @@ fn gather_in(
 
 // The nonsquares of a set in the list, and how many they are; none, where they are more than it may hold. The signals are asked from the last: the newest
 // ones have most. Those of the set and those before them are asked in two loops: so what asks one of them stays out of the opener's frame.
-pub fn gather(
-    terms: &[u8],
-    list: &mut [u8],
-    n: usize,
-    set: &[u8],
-    cancels: bool,
-    most: usize,
-) -> Option<usize>
-    requires { CleanTerms terms.now × ((n ≤ width) × (Fitting set_exponent (signals_at n set.now) × ((cancels ≡ false → Uncancelled terms.now) × (width * most ≤ length list.old)))) }
-    ensures { Gathers most (nonsquares plain (signals_at n set.now) (derivative plain (system (records terms.now)))) result list.new }
+pub fn gather(s: System, list: &mut [u8], v: Members, most: usize) -> Option<usize>
+    requires few { v.n ≤ width }
+    requires fits { Fitting set_exponent (signals_at v.n v.set.now) }
+    requires room { width * most ≤ length list.old }
+    ensures { Gathers most (nonsquares plain (signals_at v.entry.n v.entry.set.now) (derivative plain (system (records s.entry.terms.now)))) result list.new }
 {
     let mut len: usize = 0;
-    for i in (0..set.len() / WIDTH).rev() {
-        let z = Monomial::read(set, WIDTH * i);
-        len = gather_in(terms, list, len, most, z, n, set, cancels)?;
+    for i in (0..v.order()).rev() {
+        let z = Monomial::read(v.set, WIDTH * i);
+        len = gather_in(s, list, len, most, z, v)?;
     }
-    for j in (0..n + 1).rev() {
+    for j in (0..v.n + 1).rev() {
         let z = Monomial::constant(j);
-        len = gather_in(terms, list, len, most, z, n, set, cancels)?;
+        len = gather_in(s, list, len, most, z, v)?;
     }
     Some(len)
 }

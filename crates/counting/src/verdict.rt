@@ -12,6 +12,8 @@ use super::{counting, gathering};
 use monomial::Monomial;
 use monomial::width::{CONSTANTS, WIDTH};
 use wiring::panel::{CARDS, Panel};
+use wiring::signals::Members;
+use wiring::system::System;
 
 // Nonsquares that the lent list need hold, and its bytes: of more a set is closed, however much room there is below the level.
 pub const MOST_LISTED: usize = CARDS * CONSTANTS + CARDS * (CARDS + 1) / 2;
@@ -27,27 +29,21 @@ pub enum Verdict {
 }
 
 // A quotient occurs at most once for each member of V: where there are more nonsquares than that allows, the rest of them is not looked for.
-pub fn verdict_of(
-    terms: &[u8],
-    list: &mut [u8],
-    panel: Panel,
-    set: &[u8],
-    cancels: bool,
-    room: usize,
-) -> Verdict
-    requires { Weighing terms.now panel.n set.now cancels room × (list_bytes ≤ length list.old) }
-    ensures { Judged (can_build panel) room (signals_at panel.n set.now) (nonsquares plain (signals_at panel.n set.now) (derivative plain (system (records terms.now)))) result }
+pub fn verdict_of(s: System, list: &mut [u8], panel: Panel, v: Members, room: usize) -> Verdict
+    requires weighed { Weighing s.terms.now v.n v.set.now s.cancels room }
+    requires lent { list_bytes ≤ length list.old }
+    ensures { Judged (can_build panel) room (signals_at v.entry.n v.entry.set.now) (nonsquares plain (signals_at v.entry.n v.entry.set.now) (derivative plain (system (records s.entry.terms.now)))) result }
 {
-    let members = panel.n + 1 + set.len() / WIDTH;
+    let members = v.len();
     let most = room * members + room * (room + 1) / 2;
-    let Some(len) = gathering::gather(terms, list, panel.n, set, cancels, most) else {
+    let Some(len) = gathering::gather(s, list, v, most) else {
         return Verdict::Closed;
     };
     if len < 1 {
         return Verdict::Found;
     }
     let listed = &list[..WIDTH * len];
-    if counting::closes(panel, listed, set, room) {
+    if counting::closes(panel, listed, v, room) {
         return Verdict::Closed;
     }
     let m = gathering::cheapest_of(listed).unwrap();

@@ -7,7 +7,7 @@ ghost use Rattle.wiring.specs.Signals.{signals_at};
 ghost use Rattle.lister.specs.Cheap.{cheap, of_kind, Holds};
 
 use monomial::Monomial;
-use wiring::signals;
+use wiring::signals::Members;
 
 // What adds nothing of a pair: the first, which V has or which is the second once more; and the second, which V has.
 #[derive(Clone, Copy)]
@@ -17,17 +17,17 @@ pub struct Held {
 }
 
 // Whether the first of a pair adds nothing to the second: they are one, or V has it.
-fn is_met(n: usize, set: &[u8], a: Monomial, b: Monomial) -> bool
-    ensures { result ≡ same a.e b.e || any (same a.e) (signals_at n set.now) }
+fn is_met(v: Members, a: Monomial, b: Monomial) -> bool
+    ensures { result ≡ same a.e b.e || any (same a.e) (signals_at v.entry.n v.entry.set.now) }
 {
-    a.same(b) || signals::is_signal(n, set, a)
+    a == b || v.is_signal(a)
 }
 
-pub fn look_up(n: usize, set: &[u8], a: Monomial, b: Monomial) -> Held
-    ensures { Holds (signals_at n set.now) (a.e, b.e) result }
+pub fn look_up(v: Members, a: Monomial, b: Monomial) -> Held
+    ensures { Holds (signals_at v.entry.n v.entry.set.now) (a.e, b.e) result }
 {
-    let second = signals::is_signal(n, set, b);
-    let first = is_met(n, set, a, b);
+    let second = v.is_signal(b);
+    let first = is_met(v, a, b);
     Held { first, second }
 }
 

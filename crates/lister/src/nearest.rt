@@ -11,7 +11,7 @@ use super::cheap;
 use super::cheap::Held;
 use monomial::Monomial;
 use monomial::width::WIDTH;
-use wiring::signals;
+use wiring::signals::Members;
 
 // The cheap pair that begins with a.
 #[derive(Clone, Copy)]
@@ -45,12 +45,13 @@ fn lead_of(w: Monomial, m: Monomial) -> Monomial
 }
 
 // By V and behind it the root, number j.
-fn candidate(n: usize, set: &[u8], m: Monomial, j: usize) -> Monomial
-    requires { (n ≤ width) × (j ≤ n + 1 + length set.now / width) }
-    ensures { result.e ≡ lead_of m.e (get_or (asked (signals_at n set.now) m.e) j (one width)) }
+fn candidate(v: Members, m: Monomial, j: usize) -> Monomial
+    requires few { v.n ≤ width }
+    requires inside { j ≤ length (signals_at v.n v.set.now) }
+    ensures { result.e ≡ lead_of m.e (get_or (asked (signals_at v.entry.n v.entry.set.now) m.e) j (one width)) }
 {
-    if j <= n + set.len() / WIDTH {
-        return lead_of(signals::signal(n, set, j), m);
+    if j < v.len() {
+        return lead_of(v.signal(j), m);
     }
     lead_of(half(m), m)
 }
@@ -61,7 +62,7 @@ fn is_ahead(c: Monomial, near: Option<Near>) -> bool
 {
     match near {
         None => true,
-        Some(near) => c.before(near.a),
+        Some(near) => c < near.a,
     }
 }
 
@@ -69,26 +70,20 @@ fn is_ahead(c: Monomial, near: Option<Near>) -> bool
 fn is_nearer(c: Monomial, a: Monomial, near: Option<Near>) -> bool
     ensures { result ≡ not (before c.e a.e) && ahead c.e near }
 {
-    !c.before(a) && is_ahead(c, near)
+    a <= c && is_ahead(c, near)
 }
 
 // The nearest so far, or c in its place where that begins a cheap pair and is nearer.
-fn nearer(
-    n: usize,
-    set: &[u8],
-    m: Monomial,
-    a: Monomial,
-    near: Option<Near>,
-    c: Monomial,
-) -> Option<Near>
-    requires { T (divides c.e m.e) × T (leads m.e c.e) }
-    ensures { (j : ℕ) → Nearing (signals_at n set.now) m.e a.e near j → c.e ≡ tried (signals_at n set.now) m.e j →
-        Nearing (signals_at n set.now) m.e a.e result (j + 1) }
+fn nearer(v: Members, m: Monomial, a: Monomial, near: Option<Near>, c: Monomial) -> Option<Near>
+    requires divisor { T (divides c.e m.e) }
+    requires leading { T (leads m.e c.e) }
+    ensures { (j : ℕ) → Nearing (signals_at v.entry.n v.entry.set.now) m.e a.e near j → c.e ≡ tried (signals_at v.entry.n v.entry.set.now) m.e j →
+        Nearing (signals_at v.entry.n v.entry.set.now) m.e a.e result (j + 1) }
 {
     if !is_nearer(c, a, near) {
         return near;
     }
-    let held = cheap::look_up(n, set, c, m.over(c));
+    let held = cheap::look_up(v, c, m.over(c));
     if !cheap::is_of(false, held) {
         return near;
     }
@@ -96,14 +91,14 @@ fn nearer(
 }
 
 // The first cheap pair of m from a on.
-pub fn nearest(n: usize, set: &[u8], m: Monomial, a: Monomial) -> Option<Near>
-    requires { n ≤ width }
-    ensures { Nearest (signals_at n set.now) m.e a.e result }
+pub fn nearest(v: Members, m: Monomial, a: Monomial) -> Option<Near>
+    requires { v.n ≤ width }
+    ensures { Nearest (signals_at v.entry.n v.entry.set.now) m.e a.e result }
 {
-    let members = n + 1 + set.len() / WIDTH;
+    let members = v.len();
     let mut near = None;
     for j in 0..members + 1 {
-        near = nearer(n, set, m, a, near, candidate(n, set, m, j));
+        near = nearer(v, m, a, near, candidate(v, m, j));
     }
     near
 }

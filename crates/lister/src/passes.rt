@@ -8,6 +8,7 @@ ghost use Rattle.lister.specs.Passes.{Proper, Standing, Starting, Sought, Found}
 use super::cheap::Held;
 use super::{cheap, nearest};
 use monomial::Monomial;
+use wiring::signals::Members;
 
 // Of more pairs V is asked which are cheap; up to so many are gone through sooner.
 pub const FEW: u64 = 32;
@@ -67,13 +68,14 @@ pub fn left(m: Monomial, listed: u64) -> u64
 }
 
 // Goes through the pairs from a place on, to the first of its kind.
-fn seek(n: usize, set: &[u8], m: Monomial, from: Place) -> Hand
-    requires { Proper m.e × Standing (signals_at n set.now) m.e from.rest from.a.e from.listed }
-    ensures { Sought (signals_at n set.now) m.e from result }
+fn seek(v: Members, m: Monomial, from: Place) -> Hand
+    requires proper { Proper m.e }
+    requires stands { Standing (signals_at v.n v.set.now) m.e from.rest from.a.e from.listed }
+    ensures { Sought (signals_at v.entry.n v.entry.set.now) m.e from result }
 {
     let mut a = from.a;
     while a.leads(m) {
-        let held = cheap::look_up(n, set, a, m.over(a));
+        let held = cheap::look_up(v, a, m.over(a));
         if cheap::is_of(from.rest, held) {
             let listed = from.listed + 1;
             return Hand {
@@ -102,11 +104,14 @@ fn rest_of(at: Place) -> Place
 }
 
 // By V, to the first cheap pair from a place on.
-fn by_v(n: usize, set: &[u8], m: Monomial, from: Place) -> Hand
-    requires { (n ≤ width) × (Proper m.e × (Standing (signals_at n set.now) m.e from.rest from.a.e from.listed × (from.rest ≡ false))) }
-    ensures { Sought (signals_at n set.now) m.e from result }
+fn by_v(v: Members, m: Monomial, from: Place) -> Hand
+    requires few { v.n ≤ width }
+    requires proper { Proper m.e }
+    requires stands { Standing (signals_at v.n v.set.now) m.e from.rest from.a.e from.listed }
+    requires cheap { from.rest ≡ false }
+    ensures { Sought (signals_at v.entry.n v.entry.set.now) m.e from result }
 {
-    let Some(near) = nearest::nearest(n, set, m, from.a) else {
+    let Some(near) = nearest::nearest(v, m, from.a) else {
         return Hand {
             at: from,
             held: None,
@@ -124,25 +129,30 @@ fn by_v(n: usize, set: &[u8], m: Monomial, from: Place) -> Hand
 }
 
 // One pass from a place on.
-fn pass(n: usize, set: &[u8], m: Monomial, from: Place) -> Hand
-    requires { (n ≤ width) × (Proper m.e × Standing (signals_at n set.now) m.e from.rest from.a.e from.listed) }
-    ensures { Sought (signals_at n set.now) m.e from result }
+fn pass(v: Members, m: Monomial, from: Place) -> Hand
+    requires few { v.n ≤ width }
+    requires proper { Proper m.e }
+    requires stands { Standing (signals_at v.n v.set.now) m.e from.rest from.a.e from.listed }
+    ensures { Sought (signals_at v.entry.n v.entry.set.now) m.e from result }
 {
     if from.many && !from.rest {
-        return by_v(n, set, m, from);
+        return by_v(v, m, from);
     }
-    seek(n, set, m, from)
+    seek(v, m, from)
 }
 
 // The first pair from a place on: of its kind; and behind the last cheap one, where all are asked for, of the rest from its beginning.
-pub fn find(n: usize, set: &[u8], m: Monomial, all: bool, from: Place) -> Hand
-    requires { (n ≤ width) × (Proper m.e × (Standing (signals_at n set.now) m.e from.rest from.a.e from.listed × (all ≡ false → from.rest ≡ false))) }
-    ensures { Found (signals_at n set.now) m.e all from.rest from.a.e result }
+pub fn find(v: Members, m: Monomial, all: bool, from: Place) -> Hand
+    requires few { v.n ≤ width }
+    requires proper { Proper m.e }
+    requires stands { Standing (signals_at v.n v.set.now) m.e from.rest from.a.e from.listed }
+    requires asked { all ≡ false → from.rest ≡ false }
+    ensures { Found (signals_at v.entry.n v.entry.set.now) m.e all from.rest from.a.e result }
 {
     let mut at = from;
     // A loop: of two calls the pass would be a function by itself, and each pair would take longer.
     loop {
-        let h = pass(n, set, m, at);
+        let h = pass(v, m, at);
         // Of most small nonsquares all pairs are cheap.
         if h.held.is_some() || at.rest || !all || left(m, h.at.listed) < 1 {
             return h;

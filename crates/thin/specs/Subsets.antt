@@ -8,7 +8,7 @@ use Rattle.wiring.specs.Poly.{Poly}
 use Rattle.wiring.specs.Terms.{records, system}
 use Rattle.wiring.specs.Sets.{monomials_of, set_record}
 use Rattle.wiring.specs.Answers.{missing, Judgeable}
-use Rattle.wiring.specs.declared.sets.Set.{Set}
+use Rattle.wiring.specs.declared.held.Set.{Set}
 use Rattle.walk.specs.Walk.{Finds}
 use Rattle.walk.specs.Plan.{sets_bytes}
 use Rattle.thin.specs.declared.subsets.Best.{Best}

@@ -10,9 +10,9 @@ ghost use Rattle.walk.specs.Walk.{Finds};
 ghost use Rattle.thin.specs.Subsets.{is_quadratic, Begun, Sifting, Bounded, undecided, Deciding};
 
 use roster::roster as sets;
+use wiring::held::Set;
 use wiring::panel::SET_BYTES;
 use wiring::reply::Reply;
-use wiring::sets::Set;
 use wiring::{answers, buffer};
 
 // What the subsets that were sifted come to: the least size of a quadratic one, how many of them have it, and how many subsets were sifted: the steps.
@@ -42,8 +42,7 @@ fn is_quadratic(n: usize, terms: &[u8], set: Set) -> bool
 
 // Writes a set behind the first `count` of the list, where there is room. Without room it is only counted: a smaller set may yet begin the list anew.
 fn join(out: &mut [u8], count: usize, set: Set)
-    requires fits { set.len ≤ cards }
-    requires wide { Wide (monomials_of set) }
+    requires { Wide (monomials_of set) }
     ensures { (l : Finds) → count ≡ length l → Begun l out.old → Begun (l ++ (monomials_of set ∷ [])) out.new }
 {
     if count < out.len() / SET_BYTES {

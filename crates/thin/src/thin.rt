@@ -11,9 +11,9 @@ ghost use Rattle.thin.specs.Thin.{thinning, thinned_by, thinned};
 
 use super::subsets;
 use super::subsets::Best;
+use wiring::held::Set;
 use wiring::panel::SET_BYTES;
 use wiring::reply::Reply;
-use wiring::sets::Set;
 use wiring::{answers, buffer};
 
 // Lists the smallest quadratic subsets of a set over zeros.

@@ -7,12 +7,11 @@ use Rattle.monomial.specs.Order.{before}
 use Rattle.monomial.specs.Claims.{◌∈◌, Ascending}
 use Rattle.wiring.specs.Panel.{cards, term_exponent, set_bytes}
 use Rattle.wiring.specs.Poly.{plain}
-use Rattle.wiring.specs.Derivative.{derivative, Uncancelled}
+use Rattle.wiring.specs.Derivative.{derivative}
 use Rattle.wiring.specs.Quadratic.{nonsquares}
 use Rattle.wiring.specs.Signals.{signals, tabled, listed}
-use Rattle.wiring.specs.Terms.{records, system, CleanTerms}
+use Rattle.wiring.specs.Terms.{records, system}
 use Rattle.wiring.specs.Claims.{base}
-use Rattle.counting.specs.Verdict.{list_bytes}
 use Rattle.counting.specs.declared.verdict.Verdict.{Verdict}
 use Rattle.counting.specs.declared.verdict.Verdict.TheVariants as verdict
 use Rattle.walk.specs.declared.walk.State.{State}
@@ -69,24 +68,18 @@ pub record Showing (count : ℕ) (out : List ℕ) : Type 0 where
   pub shown : Shown finds count out
 
 -- a set that may be opened at a level, its monomials side by side: none of them is 1 or a variable
-pub record Openable (n : ℕ) (terms : List ℕ) (level : ℕ) (set : List ℕ) : Type 0 where
+pub record Openable (n level : ℕ) (set : List ℕ) : Type 0 where
   pub whole : length set ≡ width * length (tabled set)
   pub within : length (tabled set) ≤ level
   pub low : level ≤ cards
   pub few : n ≤ width
-  pub clean : CleanTerms terms
   pub walked : Walked (tabled set)
   pub new : (m : Mono) → m ∈ tabled set → m ∈ base n → ⊥
 
 -- what the opener asks
-pub record Ready (n : ℕ) (terms : List ℕ) (level : ℕ) (set : List ℕ) (count : ℕ) (out : List ℕ) : Type 0 where
-  pub opening : Openable n terms level set
+pub record Ready (n level : ℕ) (set : List ℕ) (count : ℕ) (out : List ℕ) : Type 0 where
+  pub opening : Openable n level set
   pub showing : Showing count out
-
--- and besides, what sets are judged with: whether a total may be 0, and a list with room for the nonsquares
-pub record Means (cancels : Bool) (terms list : List ℕ) : Type 0 where
-  pub summed : cancels ≡ false → Uncancelled terms
-  pub roomy : list_bytes ≤ length list
 
 -- a found set, with the buffer that is to show it
 pub record Found (set : List ℕ) (count : ℕ) (out : List ℕ) : Type 0 where

@@ -24,7 +24,7 @@ fn put_in(s: &mut [u8], len: usize, m: Monomial)
 {
     for i in (0..len).rev() {
         let x = Monomial::read(s, WIDTH * i);
-        if x.before(m) {
+        if x < m {
             m.write(s, WIDTH * (i + 1));
             return;
         }

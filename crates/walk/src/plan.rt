@@ -13,7 +13,8 @@ use super::walk::{Frame, State, Stop};
 use counting::verdict::LIST_BYTES;
 use wiring::panel::{CARDS, MOST_STEPS, Panel};
 use wiring::reply::Reply;
-use wiring::{buffer, derivative, sockets, terms};
+use wiring::system::System;
+use wiring::{buffer, sockets, terms};
 
 // Whether n, the marks, the kit's degree, the cap and the limit are in range.
 fn settings_right(n: u64, marks: u64, degree: u64, cap: u64, limit: u64) -> bool
@@ -34,19 +35,26 @@ fn climb(terms: &[u8], out: &mut [u8], panel: Panel, cap: usize, limit: u64) -> 
     requires blank { out.old ≡ replicate (length out.old) 0 }
     ensures { outcome result out.new ≡ said (plan (kit_rules panel) panel.n (system (records terms.now)) limit (length out.old / set_bytes) cap) (length out.old) }
 {
-    let cancels = derivative::may_cancel(terms);
+    let any = System {
+        terms,
+        cancels: true,
+    };
+    let system = System {
+        terms,
+        cancels: any.may_cancel(),
+    };
     let empty = [0u8; 0];
     let mut list = [0u8; LIST_BYTES];
     let mut steps: u64 = 0;
     for k in 0..cap + 1 {
         let order = k as u64;
         let f = Frame {
+            system,
             panel,
             level: k,
             limit,
-            cancels,
         };
-        match walk::open(terms, out, &mut list, f, &empty, State { steps, count: 0 }) {
+        match walk::open(&f, out, &mut list, &empty, State { steps, count: 0 }) {
             Ok(s) => {
                 steps = s.steps;
                 if 0 < s.count {

@@ -3,9 +3,10 @@ ghost use Rattle.std.specs.Prelude.{true, false, ℕ, ◌+◌, ◌-◌, ◌/◌,
 ghost use Rattle.wiring.specs.Panel.{set_bytes};
 ghost use Rattle.wiring.specs.Terms.{records, system};
 ghost use Rattle.wiring.specs.Signals.{tabled};
+ghost use Rattle.counting.specs.Verdict.{list_bytes};
 ghost use Rattle.walk.specs.Walk.{Finds, kit_rules, opened, tried_all, run, kept};
 ghost use Rattle.walk.specs.Listing.{Shown};
-ghost use Rattle.walk.specs.Turns.{Tells, Openable, Ready, Means, Splits, Found, Weighed, Stepped, PassedBy};
+ghost use Rattle.walk.specs.Turns.{Tells, Openable, Ready, Splits, Found, Weighed, Stepped, PassedBy};
 
 use super::{children, listing};
 use counting::verdict;
@@ -14,15 +15,16 @@ use lister::passes;
 use monomial::Monomial;
 use monomial::width::WIDTH;
 use wiring::panel::{Panel, SET_BYTES};
-use wiring::quadratic;
+use wiring::signals::Members;
+use wiring::system::System;
 
-// What stays the same through a level; cancels, where a total may be 0.
+// What stays the same through a level.
 #[derive(Clone, Copy)]
-pub struct Frame {
+pub struct Frame<'a> {
+    pub system: System<'a>,
     pub panel: Panel,
     pub level: usize,
     pub limit: u64,
-    pub cancels: bool,
 }
 
 // The steps taken and the number of finds.
@@ -59,33 +61,33 @@ fn found(out: &mut [u8], set: &[u8], st: State) -> Result<State, Stop>
 }
 
 // Whether a set is found, and else whether it goes on and with which nonsquare. At its level it only may be found: nothing is counted there.
-fn judge(terms: &[u8], list: &mut [u8], f: Frame, set: &[u8]) -> Verdict
-    requires openable { Openable f.panel.n terms.now f.level set.now }
-    requires means { Means f.cancels terms.now list.old }
-    ensures { Weighed (kit_rules f.panel) f.panel.n terms.now f.level set.now result }
+fn judge(f: &Frame, list: &mut [u8], set: &[u8]) -> Verdict
+    requires openable { Openable f.now.panel.n f.now.level set.now }
+    requires lent { list_bytes ≤ length list.old }
+    ensures { Weighed (kit_rules f.now.panel) f.now.panel.n f.now.system.terms.now f.now.level set.now result }
 {
-    let len = set.len() / WIDTH;
+    let v = Members { n: f.panel.n, set };
+    let len = v.order();
     if f.level <= len {
-        if quadratic::is_unmet(terms, f.panel.n, set, f.cancels) {
+        if f.system.is_unmet(v) {
             return Verdict::Closed;
         }
         return Verdict::Found;
     }
-    verdict::verdict_of(terms, list, f.panel, set, f.cancels, f.level - len)
+    verdict::verdict_of(f.system, list, f.panel, v, f.level - len)
 }
 
 // Takes the step of opening a set, and says what follows.
 fn take_step(
-    terms: &[u8],
+    f: &Frame,
     out: &mut [u8],
     list: &mut [u8],
-    f: Frame,
     set: &[u8],
     st: State,
 ) -> Result<Opened, Stop>
-    requires ready { Ready f.panel.n terms.now f.level set.now st.count out.old }
-    requires means { Means f.cancels terms.now list.old }
-    ensures { Stepped (kit_rules f.panel) f.panel.n terms.now f.level f.limit set.now st out.old result out.new }
+    requires ready { Ready f.now.panel.n f.now.level set.now st.count out.old }
+    requires lent { list_bytes ≤ length list.old }
+    ensures { Stepped (kit_rules f.now.panel) f.now.panel.n f.now.system.terms.now f.now.level f.now.limit set.now st out.old result out.new }
 {
     let taken = st.steps;
     if f.limit <= taken {
@@ -95,7 +97,7 @@ fn take_step(
         steps: taken + 1,
         ..st
     };
-    match judge(terms, list, f, set) {
+    match judge(f, list, set) {
         Verdict::Found => {
             let state = found(out, set, next)?;
             Ok(Opened { state, split: None })
@@ -114,22 +116,21 @@ fn take_step(
 // Opens a set: one step, and then its pairs.
 #[cycle(open_pairs)]
 pub(crate) fn open(
-    terms: &[u8],
+    f: &Frame,
     out: &mut [u8],
     list: &mut [u8],
-    f: Frame,
     set: &[u8],
     st: State,
 ) -> Result<State, Stop>
-    requires ready { Ready f.panel.n terms.now f.level set.now st.count out.old }
-    requires means { Means f.cancels terms.now list.old }
-    ensures { (d : ℕ) (finds : Finds) → f.level - length (tabled set.now) < d → Shown finds st.count out.old →
+    requires ready { Ready f.now.panel.n f.now.level set.now st.count out.old }
+    requires lent { list_bytes ≤ length list.old }
+    ensures { (d : ℕ) (finds : Finds) → f.now.level - length (tabled set.now) < d → Shown finds st.count out.old →
         Tells result out.new
-        (run f.limit (length out.old / set_bytes) (opened (kit_rules f.panel) f.panel.n (system (records terms.now)) f.level d (tabled set.now)) st.steps finds) }
+        (run f.now.limit (length out.old / set_bytes) (opened (kit_rules f.now.panel) f.now.panel.n (system (records f.now.system.terms.now)) f.now.level d (tabled set.now)) st.steps finds) }
 {
-    let o = take_step(terms, out, list, f, set, st)?;
+    let o = take_step(f, out, list, set, st)?;
     match o.split {
-        Some(m) => pairs(terms, out, list, f, set, m, o.state),
+        Some(m) => pairs(f, out, list, set, m, o.state),
         None => Ok(o.state),
     }
 }
@@ -154,29 +155,31 @@ fn pass_by(limit: u64, st: State, pairs: u64) -> Result<State, Stop>
 // children. Where there is room for one more signal only, the rest of the pairs opens nothing and is only counted.
 #[cycle(open_pairs)]
 fn pairs(
-    terms: &[u8],
+    f: &Frame,
     out: &mut [u8],
     list: &mut [u8],
-    f: Frame,
     set: &[u8],
     m: Monomial,
     st: State,
 ) -> Result<State, Stop>
-    requires ready { Ready f.panel.n terms.now f.level set.now st.count out.old }
-    requires splits { Splits f.panel.n terms.now f.level set.now m.e }
-    requires means { Means f.cancels terms.now list.old }
-    ensures { (d : ℕ) (finds : Finds) → f.level - length (tabled set.now) ≤ d → Shown finds st.count out.old →
+    requires ready { Ready f.now.panel.n f.now.level set.now st.count out.old }
+    requires splits { Splits f.now.panel.n f.now.system.terms.now f.now.level set.now m.e }
+    requires lent { list_bytes ≤ length list.old }
+    ensures { (d : ℕ) (finds : Finds) → f.now.level - length (tabled set.now) ≤ d → Shown finds st.count out.old →
         Tells result out.new
-        (run f.limit (length out.old / set_bytes)
-        (tried_all (kit_rules f.panel) f.panel.n (system (records terms.now)) f.level (opened (kit_rules f.panel) f.panel.n (system (records terms.now)) f.level d) (tabled set.now) m.e)
+        (run f.now.limit (length out.old / set_bytes)
+        (tried_all (kit_rules f.now.panel) f.now.panel.n (system (records f.now.system.terms.now)) f.now.level
+        (opened (kit_rules f.now.panel) f.now.panel.n (system (records f.now.system.terms.now)) f.now.level d) (tabled set.now) m.e)
         st.steps finds) }
 {
-    let all = set.len() / WIDTH + 1 < f.level;
+    let v = Members { n: f.panel.n, set };
+    let all = v.order() + 1 < f.level;
     let mut child = [0u8; SET_BYTES];
     let mut cur = st;
     let mut at = passes::start(m);
+    // A loop: which pair is the next is the lister's, who goes from its place; what is left to list from there is its measure.
     loop {
-        let p = passes::find(f.panel.n, set, m, all, at);
+        let p = passes::find(v, m, all, at);
         let Some(held) = p.held else {
             if all {
                 return Ok(cur);
@@ -188,21 +191,8 @@ fn pairs(
         }
         cur.steps += 1;
         let a = p.at.a;
-        if let Some(len) = children::offer(
-            f.level,
-            f.panel,
-            set,
-            &mut child,
-            a,
-            m.over(a),
-            held,
-        ) {
-            // Made anew for the call: handed on as it came, it would lie twice in the frame of each opening.
-            let below = Frame {
-                panel: Panel { ..f.panel },
-                ..f
-            };
-            cur = open(terms, out, list, below, &child[..WIDTH * len], cur)?;
+        if let Some(len) = children::offer(f.level, f.panel, set, &mut child, a, m.over(a), held) {
+            cur = open(f, out, list, &child[..WIDTH * len], cur)?;
         }
         at = passes::behind(m, p.at);
     }

@@ -98,22 +98,17 @@ list_long w most room len h k =
 
 -- ---- what is asked, and what follows from it
 module _ {terms set : List ℕ} {n room : ℕ} {cancels : Bool} (w : Weighing terms n set cancels room) where
-  -- the members of V, as the code counts them
-  abbrev pub members : ℕ
-  members = n + 1 + length set / width
-
-  long : length (signals_at n set) ≡ members
-  long = signals_at_length n set w.few
-
-  pub list_fits : room * members + room * (room + 1) / 2 ≤ most_listed
-  list_fits = list_long (suc width) cards room members w.high (omega (arith, w.within, w.few, tabled_length set))
+  -- as many members as V has
+  pub list_fits : {members : ℕ} → members ≡ length (signals_at n set) → room * members + room * (room + 1) / 2 ≤ most_listed
+  list_fits {members} long = list_long (suc width) cards room members w.high (omega (arith, long, w.within, w.few, signals_at_length n set w.few, tabled_length set))
 
   module _ (may : Mono → Bool) (ns : List Mono) where
     -- more than the list may hold
-    pub over_closes : Ascending before ns → room * members + room * (room + 1) / 2 < length ns → closes may room (signals_at n set) ns ≡ true
-    over_closes up h =
+    pub over_closes : {members : ℕ} → members ≡ length (signals_at n set) → Ascending before ns → room * members + room * (room + 1) / 2 < length ns
+        → closes may room (signals_at n set) ns ≡ true
+    over_closes {members} long up h =
         let twos : room * (room + 1) / 2 ≡ room * suc room / 2 = ap (λ (k : ℕ). room * k / 2) (add-one room) in
-        let size : room * length (signals_at n set) ≡ room * members = ap (λ (k : ℕ). room * k) long in
+        let size : room * length (signals_at n set) ≡ room * members = ap (λ (k : ℕ). room * k) (sym long) in
         closes_over may (signals_at n set) (signals_at_wide n set) w.different ns up room (omega arith)
 
     -- what is said of the list holds of the nonsquares

@@ -13,7 +13,7 @@ use Rattle.monomial.proofs.Counting.{at_in}
 use Rattle.wiring.specs.Panel.{cards, set_exponent}
 use Rattle.wiring.specs.Signals.{Fitting}
 use Rattle.wiring.specs.Sets.{monomials_of}
-use Rattle.wiring.specs.declared.sets.Set.{Set}
+use Rattle.wiring.specs.declared.held.Set.{Set}
 use Rattle.wiring.proofs.signals.Arrays.{entry, front_length, front_at, front_drop}
 use Rattle.thin.specs.declared.subsets.Best.{Best}
 use Rattle.thin.specs.Subsets.{subsets, Sifting, Bounded, undecided, Deciding}
@@ -24,7 +24,7 @@ module _ (n : ℕ) (terms : List ℕ) (given : Set) (at : ℕ) (kept : Set) (d :
   -- all are decided
   pub decided : given.len ≤ at → undecided given at kept ≡ monomials_of kept ∷ []
   decided h =
-      let small : length (monomials_of given) ≤ at = omega (arith, front_length given.len given.m (omega (arith, d.whole.small))) in
+      let small : length (monomials_of given) ≤ at = omega (arith, front_length given.len given.m (omega (arith, given.few))) in
       ap (λ (l : List Mono). map (λ (s : List Mono). monomials_of kept ++ s) (subsets l)) (drop_of_length-le (monomials_of given) small) ∙ behind_none (monomials_of kept)
 
   -- one is kept, or dropped
@@ -32,7 +32,7 @@ module _ (n : ℕ) (terms : List ℕ) (given : Set) (at : ℕ) (kept : Set) (d :
     pub either : undecided given at kept ≡ undecided given (at + 1) more ++ undecided given (at + 1) kept
     either =
         let rest = drop (at + 1) (monomials_of given) in
-        let next : drop at (monomials_of given) ≡ entry given.m at ∷ rest = front_drop given.len given.m at h (omega (arith, d.whole.small)) in
+        let next : drop at (monomials_of given) ≡ entry given.m at ∷ rest = front_drop given.len given.m at h (omega (arith, given.few)) in
         ap (λ (l : List Mono). map (λ (s : List Mono). monomials_of kept ++ s) (subsets l)) next
         ∙ behind_first (monomials_of kept) (entry given.m at) rest
         ∙ ap (λ (u : List Mono). map (λ (s : List Mono). u ++ s) (subsets rest) ++ undecided given (at + 1) kept) (sym is)
@@ -42,8 +42,8 @@ module _ (n : ℕ) (terms : List ℕ) (given : Set) (at : ℕ) (kept : Set) (d :
       where
         inside : entry given.m at ∈ monomials_of given
         inside =
-            let low : at < length (monomials_of given) = omega (arith, front_length given.len given.m (omega (arith, d.whole.small))) in
-            subst (λ (x : Mono). x ∈ monomials_of given) (front_at given.len given.m at [] h (omega (arith, d.whole.small))) (at_in (monomials_of given) at [] low)
+            let low : at < length (monomials_of given) = omega (arith, front_length given.len given.m (omega (arith, given.few))) in
+            subst (λ (x : Mono). x ∈ monomials_of given) (front_at given.len given.m at [] h (omega (arith, given.few))) (at_in (monomials_of given) at [] low)
 
         last : m ∈ (entry given.m at ∷ []) → (length m ≡ width) × AtMost set_exponent m
         last j = ⊎_elim (λ e. d.whole.fits m (subst (λ (x : Mono). x ∈ monomials_of given) (sym e) inside)) (λ z. absurd (Memᴰ.not-nil z)) (Memᴰ.cases_cons j)
@@ -51,7 +51,7 @@ module _ (n : ℕ) (terms : List ℕ) (given : Set) (at : ℕ) (kept : Set) (d :
     pub keeping : Deciding n terms given (at + 1) more
     keeping = record {
       whole = d.whole;
-      part = record { few = d.part.few; clean = d.part.clean; small = omega (arith, d.fewer, d.whole.small); fits = joined_fits };
+      part = record { few = d.part.few; clean = d.part.clean; fits = joined_fits };
       within = omega arith;
       fewer = omega (arith, d.fewer);
     }

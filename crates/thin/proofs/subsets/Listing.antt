@@ -12,7 +12,7 @@ use Rattle.monomial.specs.Claims.{◌∈◌}
 use Rattle.wiring.specs.Panel.{cards, set_bytes}
 use Rattle.wiring.specs.Sets.{monomials_of, set_record}
 use Rattle.wiring.specs.Claims.{Wide}
-use Rattle.wiring.specs.declared.sets.Set.{Set}
+use Rattle.wiring.specs.declared.held.Set.{Set}
 use Rattle.wiring.proofs.signals.Arrays.{front_length}
 use Rattle.wiring.proofs.sets.Exact.{record_length}
 use Rattle.walk.specs.Walk.{Finds}
@@ -21,8 +21,8 @@ use Rattle.walk.proofs.listing.Laid.{sets_none, sets_more}
 use Rattle.thin.specs.Subsets.{Begun}
 
 -- the record of a set held by value is of one length
-pub set_long : (set : Set) → length set.m ≡ cards → set.len ≤ cards → Wide (monomials_of set) → length (set_record (monomials_of set)) ≡ set_bytes
-set_long set full few wide = record_length (monomials_of set) (omega (arith, front_length set.len set.m (omega arith))) wide
+pub set_long : (set : Set) → length set.m ≡ cards → Wide (monomials_of set) → length (set_record (monomials_of set)) ≡ set_bytes
+set_long set full wide = record_length (monomials_of set) (omega (arith, front_length set.len set.m (omega arith))) wide
 
 pub begun_none : (out : List ℕ) → out ≡ replicate (length out) 0 → Begun [] out
 begun_none out e = record { even = λ s m. absurd (Memᴰ.not-nil m); bytes = all }

@@ -18,7 +18,7 @@ use Rattle.wiring.specs.Answers.{verdict, judged, Judgeable, Takes}
 use Rattle.wiring.specs.declared.panel.Panel.{Panel}
 use Rattle.wiring.specs.declared.reply.Reply.{Reply}
 use Rattle.wiring.specs.declared.reply.Reply.TheVariants.{Done, Full}
-use Rattle.wiring.specs.declared.sets.Set.{Set}
+use Rattle.wiring.specs.declared.held.Set.{Set}
 use Rattle.wiring.proofs.signals.Arrays.{front_length}
 use Rattle.walk.specs.Walk.{Finds}
 use Rattle.walk.specs.Plan.{Ending, done, full_at, sets_bytes, said}
@@ -43,7 +43,7 @@ module _ (n : ℕ) (fs : List (Poly Mono)) (s : List Mono) (size : ℕ) where
 -- ---- a set and a buffer of zeros
 -- the set without signals, as the code has it
 abbrev no_signals : Set
-no_signals = record { m = replicate cards (record { e = one width }); len = 0 }
+no_signals = record { m = replicate cards (record { e = one width }); len = 0; few = omega arith }
 
 module _ (n : ℕ) (terms : List ℕ) (set : Set) (out : List ℕ) (w : Judgeable n terms set) (blank : out ≡ replicate (length out) 0) (full : length set.m ≡ cards) where
   abbrev fs : List (Poly Mono)
@@ -56,12 +56,12 @@ module _ (n : ℕ) (terms : List ℕ) (set : Set) (out : List ℕ) (w : Judgeabl
   start = record { order = set.len; count = 0; steps = 0 }
 
   size : set.len ≡ length s
-  size = sym (front_length set.len set.m (omega (arith, w.small)))
+  size = sym (front_length set.len set.m (omega (arith, set.few)))
 
-  pub start_deciding : Deciding n terms set 0 no_signals
-  start_deciding = record {
+  pub start_deciding : (few : 0 ≤ cards) → Deciding n terms set 0 (record no_signals { few = few })
+  start_deciding few = record {
     whole = w;
-    part = record { few = w.few; clean = w.clean; small = omega arith; fits = λ m h. absurd (Memᴰ.not-nil h) };
+    part = record { few = w.few; clean = w.clean; fits = λ m h. absurd (Memᴰ.not-nil h) };
     within = omega arith;
     fewer = omega arith;
   }
@@ -72,7 +72,7 @@ module _ (n : ℕ) (terms : List ℕ) (set : Set) (out : List ℕ) (w : Judgeabl
   pub start_bounded : Bounded start (length (undecided set 0 no_signals))
   start_bounded =
       let many : length (undecided set 0 no_signals) ≡ 2 ^ length s = ap length all_subsets ∙ subsets_count s in
-      let most : 2 ^ length s ≤ 2 ^ cards = pow-le-pow_right {n = 2} (omega arith) {i = length s} {j = cards} (omega (arith, size, w.small)) in
+      let most : 2 ^ length s ≤ 2 ^ cards = pow-le-pow_right {n = 2} (omega arith) {i = length s} {j = cards} (omega (arith, size, set.few)) in
       record { counted = omega arith; within = omega arith }
 
   -- when all subsets are sifted

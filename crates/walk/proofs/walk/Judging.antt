@@ -18,7 +18,7 @@ use Rattle.wiring.specs.Derivative.{derivative, Uncancelled}
 use Rattle.wiring.specs.Quadratic.{nonsquares}
 use Rattle.wiring.specs.Signals.{tabled, signals_at}
 use Rattle.wiring.specs.Sockets.{can_build}
-use Rattle.wiring.specs.Terms.{records, system}
+use Rattle.wiring.specs.Terms.{records, system, CleanTerms}
 use Rattle.wiring.specs.declared.panel.Panel.{Panel}
 use Rattle.wiring.proofs.signals.Laws.{signals_different}
 use Rattle.counting.specs.Verdict.{Weighing, Judged}
@@ -33,7 +33,7 @@ use Rattle.walk.specs.Turns.{Openable, GoesOn, Weighed, NothingFollows, PairsFol
 use Rattle.walk.proofs.Rules.{goes_on, at_its_level, closed_ends}
 use Rattle.walk.proofs.walk.Laws.{signals_fit, open_none, open_stops}
 
-module _ (panel : Panel) (terms : List ℕ) (level : ℕ) (set : List ℕ) (o : Openable panel.n terms level set) where
+module _ (panel : Panel) (terms : List ℕ) (level : ℕ) (set : List ℕ) (o : Openable panel.n level set) where
   abbrev own : List Mono
   own = tabled set
 
@@ -52,9 +52,9 @@ module _ (panel : Panel) (terms : List ℕ) (level : ℕ) (set : List ℕ) (o : 
 
   -- below it: what is asked of the counting rule
   module _ (below : length own < level) where
-    pub weighing : (cancels : Bool) → (cancels ≡ false → Uncancelled terms) → Weighing terms panel.n set cancels (level - length own)
-    weighing cancels summed = record {
-      clean = o.clean;
+    pub weighing : CleanTerms terms → (cancels : Bool) → (cancels ≡ false → Uncancelled terms) → Weighing terms panel.n set cancels (level - length own)
+    weighing clean cancels summed = record {
+      clean = clean;
       few = o.few;
       fitting = signals_fit panel.n set o.walked;
       different = signals_different panel.n own (ascending_different mono_order own o.walked.recorded.ascending) o.new;

@@ -2,7 +2,7 @@
 -- of the runner fit together. Assumes nothing.
 use mathlib.Core.Path.{◌≡◌, sym, ap, ◌∙◌, subst}
 use mathlib.Core.Logic.{⊎_elim}
-use mathlib.Core.Bool.{Bool, true, false}
+use mathlib.Core.Bool.{true, false}
 use mathlib.Core.List.Memᴰ
 use mathlib.Core.List.{List, [], ◌∷◌}
 use Prim.Native.Nat.{ℕ, ◌+◌, ◌-◌, ◌*◌, ◌/◌, ◌<◌, ◌≤◌}
@@ -29,21 +29,17 @@ use Rattle.std.specs.Prelude.{Some}
 use Rattle.walk.specs.declared.walk.State.{State}
 use Rattle.walk.specs.Walk.{Finds, Rules, child, opens, Step, tried_all, opened, run}
 use Rattle.walk.specs.Listing.{Shown}
-use Rattle.walk.specs.Turns.{Child, Turn, Tells, Showing, Openable, Ready, Means, PairsFollow, Splits}
+use Rattle.walk.specs.Turns.{Child, Turn, Tells, Showing, Openable, Ready, PairsFollow, Splits}
 use Rattle.walk.proofs.Rules.{opens_fits, below_its_level}
 use Rattle.walk.proofs.children.Laws.{not_both, split_longer, nonsquare_fits, child_walked, child_new, empty_walked}
 use Rattle.walk.proofs.children.Offers.{child_none, both_longer}
 use Rattle.walk.proofs.walk.Laws.{open_tells, choice_member}
 
--- a list of the same length does as well
-pub means_kept : (cancels : Bool) (terms list list' : List ℕ) → length list' ≡ length list → Means cancels terms list → Means cancels terms list'
-means_kept cancels terms list list' e m = record { summed = m.summed; roomy = omega (arith, m.roomy) }
-
 module _ (n : ℕ) (terms : List ℕ) (level : ℕ) (set : List ℕ) (m : Mono) (count : ℕ) (out₀ : List ℕ)
-    (ready : Ready n terms level set count out₀) (splits : Splits n terms level set m) where
+    (clean : CleanTerms terms) (ready : Ready n level set count out₀) (splits : Splits n terms level set m) where
   -- six exponents, and not 1: 1 is the product of 1 and 1, so it is in V2
   pub gap_wide : length m ≡ width
-  gap_wide = (nonsquare_fits terms ready.opening.clean n (tabled set) ready.opening.walked m splits.member).0
+  gap_wide = (nonsquare_fits terms clean n (tabled set) ready.opening.walked m splits.member).0
 
   pub gap_proper : m ≡ one (length m) → ⊥
   gap_proper e =
@@ -73,10 +69,10 @@ module _ (n : ℕ) (terms : List ℕ) (level : ℕ) (set : List ℕ) (m : Mono) 
       pub child_long : length (listed len bytes) ≡ len
       child_long = ap length c.1.is ∙ sym c.1.size
 
-      pub child_ready : set_bytes ≤ length bytes → (count' : ℕ) (out : List ℕ) → Showing count' out → Ready n terms level (take (width * len) bytes) count' out
+      pub child_ready : set_bytes ≤ length bytes → (count' : ℕ) (out : List ℕ) → Showing count' out → Ready n level (take (width * len) bytes) count' out
       child_ready room count' out showing =
           let few : length born ≤ cards = omega (arith, ready.opening.low, born_within) in
-          let w = child_walked terms ready.opening.clean n (tabled set) ready.opening.walked m splits.member p i few in
+          let w = child_walked terms clean n (tabled set) ready.opening.walked m splits.member p i few in
           let fits : width * len ≤ length bytes = omega (arith, child_within, ready.opening.low) in
           record {
             opening = record {
@@ -84,7 +80,6 @@ module _ (n : ℕ) (terms : List ℕ) (level : ℕ) (set : List ℕ) (m : Mono) 
               within = omega (arith, child_long, child_within);
               low = ready.opening.low;
               few = ready.opening.few;
-              clean = ready.opening.clean;
               walked = rw c.1.is w;
               new = rw c.1.is (child_new n (tabled set) p ready.opening.new);
             };
@@ -107,13 +102,12 @@ module _ (n : ℕ) (terms : List ℕ) (level : ℕ) (set : List ℕ) (m : Mono) 
       (dear_out v p dear))
 
 -- the empty set, with which every level begins
-pub empty_openable : (n : ℕ) (terms : List ℕ) (level : ℕ) → level ≤ cards → n ≤ width → CleanTerms terms → Openable n terms level []
-empty_openable n terms level low few clean = record {
+pub empty_openable : (n level : ℕ) → level ≤ cards → n ≤ width → Openable n level []
+empty_openable n level low few = record {
   whole = omega (arith, ap length tabled_none);
   within = omega (arith, ap length tabled_none);
   low = low;
   few = few;
-  clean = clean;
   walked = rw tabled_none empty_walked;
   new = λ m h. absurd (Memᴰ.not-nil (subst (λ (l : List Mono). m ∈ l) tabled_none h));
 }
@@ -132,7 +126,7 @@ told_as r n terms level limit steps count len s s' out₀ out out' turn e long k
     said size x = Tells turn out' (run limit (size / set_bytes) (opened r n (system (records terms)) level d x) steps finds)
 
 -- what the runner says of the pairs, in the words of the opener
-module _ (r : Rules) (n : ℕ) (terms : List ℕ) (level limit : ℕ) (set : List ℕ) (st : State) (out₀ : List ℕ) (ready : Ready n terms level set st.count out₀)
+module _ (r : Rules) (n : ℕ) (terms : List ℕ) (level limit : ℕ) (set : List ℕ) (st : State) (out₀ : List ℕ) (ready : Ready n level set st.count out₀)
     (m : Mono) (next : State) (out : List ℕ) (sp : PairsFollow r n terms level limit set st out₀ m next out) where
   pub split_member : Splits n terms level set m
   split_member = record {
@@ -140,7 +134,7 @@ module _ (r : Rules) (n : ℕ) (terms : List ℕ) (level limit : ℕ) (set : Lis
     member = choice_member _ m sp.goes.first sp.goes.others sp.goes.are sp.goes.is;
   }
 
-  pub split_ready : Ready n terms level set next.count out
+  pub split_ready : Ready n level set next.count out
   split_ready = rw (sp.count, sp.kept) ready
 
   -- the steps of the pairs of y, at a bound on the depth

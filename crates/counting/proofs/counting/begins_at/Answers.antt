@@ -20,9 +20,9 @@ pub returns-then-not-divides : goal.returns-then-not-divides
 returns-then-not-divides c =
     let a = c.args in
     let l = a.list.now in
-    let here = c.read-m.ensures ∙ sym (tabled_at l a.i (one width) c.requires.0) in
+    let here = c.read-m.ensures ∙ sym (tabled_at l a.i (one width) c.requires.inside) in
     begins_undivided (can_build a.panel) _ _ _ _ _ _ (sym c.divides.ensures ∙ c.if-not-divides.true)
-    ∙ ap (λ (m : Mono). begins (can_build a.panel) (signals_at a.panel.n a.set.now) a.often (take a.i (tabled l)) (drop (a.i + 1) (tabled l)) m a.x.e) here
+    ∙ ap (λ (m : Mono). begins (can_build a.panel) (signals_at a.v.n a.v.set.now) a.often (take a.i (tabled l)) (drop (a.i + 1) (tabled l)) m a.x.e) here
 
 -- ---- the place where the quotient was made
 module _ (c : After-over-q) where
@@ -30,7 +30,7 @@ module _ (c : After-over-q) where
   l = c.args.list.now
 
   abbrev v : List Mono
-  v = signals_at c.args.panel.n c.args.set.now
+  v = signals_at c.args.v.n c.args.v.set.now
 
   abbrev q : Mono
   q = c.over-q.result.e
@@ -44,7 +44,7 @@ module _ (c : After-over-q) where
 
   -- the one that was read is the one in the list
   at_list : begun c.read-m.result.e ≡ begun (get_or (tabled l) c.args.i (one width))
-  at_list = ap begun (c.read-m.ensures ∙ sym (tabled_at l c.args.i (one width) c.requires.0))
+  at_list = ap begun (c.read-m.ensures ∙ sym (tabled_at l c.args.i (one width) c.requires.inside))
 
   built : (b : Bool) → can_build c.args.panel q ≡ b → can_build c.args.panel (quo c.read-m.result.e c.args.x.e) ≡ b
   built b e = ap (can_build c.args.panel) (sym c.over-q.ensures) ∙ e
@@ -60,7 +60,7 @@ returns-else-recurs c =
     let missed : false ≡ begun o c.read-m.result.e =
     elim c.if-can_build.branch [
       | then-can_build w ↦
-          begins_rare may _ _ _ _ _ _ (divided o) (built o true (sym c.can_build.ensures ∙ w.if-can_build.true)) (c.args.often - 1) (omega (arith, c.requires.1))
+          begins_rare may _ _ _ _ _ _ (divided o) (built o true (sym c.can_build.ensures ∙ w.if-can_build.true)) (c.args.often - 1) (omega (arith, c.requires.some))
           (later o false (sym w.recurs.ensures ∙ sym w.value-is ∙ c.if-recurs.false))
       | else-can_build w ↦ begins_barred may _ _ _ _ _ _ (divided o) (built o false (sym c.can_build.ensures ∙ w.if-can_build.false))
     ] in
@@ -70,7 +70,7 @@ pub returns-then-recurs : goal.returns-then-recurs
 returns-then-recurs c =
     let o = (goal.at.returns-then-recurs c).After-over-q in
     let may = can_build c.args.panel in
-    let near = c.requires.0 in
+    let near = c.requires.inside in
     let before : leb 1 (hits (v o) (quo c.read-m.result.e c.args.x.e) (take c.args.i (tabled (l o)))) ≡ c.recurs-then-recurs.result =
     ap (λ (q : Mono). leb 1 (hits (v o) q (take c.args.i (tabled (l o))))) (sym c.over-q.ensures)
     ∙ ap (λ (r : List Mono). leb 1 (hits (v o) (q o) r)) (sym (tabled_take (l o) c.args.i (omega arith)))
@@ -78,7 +78,7 @@ returns-then-recurs c =
     let met : not (leb 1 (hits (v o) (quo c.read-m.result.e c.args.x.e) (take c.args.i (tabled (l o))))) ≡ begun o c.read-m.result.e =
     elim c.if-can_build.branch [
       | then-can_build w ↦
-          begins_first may _ _ _ _ _ _ (divided o) (built o true (sym c.can_build.ensures ∙ w.if-can_build.true)) (c.args.often - 1) (omega (arith, c.requires.1))
+          begins_first may _ _ _ _ _ _ (divided o) (built o true (sym c.can_build.ensures ∙ w.if-can_build.true)) (c.args.often - 1) (omega (arith, c.requires.some))
           (later o true (sym w.recurs.ensures ∙ sym w.value-is ∙ c.if-recurs.true))
       | else-can_build w ↦ cc
     ] in

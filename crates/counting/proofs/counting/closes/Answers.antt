@@ -38,10 +38,10 @@ module _ (c : After-frequent) where
   shared = c.div_ceil.result - 1
 
   share : div_ceil wanted c.args.room ≡ suc shared
-  share = omega (arith, c.div_ceil.ensures, share_some wanted c.args.room (omega arith) c.requires.1.0)
+  share = omega (arith, c.div_ceil.ensures, share_some wanted c.args.room (omega arith) c.requires.low)
 
   abbrev many : ℕ → ℕ
-  many k = frequent (can_build c.args.panel) (signals_at c.args.panel.n c.args.set.now) l k
+  many k = frequent (can_build c.args.panel) (signals_at c.args.v.n c.args.v.set.now) l k
 
   as_shared : many c.div_ceil.result ≡ many (suc shared)
   as_shared = ap many (c.div_ceil.ensures ∙ share)
@@ -52,7 +52,7 @@ returns-then-frequent-lt1 c =
     let a = c.args in
     let none = up_to_none 1 (many o c.div_ceil.result) (omega arith) (omega (arith, c.frequent.ensures)) in
     lt-ltb _ _ c.if-frequent-lt1.true
-    ∙ closes_rare (can_build a.panel) _ (l o) a.room (wanted o) (parts o) (shared o) (share_less (wanted o) a.room (omega arith) c.requires.1.0 (shared o) (share o)) (sym (as_shared o) ∙ none)
+    ∙ closes_rare (can_build a.panel) _ (l o) a.room (wanted o) (parts o) (shared o) (share_less (wanted o) a.room (omega arith) c.requires.low (shared o) (share o)) (sym (as_shared o) ∙ none)
 
 pub returns-then-room-gt1 : goal.returns-then-room-gt1
 returns-then-room-gt1 c =
@@ -63,7 +63,7 @@ pub returns-else-room-gt1 : goal.returns-else-room-gt1
 returns-else-room-gt1 c =
     let o = (goal.at.returns-else-room-gt1 c).After-frequent in
     let a = c.args in
-    let alone : a.room ≡ 1 = omega (arith, c.requires.1.0) in
+    let alone : a.room ≡ 1 = omega (arith, c.requires.low) in
     let some = up_to_some 1 (many o c.div_ceil.result) (omega (arith, c.frequent.ensures)) in
     le-ltb _ _ c.if-room-gt1.false
-    ∙ closes_one (can_build a.panel) _ (l o) a.room (wanted o) (parts o) alone (shared o) (share_whole (wanted o) a.room (omega arith) c.requires.1.0 (shared o) (share o) alone) (omega (arith, some, as_shared o))
+    ∙ closes_one (can_build a.panel) _ (l o) a.room (wanted o) (parts o) alone (shared o) (share_whole (wanted o) a.room (omega arith) c.requires.low (shared o) (share o) alone) (omega (arith, some, as_shared o))

@@ -19,7 +19,7 @@ loop-i-preserved c =
 pub returns : goal.returns
 returns c =
     let a = c.args in
-    let v = signals_at a.panel.n a.set.now in
-    let some = c.requires.1.0 in
+    let v = signals_at a.v.n a.v.set.now in
+    let some = c.requires.some in
     finding_end _ _ _ _ _ c.loop-i.invariant (omega (arith, tabled_length a.list.now, c.saturating_sub-i-end.ensures))
-    ∙ ap (up_to a.cap) (news_frequent (can_build a.panel) v (signals_at_wide a.panel.n a.set.now) c.requires.1.1 a.often (tabled a.list.now))
+    ∙ ap (up_to a.cap) (news_frequent (can_build a.panel) v (signals_at_wide a.v.n a.v.set.now) c.requires.different a.often (tabled a.list.now))

@@ -7,4 +7,4 @@ use Rattle.counting.proofs.counting.frequent.Given as goal
 
 abbrev pub invariant-loop-i : goal.invariant-loop-i
 invariant-loop-i l =
-    Finding (can_build l.panel) (signals_at l.panel.n l.set) l.often (tabled l.list) l.cap l.i l.met
+    Finding (can_build l.panel) (signals_at l.v.n l.v.set.now) l.often (tabled l.list) l.cap l.i l.met

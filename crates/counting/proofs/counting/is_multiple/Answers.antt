@@ -15,7 +15,7 @@ pub returns-else-divides : goal.returns-else-divides
 returns-else-divides c =
     let a = c.args in
     let long : length a.q.e ≡ width = search rules in
-    c.if-divides.false ∙ share_none (signals_at a.n a.set.now) (signals_at_wide a.n a.set.now) a.q.e a.m.e long (sym c.divides.ensures ∙ c.if-divides.false)
+    c.if-divides.false ∙ share_none (signals_at a.v.n a.v.set.now) (signals_at_wide a.v.n a.v.set.now) a.q.e a.m.e long (sym c.divides.ensures ∙ c.if-divides.false)
 
 pub returns-then-divides : goal.returns-then-divides
 returns-then-divides c =
@@ -23,5 +23,5 @@ returns-then-divides c =
     let long : length a.q.e ≡ width = search rules in
     let at = c.divides in
     let divided = is→T _ (sym at.ensures ∙ c.if-divides.true) in
-    c.is_signal.ensures ∙ ap (λ (x : Mono). any (same x) (signals_at a.n a.set.now)) c.over.ensures
-    ∙ share_quotient (signals_at a.n a.set.now) (signals_at_wide a.n a.set.now) a.q.e a.m.e long divided
+    c.is_signal.ensures ∙ ap (λ (x : Mono). any (same x) (signals_at a.v.n a.v.set.now)) c.over.ensures
+    ∙ share_quotient (signals_at a.v.n a.v.set.now) (signals_at_wide a.v.n a.v.set.now) a.q.e a.m.e long divided

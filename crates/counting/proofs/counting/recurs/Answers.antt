@@ -42,8 +42,8 @@ loop-left-preserved c =
     let gap = c.if-len-a.false in
     let near : k.a < length l / width = omega arith in
     let few : k.a < length (tabled l) = omega (arith, tabled_length l) in
-    let here = ap (shares (signals_at a.n a.set.now) a.q.e) (tabled_at l k.a (one width) near) in
-    let met = ap (shares (signals_at a.n a.set.now) a.q.e) (sym c.read.ensures) ∙ sym c.is_multiple.ensures in (
+    let here = ap (shares (signals_at a.v.n a.v.set.now) a.q.e) (tabled_at l k.a (one width) near) in
+    let met = ap (shares (signals_at a.v.n a.v.set.now) a.q.e) (sym c.read.ensures) ∙ sym c.is_multiple.ensures in (
       k.invariant.0,
       elim c.if-is_multiple.branch [
         | then-is_multiple w ↦ rw w.left-is (recurring_hit _ _ k.invariant.1 (one width) few _ (omega arith) (here ∙ met ∙ w.if-is_multiple.true))

@@ -8,7 +8,7 @@ use Rattle.counting.proofs.counting.Hits.{Recurring}
 use Rattle.counting.proofs.counting.recurs.Given as goal
 
 abbrev pub invariant-loop-left : goal.invariant-loop-left
-invariant-loop-left l = (l.len ≡ length l.list / width) × Recurring (signals_at l.n l.set) l.q.e (tabled l.list) l.from l.often l.left l.a
+invariant-loop-left l = (l.len ≡ length l.list / width) × Recurring (signals_at l.v.n l.v.set.now) l.q.e (tabled l.list) l.from l.often l.left l.a
 
 abbrev pub decreases-loop-left : goal.decreases-loop-left
 decreases-loop-left l = l.len - l.a

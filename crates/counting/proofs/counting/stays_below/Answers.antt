@@ -11,7 +11,7 @@ returns-then-left-many c = summing_enough _ _ _ _ c.loop-often.invariant _ c.fre
 
 pub returns-then-many-lt1 : goal.returns-then-many-lt1
 returns-then-many-lt1 c =
-    let roomy = c.requires.1.0 in
+    let roomy = c.requires.roomy in
     summing_none _ _ _ _ c.loop-often.invariant _ c.frequent-many.ensures (omega arith) (omega arith) roomy
 
 pub loop-often-preserved : goal.loop-often-preserved

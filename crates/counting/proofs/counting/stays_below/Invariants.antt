@@ -5,4 +5,4 @@ use Rattle.counting.proofs.counting.Sums.{Summing}
 use Rattle.counting.proofs.counting.stays_below.Given as goal
 
 abbrev pub invariant-loop-often : goal.invariant-loop-often
-invariant-loop-often l = Summing (can_build l.panel) (signals_at l.panel.n l.set) (tabled l.list) l.room l.wanted l.left l.often
+invariant-loop-often l = Summing (can_build l.panel) (signals_at l.v.n l.v.set.now) (tabled l.list) l.room l.wanted l.left l.often

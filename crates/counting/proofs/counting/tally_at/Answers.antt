@@ -6,7 +6,6 @@ use lib.ListN.{length, get_or, take, drop}
 use Rattle.monomial.specs.Monomial.{one, width}
 use Rattle.wiring.specs.Signals.{tabled, signals_at}
 use Rattle.wiring.specs.Sockets.{can_build}
-use Rattle.wiring.proofs.signals.Laws.{signals_at_length}
 use Rattle.counting.specs.Counting.{begins}
 use Rattle.counting.proofs.counting.Hits.{tallying_full, tallying_end, tallying_hit, tallying_miss}
 use Rattle.counting.proofs.counting.tally_at.Goals as goal
@@ -17,8 +16,8 @@ loop-j-preserved c =
     let k = c.loop-j in
     let a = c.args in
     let l = a.list.now in
-    let v = signals_at a.panel.n a.set.now in
-    let few : k.j < length v = omega (arith, signals_at_length a.panel.n a.set.now c.requires.0) in
+    let v = signals_at a.v.n a.v.set.now in
+    let few : k.j < length v = omega (arith) in
     let test = begins (can_build a.panel) v a.often (take a.i (tabled l)) (drop (a.i + 1) (tabled l)) (get_or (tabled l) a.i (one width)) in
     let told = ap test (sym c.signal.ensures) ∙ sym c.begins_at.ensures in
     elim c.if-begins_at.branch [
@@ -30,4 +29,4 @@ pub returns-then-cap-met : goal.returns-then-cap-met
 returns-then-cap-met c = tallying_full _ _ _ _ c.loop-j.invariant (omega arith)
 
 pub returns-after-loop-j : goal.returns-after-loop-j
-returns-after-loop-j c = tallying_end _ _ _ _ c.loop-j.invariant (omega (arith, signals_at_length c.args.panel.n c.args.set.now c.requires.0))
+returns-after-loop-j c = tallying_end _ _ _ _ c.loop-j.invariant (omega (arith))

@@ -10,4 +10,4 @@ use Rattle.counting.proofs.counting.tally_at.Given as goal
 
 abbrev pub invariant-loop-j : goal.invariant-loop-j
 invariant-loop-j l =
-    Tallying (begins (can_build l.panel) (signals_at l.panel.n l.set) l.often (take l.i (tabled l.list)) (drop (l.i + 1) (tabled l.list)) (get_or (tabled l.list) l.i (one width))) (signals_at l.panel.n l.set) l.cap l.many l.j l.met
+    Tallying (begins (can_build l.panel) (signals_at l.v.n l.v.set.now) l.often (take l.i (tabled l.list)) (drop (l.i + 1) (tabled l.list)) (get_or (tabled l.list) l.i (one width))) (signals_at l.v.n l.v.set.now) l.cap l.many l.j l.met

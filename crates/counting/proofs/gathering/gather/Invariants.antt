@@ -11,8 +11,8 @@ use Rattle.counting.proofs.gathering.gather.Given as goal
 
 abbrev pub invariant-loop-i : goal.invariant-loop-i
 invariant-loop-i l =
-    (length l.list ≡ length l.initial.list) × Gathering (signals_at l.n l.set) (derivative plain (system (records l.terms))) l.most l.len l.list (l.n + 1 + l.i)
+    (length l.list ≡ length l.initial.list) × Gathering (signals_at l.v.n l.v.set.now) (derivative plain (system (records l.s.terms.now))) l.most l.len l.list (l.v.n + 1 + l.i)
 
 abbrev pub invariant-loop-j : goal.invariant-loop-j
 invariant-loop-j l =
-    (length l.list ≡ length l.initial.list) × Gathering (signals_at l.n l.set) (derivative plain (system (records l.terms))) l.most l.len l.list l.j
+    (length l.list ≡ length l.initial.list) × Gathering (signals_at l.v.n l.v.set.now) (derivative plain (system (records l.s.terms.now))) l.most l.len l.list l.j

@@ -8,4 +8,4 @@ use Rattle.counting.proofs.gathering.gather_in.Given as goal
 
 abbrev pub invariant-loop-t : goal.invariant-loop-t
 invariant-loop-t l =
-    (length l.list ≡ length l.initial.list) × Meeting (listed l.len l.initial.list) (signals_at l.n l.set) (records l.terms) l.z.e l.most l.held l.list l.t
+    (length l.list ≡ length l.initial.list) × Meeting (listed l.len l.initial.list) (signals_at l.v.n l.v.set.now) (records l.s.terms.now) l.z.e l.most l.held l.list l.t

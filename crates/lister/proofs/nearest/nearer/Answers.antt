@@ -17,7 +17,7 @@ use Rattle.lister.proofs.nearest.nearer.Goals.{After-is_of}
 -- ---- the place where the kind of the pair was told
 module _ (c : After-is_of) where
   abbrev v : List Mono
-  v = signals_at c.args.n c.args.set.now
+  v = signals_at c.args.v.n c.args.v.set.now
 
   abbrev m : Mono
   m = c.args.m.e
@@ -45,6 +45,6 @@ returns c =
     let a = c.args in
     let near = nearer_out (x w) a.a.e a.near (sym w.is_nearer.ensures ∙ w.if-not-is_nearer.false) in
     let own : CheapFrom (v w) (m w) a.a.e (x w) =
-    record { divisor = c.requires.0; leading = c.requires.1; cheap = is→T _ (sym (told w) ∙ c.if-not-is_of.false); later = near.0 } in
+    record { divisor = c.requires.divisor; leading = c.requires.leading; cheap = is→T _ (sym (told w) ∙ c.if-not-is_of.false); later = near.0 } in
     λ j n e. nearing_take (v w) (m w) a.a.e n _ e (subst (CheapFrom (v w) (m w) a.a.e) e own)
     (subst (λ (y : Mono). Holds (v w) (split (m w) y) w.look_up-held.result) e (held w)) (subst (λ (y : Mono). IfSome a.near (λ n. T (before y n.a.e))) e near.1)

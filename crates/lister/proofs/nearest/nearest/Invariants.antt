@@ -4,4 +4,4 @@ use Rattle.lister.specs.Nearest.{Nearing}
 use Rattle.lister.proofs.nearest.nearest.Given as goal
 
 abbrev pub invariant-loop-j : goal.invariant-loop-j
-invariant-loop-j l = Nearing (signals_at l.n l.set) l.m.e l.a.e l.near l.j
+invariant-loop-j l = Nearing (signals_at l.v.n l.v.set.now) l.m.e l.a.e l.near l.j

@@ -23,7 +23,7 @@ use Rattle.lister.proofs.passes.seek.Goals.{After-is_of}
 -- ---- the place where the kind of a pair was told
 module _ (c : After-is_of) where
   abbrev v : List Mono
-  v = signals_at c.args.n c.args.set.now
+  v = signals_at c.args.v.n c.args.v.set.now
 
   abbrev m : Mono
   m = c.args.m.e
@@ -46,28 +46,28 @@ overflow_add-listed c =
     -- six bytes have so many divisors that their pairs can be counted
     let l : length (m w) ≡ width = search rules in
     let bytes : (k : ℕ) → Fits w8 (get_or (m w) k 0) = λ k. search rules in
-    let few = standing_few (v w) (m w) c.args.from.rest c.args.from.a.e c.args.from.listed c.requires.1 in
+    let few = standing_few (v w) (m w) c.args.from.rest c.args.from.a.e c.args.from.listed c.requires.stands in
     record { fits = omega (arith, few, pairs_few (m w), score_bytes (m w) width l bytes) }
 
 pub returns-then-is_of : goal.returns-then-is_of
 returns-then-is_of c =
     let w = (goal.at.returns-then-is_of c).After-is_of in
-    let comes = seeking_found (m w) c.requires.0 (of_kind (v w) c.args.from.rest) c.loop-m.invariant (leading w) (sym (told w) ∙ c.if-is_of.true) in
-    sought_found (v w) (m w) c.args.from c.requires.1 _ refl c.loop-m.invariant.divisor (leading w) _ (held w) comes refl
+    let comes = seeking_found (m w) c.requires.proper (of_kind (v w) c.args.from.rest) c.loop-m.invariant (leading w) (sym (told w) ∙ c.if-is_of.true) in
+    sought_found (v w) (m w) c.args.from c.requires.stands _ refl c.loop-m.invariant.divisor (leading w) _ (held w) comes refl
 
 pub loop-m-smaller : goal.loop-m-smaller
 loop-m-smaller c =
     let w = (goal.at.loop-m-smaller c).After-is_of in
-    fewer_pairs (m w) c.requires.0 (of_kind (v w) c.args.from.rest) (a w) c.loop-m.invariant.divisor (leading w) c.next_divisor-a.result.e c.next_divisor-a.ensures
+    fewer_pairs (m w) c.requires.proper (of_kind (v w) c.args.from.rest) (a w) c.loop-m.invariant.divisor (leading w) c.next_divisor-a.result.e c.next_divisor-a.ensures
 
 pub loop-m-preserved : goal.loop-m-preserved
 loop-m-preserved c =
     let w = (goal.at.loop-m-preserved c).After-is_of in
     rw c.next_divisor-a.ensures
-    (seeking_by (m w) c.requires.0 (of_kind (v w) c.args.from.rest) c.loop-m.invariant (leading w) (sym (told w) ∙ c.if-is_of.false))
+    (seeking_by (m w) c.requires.proper (of_kind (v w) c.args.from.rest) c.loop-m.invariant (leading w) (sym (told w) ∙ c.if-is_of.false))
 
 pub returns : goal.returns
 returns c =
     let b = c.args in
-    let none_left = seeking_none b.m.e c.requires.0 (of_kind (signals_at b.n b.set.now) b.from.rest) c.loop-m.invariant (is→n_t _ (sym c.leads.ensures ∙ c.loop-m-test.false)) in
-    sought_none (signals_at b.n b.set.now) b.m.e b.from c.requires.1 _ refl none_left refl
+    let none_left = seeking_none b.m.e c.requires.proper (of_kind (signals_at b.v.n b.v.set.now) b.from.rest) c.loop-m.invariant (is→n_t _ (sym c.leads.ensures ∙ c.loop-m-test.false)) in
+    sought_none (signals_at b.v.n b.v.set.now) b.m.e b.from c.requires.stands _ refl none_left refl

@@ -18,7 +18,7 @@ returns-then-count-out c =
     let a = c.args in
     let s = monomials_of a.set in
     let full : length a.set.m ≡ cards = search (rules, array_length, c.well_formed.1.1.0) in
-    let long = set_long a.set full c.requires.fits c.requires.wide in
+    let long = set_long a.set full c.requires in
     let written : c.put.new.out ≡ paste a.out.now (set_bytes * length l) (set_record s) set_bytes =
     c.put.ensures
     ∙ ap₂ (λ (k : ℕ) (r : List ℕ). paste a.out.now (set_bytes * k) r (length r)) many c.record_of.ensures
@@ -30,4 +30,4 @@ returns-else-count-out c =
     λ l many b.
     let a = c.args in
     let full : length a.set.m ≡ cards = search (rules, array_length) in
-    begun_past l (monomials_of a.set) a.out.now b (set_long a.set full c.requires.fits c.requires.wide) (omega (arith, c.if-count-out.false))
+    begun_past l (monomials_of a.set) a.out.now b (set_long a.set full c.requires) (omega (arith, c.if-count-out.false))

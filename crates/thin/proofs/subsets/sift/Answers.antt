@@ -28,9 +28,7 @@ returns-then-order-size c =
     (λ t h. sifted_larger _ _ t _ yes (omega (arith, c.if-order-size.true, size, h.order)))
 
 pub join-requires : goal.join-requires
-join-requires c =
-    let r = set_recorded c.args.n c.args.terms.now c.args.set c.requires.0 in
-    record { fits = r.0; wide = r.1 }
+join-requires c = set_recorded c.args.n c.args.terms.now c.args.set c.requires.0
 
 pub returns-then-size-order : goal.returns-then-size-order
 returns-then-size-order c =
@@ -43,9 +41,7 @@ returns-then-size-order c =
     c.join.new.out (c.join.ensures [] refl blank)
 
 pub join-requires-2 : goal.join-requires-2
-join-requires-2 c =
-    let r = set_recorded c.args.n c.args.terms.now c.args.set c.requires.0 in
-    record { fits = r.0; wide = r.1 }
+join-requires-2 c = set_recorded c.args.n c.args.terms.now c.args.set c.requires.0
 
 pub returns : goal.returns
 returns c =

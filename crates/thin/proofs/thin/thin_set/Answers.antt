@@ -11,7 +11,7 @@ pub decide-best-requires : goal.decide-best-requires
 decide-best-requires c =
     let full : length c.args.set.m ≡ cards = search (rules, array_length) in
     let a = c.args in
-    (start_deciding a.n a.terms.now a.set a.out.now c.requires.0 c.requires.1 full, start_bounded a.n a.terms.now a.set a.out.now c.requires.0 c.requires.1 full)
+    (start_deciding a.n a.terms.now a.set a.out.now c.requires.0 c.requires.1 full _, start_bounded a.n a.terms.now a.set a.out.now c.requires.0 c.requires.1 full)
 
 pub returns-then-out-best : goal.returns-then-out-best
 returns-then-out-best c =

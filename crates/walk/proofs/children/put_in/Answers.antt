@@ -9,6 +9,7 @@ use Rattle.monomial.specs.Monomial.{width}
 use Rattle.wiring.specs.Signals.{listed}
 use Rattle.walk.proofs.children.Offers.{Inserting, inserting_start, inserting_room, inserting_on, inserting_first, inserting_behind}
 use borrow.Author.Rules.{rules}
+use Rattle.monomial.proofs.order.Derived.{before_from_lt}
 use Rattle.walk.proofs.children.put_in.Goals as goal
 
 pub loop-i-init : goal.loop-i-init
@@ -28,7 +29,7 @@ loop-i-preserved c =
     let a = c.args in
     let k = c.loop-i in
     let up : k.i ≡ k.i - 1 + 1 = omega arith in
-    let not_before = sym c.before-in-loop-i.ensures ∙ c.if-before.false in
+    let not_before = sym (before_from_lt _ _ _ c.lt.ensures) ∙ c.if-lt.false in
     let next = inserting_on k.invariant c.read-x.result.e (omega arith) c.read-x.ensures not_before in
     let written = c.write-in-loop-i.ensures ∙ ap (λ (i : ℕ). paste k.s (width * i) c.read-x.result.e width) (sym up) in
     subst (λ (b : List ℕ). Inserting a.m.e a.len a.s.now b (k.i - 1)) (sym written) next
@@ -36,15 +37,15 @@ loop-i-preserved c =
 pub write-requires-2 : goal.write-requires-2
 write-requires-2 c = omega (arith, inserting_room c.loop-i.invariant)
 
-pub returns-then-before : goal.returns-then-before
-returns-then-before c =
+pub returns-then-lt : goal.returns-then-lt
+returns-then-lt c =
     let a = c.args in
     let k = c.loop-i in
     let up : k.i ≡ k.i - 1 + 1 = omega arith in
     let wide : length a.m.e ≡ width = search (rules, c.well_formed.1.1.0) in
     λ ascends lacks.
     ap (λ (b : List ℕ). listed (a.len + 1) b) (c.write.ensures ∙ ap (λ (i : ℕ). paste k.s (width * i) a.m.e width) (sym up))
-    ∙ inserting_behind k.invariant wide ascends lacks _ (omega arith) c.read-x.ensures (sym c.before-in-loop-i.ensures ∙ c.if-before.true)
+    ∙ inserting_behind k.invariant wide ascends lacks _ (omega arith) c.read-x.ensures (sym (before_from_lt _ _ _ c.lt.ensures) ∙ c.if-lt.true)
 
 pub returns : goal.returns
 returns c =

@@ -11,9 +11,6 @@ use Rattle.walk.proofs.plan.Laws.{shown_none, climb_start, climb_none, climb_on,
 use Rattle.walk.proofs.walk.Runner.{empty_openable}
 use Rattle.walk.proofs.plan.climb.Goals as goal
 
-pub may_cancel-cancels-requires : goal.may_cancel-cancels-requires
-may_cancel-cancels-requires c = c.requires.clean
-
 pub loop-k-init : goal.loop-k-init
 loop-k-init c =
     let a = c.args in
@@ -28,10 +25,10 @@ open-requires c =
     let k = c.loop-k in
     record {
       ready = record {
-        opening = empty_openable c.args.panel.n c.args.terms.now k.k (omega (arith, p.capped, c.loop-k-test.true)) p.few p.clean;
+        opening = empty_openable c.args.panel.n k.k (omega (arith, p.capped, c.loop-k-test.true)) p.few;
         showing = record { finds = []; shown = shown_none k.out k.invariant.0.blank };
       };
-      means = record { summed = c.may_cancel-cancels.ensures; roomy = omega (arith, k.invariant.1) };
+      lent = omega (arith, k.invariant.1);
     }
 
 pub returns-then-s-gt0 : goal.returns-then-s-gt0

@@ -18,31 +18,31 @@ use Rattle.walk.proofs.walk.judge.Goals as goal
 pub is_unmet-requires : goal.is_unmet-requires
 is_unmet-requires c =
     let p = c.requires.openable in
-    (p.clean, (p.few, (signals_fit c.args.f.panel.n c.args.set.now p.walked, c.requires.means.summed)))
+    record { few = p.few; fits = signals_fit c.args.f.now.panel.n c.args.set.now p.walked }
 
 pub returns-then-is_unmet : goal.returns-then-is_unmet
 returns-then-is_unmet c =
     let a = c.args in
-    weighed_last a.f.panel a.terms.now a.f.level a.set.now c.requires.openable (sym c.is_unmet.ensures ∙ c.if-is_unmet.true) (omega (arith, tabled_length a.set.now, c.if-f-len.true))
+    weighed_last a.f.now.panel a.f.now.system.terms.now a.f.now.level a.set.now c.requires.openable (sym c.is_unmet.ensures ∙ c.if-is_unmet.true) (omega (arith, tabled_length a.set.now, c.if-f-len.true))
 
 pub returns-then-f-len : goal.returns-then-f-len
 returns-then-f-len c =
     let a = c.args in
-    weighed_met a.f.panel a.terms.now a.f.level a.set.now c.requires.openable (sym c.is_unmet.ensures ∙ c.if-is_unmet.false)
+    weighed_met a.f.now.panel a.f.now.system.terms.now a.f.now.level a.set.now c.requires.openable (sym c.is_unmet.ensures ∙ c.if-is_unmet.false)
 
 pub verdict_of-requires : goal.verdict_of-requires
 verdict_of-requires c =
     let a = c.args in
-    let low : length (tabled a.set.now) < a.f.level = omega (arith, tabled_length a.set.now, c.if-f-len.false) in
-    let asked = weighing a.f.panel a.terms.now a.f.level a.set.now c.requires.openable low a.f.cancels c.requires.means.summed in
-    (subst (λ (k : ℕ). Weighing a.terms.now a.f.panel.n a.set.now a.f.cancels (a.f.level - k)) (tabled_length a.set.now) asked, c.requires.means.roomy)
+    let low : length (tabled a.set.now) < a.f.now.level = omega (arith, tabled_length a.set.now, c.if-f-len.false) in
+    let asked = weighing a.f.now.panel a.f.now.system.terms.now a.f.now.level a.set.now c.requires.openable low a.f.now.system.clean a.f.now.system.cancels a.f.now.system.sums in
+    record { weighed = subst (λ (k : ℕ). Weighing a.f.now.system.terms.now a.f.now.panel.n a.set.now a.f.now.system.cancels (a.f.now.level - k)) (tabled_length a.set.now ∙ sym c.order-len.ensures) asked; lent = c.requires.lent }
 
 pub returns : goal.returns
 returns c =
     let a = c.args in
-    let low : length (tabled a.set.now) < a.f.level = omega (arith, tabled_length a.set.now, c.if-f-len.false) in
-    let v = signals_at a.f.panel.n a.set.now in
-    let gaps = nonsquares plain v (derivative plain (system (records a.terms.now))) in
+    let low : length (tabled a.set.now) < a.f.now.level = omega (arith, tabled_length a.set.now, c.if-f-len.false) in
+    let v = signals_at a.f.now.panel.n a.set.now in
+    let gaps = nonsquares plain v (derivative plain (system (records a.f.now.system.terms.now))) in
     let said = c.verdict_of in
-    weighed_below a.f.panel a.terms.now a.f.level a.set.now c.requires.openable low said.result
-    (subst (λ (k : ℕ). Judged (can_build a.f.panel) (a.f.level - k) v gaps said.result) (sym (tabled_length a.set.now)) said.ensures)
+    weighed_below a.f.now.panel a.f.now.system.terms.now a.f.now.level a.set.now c.requires.openable low said.result
+    (subst (λ (k : ℕ). Judged (can_build a.f.now.panel) (a.f.now.level - k) v gaps said.result) (c.order-len.ensures ∙ sym (tabled_length a.set.now)) said.ensures)

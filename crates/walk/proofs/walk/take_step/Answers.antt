@@ -20,11 +20,11 @@ pub returns-then-f-taken : goal.returns-then-f-taken
 returns-then-f-taken c =
     λ d finds p sh.
     let a = c.args in
-    open_spent (kit_rules a.f.panel) a.f.panel.n (system (records a.terms.now)) a.f.level a.f.limit (length a.out.now / set_bytes) a.st.steps finds (tabled a.set.now) d p (omega arith)
+    open_spent (kit_rules a.f.now.panel) a.f.now.panel.n (system (records a.f.now.system.terms.now)) a.f.now.level a.f.now.limit (length a.out.now / set_bytes) a.st.steps finds (tabled a.set.now) d p (omega arith)
 
 pub judge-requires : goal.judge-requires
 judge-requires c =
-    record { openable = c.requires.ready.opening; means = c.requires.means }
+    record { openable = c.requires.ready.opening; lent = c.requires.lent }
 
 pub found-requires : goal.found-requires
 found-requires c =
@@ -35,16 +35,16 @@ pub returns-in_ok-state-in-Found : goal.returns-in_ok-state-in-Found
 returns-in_ok-state-in-Found c =
     λ d finds p sh.
     let a = c.args in
-    let told = found_runs (kit_rules a.f.panel) a.f.panel.n a.terms.now a.f.level a.f.limit a.set.now a.st a.out.now (omega (arith, c.if-f-taken.false)) c.in-Found.ensures d finds p in
+    let told = found_runs (kit_rules a.f.now.panel) a.f.now.panel.n a.f.now.system.terms.now a.f.now.level a.f.now.limit a.set.now a.st a.out.now (omega (arith, c.if-f-taken.false)) c.in-Found.ensures d finds p in
     subst (Tells (Ok c.in_ok-state-in-Found.state) c.found.new.out) (sym told) (c.in_ok-state-in-Found.ensures finds sh)
 
 pub returns-in_err-state-in-Found : goal.returns-in_err-state-in-Found
 returns-in_err-state-in-Found c =
     let a = c.args in
     let stops : (d : ℕ) (finds : Finds) → 0 < d → Shown finds a.st.count a.out.now
-    → Tells (Err c.in_err-state-in-Found.field-0.0) c.found.new.out (run a.f.limit (length a.out.now / set_bytes) (opened (kit_rules a.f.panel) a.f.panel.n (system (records a.terms.now)) a.f.level d (tabled a.set.now)) a.st.steps finds) =
+    → Tells (Err c.in_err-state-in-Found.field-0.0) c.found.new.out (run a.f.now.limit (length a.out.now / set_bytes) (opened (kit_rules a.f.now.panel) a.f.now.panel.n (system (records a.f.now.system.terms.now)) a.f.now.level d (tabled a.set.now)) a.st.steps finds) =
     λ d finds p sh.
-    let told = found_runs (kit_rules a.f.panel) a.f.panel.n a.terms.now a.f.level a.f.limit a.set.now a.st a.out.now (omega (arith, c.if-f-taken.false)) c.in-Found.ensures d finds p in
+    let told = found_runs (kit_rules a.f.now.panel) a.f.now.panel.n a.f.now.system.terms.now a.f.now.level a.f.now.limit a.set.now a.st a.out.now (omega (arith, c.if-f-taken.false)) c.in-Found.ensures d finds p in
     subst (Tells (Err c.in_err-state-in-Found.field-0.0) c.found.new.out) (sym told) (c.in_err-state-in-Found.ensures finds sh) in
     let p = err_from_is_err_and c.from_residual.result c.from_residual.ensures.1 in
     rw (p.1, p.2) stops
@@ -52,9 +52,9 @@ returns-in_err-state-in-Found c =
 pub returns-in-Split : goal.returns-in-Split
 returns-in-Split c =
     let a = c.args in
-    split_steps (kit_rules a.f.panel) a.f.panel.n a.terms.now a.f.level a.f.limit a.set.now a.st a.out.now (omega (arith, c.if-f-taken.false)) _ refl refl c.in-Split.m.e c.in-Split.ensures
+    split_steps (kit_rules a.f.now.panel) a.f.now.panel.n a.f.now.system.terms.now a.f.now.level a.f.now.limit a.set.now a.st a.out.now (omega (arith, c.if-f-taken.false)) _ refl refl c.in-Split.m.e c.in-Split.ensures
 
 pub returns-in-Closed : goal.returns-in-Closed
 returns-in-Closed c =
     let a = c.args in
-    closed_steps (kit_rules a.f.panel) a.f.panel.n a.terms.now a.f.level a.f.limit a.set.now a.st a.out.now (omega (arith, c.if-f-taken.false)) _ refl refl c.in-Closed.ensures
+    closed_steps (kit_rules a.f.now.panel) a.f.now.panel.n a.f.now.system.terms.now a.f.now.level a.f.now.limit a.set.now a.st a.out.now (omega (arith, c.if-f-taken.false)) _ refl refl c.in-Closed.ensures
