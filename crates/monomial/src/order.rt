@@ -1,9 +1,7 @@
-// Equality and the order of monomials.
-ghost use Rattle.std.specs.Prelude.{◌≡◌};
+// The order of monomials: at the first exponent that differs the smaller one stands before.
 ghost use Rattle.std.specs.Cmp.{on_po, unsigned_po};
 ghost use Rattle.std.specs.Cmp.Lexicographic.{slice_partial_cmp, lists_po};
 ghost use Rattle.std.specs.Ordering.{nat_cmp, on, as_partial_cmp};
-ghost use Rattle.monomial.specs.Order.{same, before};
 
 use super::Monomial;
 use super::width::WIDTH;
@@ -22,20 +20,5 @@ impl PartialOrd for Monomial {
             }
         }
         Some(Ordering::Equal)
-    }
-}
-
-impl Monomial {
-    pub fn same(self, other: Monomial) -> bool
-        ensures { result ≡ same self.e other.e }
-    {
-        self == other
-    }
-
-    // Whether self stands before other: at the first exponent that differs it has the smaller one.
-    pub fn before(self, other: Monomial) -> bool
-        ensures { result ≡ before self.e other.e }
-    {
-        self < other
     }
 }
