@@ -18,6 +18,7 @@ use wiring::signals::Members;
 use wiring::sockets;
 
 // Whether m is q times a member of V.
+#[tactic(auto, using(crate::proofs::counting::Laws::share_none, crate::proofs::counting::Laws::share_quotient, wiring::proofs::signals::Laws::signals_at_wide))]
 fn is_multiple(v: Members, q: Monomial, m: Monomial) -> bool
     ensures { result ≡ shares (signals_at v.entry.n v.entry.set.now) q.e m.e }
 {

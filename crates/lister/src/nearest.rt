@@ -30,7 +30,7 @@ fn half(m: Monomial) -> Monomial
 }
 
 // The first of the pair of m that w is of. What divides nothing is taken for 1, which is the first of a pair too.
-#[tactic(auto, using(crate::proofs::nearest::Laws::lead_one, crate::proofs::nearest::Laws::lead_own, crate::proofs::nearest::Laws::lead_other))]
+#[tactic(auto, unfolding(crate::specs::Nearest::lead_of))]
 fn lead_of(w: Monomial, m: Monomial) -> Monomial
     ensures { result.e ≡ lead_of m.e w.e }
 {

@@ -37,19 +37,6 @@ half_square (x ∷ d) = ap₂ ◌∷◌ (omega arith) (half_square d)
 
 -- ---- the lead of a monomial is the first of a pair
 module _ (m w : Mono) where
-  -- its three cases
-  pub lead_one : divides w m ≡ false → lead_of m w ≡ one (length m)
-  unfolding lead_of
-  lead_one e = rw e
-
-  pub lead_own : divides w m ≡ true → leads m w ≡ true → lead_of m w ≡ w
-  unfolding lead_of
-  lead_own e l = rw (e, l)
-
-  pub lead_other : divides w m ≡ true → leads m w ≡ false → lead_of m w ≡ quo m w
-  unfolding lead_of
-  lead_other e l = rw (e, l)
-
   pub lead_divides : T (divides (lead_of m w) m)
   unfolding lead_of
   lead_divides = go (test (divides w m)) (test (leads m w))
