@@ -2,9 +2,6 @@
 use Rattle.desktop.specs.Lines.{with_term}
 use Rattle.desktop.proofs.lines.add_ended.Goals as goal
 
-pub add-requires : goal.add-requires
-add-requires c = let p = c.requires in record { fits = p.fits; first = p.first; second = p.second; limited = p.limited; bounded = p.bounded }
-
 pub returns-then-ends_term : goal.returns-then-ends_term
 unfolding with_term
 returns-then-ends_term c = λ line s. rw (← c.ends_term.ensures, c.if-ends_term.true) (c.add.ensures line s)

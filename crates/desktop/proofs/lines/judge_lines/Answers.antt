@@ -22,21 +22,13 @@ is_there o l i e h = rw (e ∙ slice_get-get_or l i 0 h)
 the_signal : (o : Option ℕ) (signal number : ℕ) → o ≡ Some signal → unwrap_or o 0 ≡ number → signal ≡ number
 the_signal o signal number e n = rw e at n
 
-pub overflow_sub-names : goal.overflow_sub-names
-overflow_sub-names c = omega (arith, c.requires.size)
-
-pub overflow_sub-names-2 : goal.overflow_sub-names-2
-overflow_sub-names-2 c = omega (arith, c.requires.size)
-
 pub loop-x-init : goal.loop-x-init
 loop-x-init c = λ j.
     let says = says_fresh untold _ c.no_term-t.ensures refl refl refl refl in
     rw c.begin-g.ensures (going_start _ _ _ _ j _ _ says (c.no_terms-totals.ensures _))
 
-pub say-said-requires : goal.say-said-requires
-say-said-requires c =
-    let p = c.requires in
-    record { fair = p.fair; stands = (c.loop-x.invariant p).follows.stands }
+pub say-said-requires-clause-stands : goal.say-said-requires-clause-stands
+say-said-requires-clause-stands c = (c.loop-x.invariant c.requires).follows.stands
 
 pub add_ended-totals-requires : goal.add_ended-totals-requires
 add_ended-totals-requires c =
@@ -63,16 +55,8 @@ unwrap-left-requires c =
     let ended = at_end (goal.at.unwrap-left-requires c).Then-ends_line in
     is_there _ _ _ c.left_of.ensures.told (going_there _ _ _ _ p k more ended _ (going_named _ c.args.s.terms.now _ _ p))
 
-pub is_true-requires : goal.is_true-requires
-is_true-requires c =
-    let p = c.requires in
-    let within = rw c.unwrap-left.ensures at c.left_of.ensures.within in
-    record { fits = p.fits; inside = omega (arith, p.size, within.1) }
-
-pub overflow_add-result : goal.overflow_add-result
-overflow_add-result c =
-    let p = c.requires in
-    omega (arith, p.size, c.args.v.few)
+pub is_true-requires-clause-inside : goal.is_true-requires-clause-inside
+is_true-requires-clause-inside c = let within = rw c.unwrap-left.ensures at c.left_of.ensures.within in omega (arith, c.requires.size, within.1)
 
 pub overflow_add-result-then-not-is_true : goal.overflow_add-result-then-not-is_true
 overflow_add-result-then-not-is_true c =
@@ -103,10 +87,8 @@ overflow_add-line c =
     let ended = at_end (goal.at.overflow_add-line c).Then-ends_line in
     omega (arith, p.size, c.args.v.few, going_low _ _ _ _ p k more ended)
 
-pub eat-g-requires : goal.eat-g-requires
-eat-g-requires c =
-    let p = c.requires in
-    record { fair = p.fair; stands = (c.loop-x.invariant p).follows.stands }
+pub eat-g-requires-clause-stands : goal.eat-g-requires-clause-stands
+eat-g-requires-clause-stands c = (c.loop-x.invariant c.requires).follows.stands
 
 pub loop-x-preserved : goal.loop-x-preserved
 loop-x-preserved c = λ p.

@@ -7,14 +7,8 @@ use Rattle.desktop.proofs.names.names_of.Goals as goal
 pub loop-x-init : goal.loop-x-init
 loop-x-init c = rw c.begin-g.ensures (hearing_start _ _ _ (empty_holds _))
 
-pub say-requires : goal.say-requires
-say-requires c = let k = c.loop-x in record { fair = c.requires.fair; stands = k.invariant.follows.stands }
-
 pub note-k-requires : goal.note-k-requires
 note-k-requires c = let k = c.loop-x in rw c.say.ensures (hearing_ready _ _ k.invariant c.requires.six _ (omega arith))
-
-pub eat-g-requires : goal.eat-g-requires
-eat-g-requires c = let k = c.loop-x in record { fair = c.requires.fair; stands = k.invariant.follows.stands }
 
 pub loop-x-preserved : goal.loop-x-preserved
 loop-x-preserved c = let k = c.loop-x in

@@ -9,14 +9,14 @@ use Rattle.listing.proofs.saying.Laws.{named_none}
 use Rattle.desktop.proofs.names.Laws.{holds_variable, holds_raised, holds_digit, holds_ended}
 use Rattle.desktop.proofs.names.note.Goals as goal
 
-pub closed-requires : goal.closed-requires
-closed-requires c = record { inside = rw c.in-Variable.is at c.requires.closing; limited = c.requires.power }
+pub closed-requires-clause-inside : goal.closed-requires-clause-inside
+closed-requires-clause-inside c = rw c.in-Variable.is at c.requires.closing
 
 pub overflow_add-k : goal.overflow_add-k
 overflow_add-k c = let small : c.in-Digit.d < 256 = rw c.in-Digit.is at c.requires.small in omega (arith, c.requires.power)
 
-pub closed-requires-in-NameEnds : goal.closed-requires-in-NameEnds
-closed-requires-in-NameEnds c = record { inside = (rw c.in-NameEnds.is at c.requires.closing).0; limited = c.requires.power }
+pub closed-requires-in-NameEnds-clause-inside : goal.closed-requires-in-NameEnds-clause-inside
+closed-requires-in-NameEnds-clause-inside c = (rw c.in-NameEnds.is at c.requires.closing).0
 
 pub with_last-requires : goal.with_last-requires
 with_last-requires c = (rw c.in-NameEnds.is at c.requires.closing).1

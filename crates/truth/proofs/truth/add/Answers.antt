@@ -25,20 +25,11 @@ cell_of-at-requires c =
     let room : length v.m ≡ most_signals = search (rules, array_length) in
     record { fits = c.requires.fits; met = product_met v room c.requires.fits c.args.a c.args.b c.requires.first c.requires.second _ c.times.ensures }
 
-pub coefficient_of-requires : goal.coefficient_of-requires
-coefficient_of-requires c = c.requires.limited
-
-pub bounds-cells-at : goal.bounds-cells-at
-bounds-cells-at c = c.cell_of-at.ensures.inside
-
 pub overflow_add-cells : goal.overflow_add-cells
 overflow_add-cells c =
     let at = c.cell_of-at.result in
     let q = c.coefficient_of in
     sum_fits (held c.args.sums at) q.result (c.requires.bounded at) (rw q.ensures (signed_small _ _ c.requires.limited))
-
-pub bounds-cells-at-2 : goal.bounds-cells-at-2
-bounds-cells-at-2 c = c.cell_of-at.ensures.inside
 
 pub returns : goal.returns
 returns c =

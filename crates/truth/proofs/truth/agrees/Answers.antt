@@ -14,15 +14,6 @@ use Rattle.truth.specs.Sums.{held, agrees}
 use Rattle.truth.proofs.truth.Machine.{cell_fits, bits_same}
 use Rattle.truth.proofs.truth.agrees.Goals as goal
 
-pub cell_of-requires : goal.cell_of-requires
-cell_of-requires c = record { fits = c.requires.fits; met = c.requires.met }
-
-pub bounds-sums-cell_of : goal.bounds-sums-cell_of
-bounds-sums-cell_of c = c.cell_of.ensures.inside
-
-pub total-requires : goal.total-requires
-total-requires c = c.requires.small
-
 pub returns : goal.returns
 unfolding agrees
 returns c =

@@ -4,9 +4,6 @@ use Rattle.monomial.proofs.Tests.{T→is}
 use Rattle.truth.proofs.truth.Places.{cell_found}
 use Rattle.truth.proofs.truth.cell_of.Goals as goal
 
-pub pair_of-requires : goal.pair_of-requires
-pair_of-requires c = c.requires.fits
-
 pub unwrap-p-requires : goal.unwrap-p-requires
 unwrap-p-requires c = c.pair_of.ensures.told ∙ T→is _ c.requires.met
 
