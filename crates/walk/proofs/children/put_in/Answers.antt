@@ -7,22 +7,13 @@ use lib.ListN.{length}
 use lib.Seq.{paste}
 use Rattle.monomial.specs.Monomial.{width}
 use Rattle.wiring.specs.Signals.{listed}
-use Rattle.walk.proofs.children.Offers.{Inserting, inserting_start, inserting_room, inserting_on, inserting_first, inserting_behind}
+use Rattle.walk.proofs.children.Offers.{Inserting, inserting_start, inserting_on, inserting_first, inserting_behind}
 use borrow.Author.Rules.{rules}
 use Rattle.monomial.proofs.order.Derived.{before_from_lt}
 use Rattle.walk.proofs.children.put_in.Goals as goal
 
 pub loop-i-init : goal.loop-i-init
 loop-i-init c = inserting_start _ _ _ c.requires
-
-pub read-x-requires : goal.read-x-requires
-read-x-requires c = omega (arith, inserting_room c.loop-i.invariant)
-
-pub write-requires : goal.write-requires
-write-requires c = omega (arith, inserting_room c.loop-i.invariant)
-
-pub write-requires-in-loop-i : goal.write-requires-in-loop-i
-write-requires-in-loop-i c = omega (arith, inserting_room c.loop-i.invariant)
 
 pub loop-i-preserved : goal.loop-i-preserved
 loop-i-preserved c =
@@ -33,9 +24,6 @@ loop-i-preserved c =
     let next = inserting_on k.invariant c.read-x.result.e (omega arith) c.read-x.ensures not_before in
     let written = c.write-in-loop-i.ensures ∙ ap (λ (i : ℕ). paste k.s (width * i) c.read-x.result.e width) (sym up) in
     subst (λ (b : List ℕ). Inserting a.m.e a.len a.s.now b (k.i - 1)) (sym written) next
-
-pub write-requires-2 : goal.write-requires-2
-write-requires-2 c = omega (arith, inserting_room c.loop-i.invariant)
 
 pub returns-then-lt : goal.returns-then-lt
 returns-then-lt c =

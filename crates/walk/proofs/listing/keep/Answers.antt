@@ -20,13 +20,6 @@ returns-then-out-count c =
     let a = c.args in
     keeps_none s (tabled a.set.now) taken (length a.out.now / set_bytes) (c.in-Some.ensures.sought finds s).0 c.if-out-count.true
 
-pub put-requires : goal.put-requires
-put-requires c =
-    let place = c.in-Some.ensures.within in
-    let long = c.copy_within.ensures.len in
-    let room = c.if-out-count.false in
-    record { lies = c.requires.lies; room = omega arith }
-
 pub returns : goal.returns
 returns c =
     λ finds taken s.

@@ -3,15 +3,9 @@ use mathlib.Core.Path.{sym, ap, ◌∙◌}
 use mathlib.Core.Bool.{not}
 use mathlib.Core.List.{[]}
 use native.Mathlib.Omega.{arith}
-use Rattle.monomial.proofs.Loops.{placing_start, placing_found, placing_on, placing_ends, seeking_start, seeking_found, seeking_on, seeking_ends}
-use Rattle.walk.proofs.listing.Finds.{cut_length, shown_before, shown_same, shown_passed}
+use Rattle.monomial.proofs.Loops.{placing_found, placing_on, placing_ends, seeking_found, seeking_on, seeking_ends}
+use Rattle.walk.proofs.listing.Finds.{shown_before, shown_same, shown_passed}
 use Rattle.walk.proofs.listing.place_of.Goals as goal
-
-pub loop-i-init : goal.loop-i-init
-loop-i-init c = λ finds s. (seeking_start _ finds, placing_start _ finds)
-
-pub compare-requires : goal.compare-requires
-compare-requires c = record { whole = cut_length c.args.s.now c.loop-i.i (omega (arith, c.requires.room)); lies = c.requires.lies }
 
 pub returns-in-Equal-clause-sought : goal.returns-in-Equal-clause-sought
 returns-in-Equal-clause-sought c =

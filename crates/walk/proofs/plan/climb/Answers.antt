@@ -1,5 +1,5 @@
 -- `climb` meets its contract: no set is found below level k, and the levels from k on are the plan (`Climbing`). Assumes nothing.
-use mathlib.Core.Path.{refl, sym, ap, ◌∙◌}
+use mathlib.Core.Path.{refl, ap, ◌∙◌}
 use Rattle.std.specs.Prelude.{Err}
 use mathlib.Core.List.{[]}
 use native.Mathlib.Omega.{arith}
@@ -16,19 +16,13 @@ loop-k-init c =
     let a = c.args in
     (climb_start (kit_rules a.panel) a.panel.n (system (records a.terms.now)) a.limit a.cap (length a.out.now) a.out.now refl c.requires.blank (omega arith), refl)
 
-pub slice_bounds-open-end : goal.slice_bounds-open-end
-slice_bounds-open-end c = sym c.loop-k.invariant.1
-
-pub open-requires : goal.open-requires
-open-requires c =
+pub open-requires-clause-ready : goal.open-requires-clause-ready
+open-requires-clause-ready c =
     let p = c.requires in
     let k = c.loop-k in
     record {
-      ready = record {
-        opening = empty_openable c.args.panel.n k.k (omega (arith, p.capped, c.loop-k-test.true)) p.few;
-        showing = record { finds = []; shown = shown_none k.out k.invariant.0.blank };
-      };
-      lent = omega (arith, k.invariant.1);
+      opening = empty_openable c.args.panel.n k.k (omega (arith, p.capped, c.loop-k-test.true)) p.few;
+      showing = record { finds = []; shown = shown_none k.out k.invariant.0.blank };
     }
 
 pub returns-then-s-gt0 : goal.returns-then-s-gt0
@@ -66,9 +60,6 @@ loop-k-preserved c =
     let a = c.args in
     let told = opening_at (kit_rules a.panel) a.panel.n (system (records a.terms.now)) a.limit a.cap (length a.out.now) k.k k.steps k.out r.result r.new.out _ tabled_none r.ensures in
     (climb_on k.invariant.0 low r.result r.new.out told r.auto.out c.in-Ok.s c.in-Ok.is c.if-s-gt0.false, r.auto.list ∙ k.invariant.1)
-
-pub shape_of-out : goal.shape_of-out
-shape_of-out c = c.loop-k.invariant.0.long
 
 pub returns : goal.returns
 returns c = climb_none c.loop-k.invariant.0 c.loop-k-test.false

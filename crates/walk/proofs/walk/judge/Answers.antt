@@ -15,10 +15,8 @@ use Rattle.walk.proofs.walk.Laws.{signals_fit}
 use Rattle.walk.proofs.walk.Judging.{weighed_last, weighed_met, weighing, weighed_below}
 use Rattle.walk.proofs.walk.judge.Goals as goal
 
-pub is_unmet-requires : goal.is_unmet-requires
-is_unmet-requires c =
-    let p = c.requires.openable in
-    record { few = p.few; fits = signals_fit c.args.f.now.panel.n c.args.set.now p.walked }
+pub is_unmet-requires-clause-fits : goal.is_unmet-requires-clause-fits
+is_unmet-requires-clause-fits c = signals_fit c.args.f.now.panel.n c.args.set.now c.requires.openable.walked
 
 pub returns-then-is_unmet : goal.returns-then-is_unmet
 returns-then-is_unmet c =
@@ -30,12 +28,12 @@ returns-then-f-len c =
     let a = c.args in
     weighed_met a.f.now.panel a.f.now.system.terms.now a.f.now.level a.set.now c.requires.openable (sym c.is_unmet.ensures ∙ c.if-is_unmet.false)
 
-pub verdict_of-requires : goal.verdict_of-requires
-verdict_of-requires c =
+pub verdict_of-requires-clause-weighed : goal.verdict_of-requires-clause-weighed
+verdict_of-requires-clause-weighed c =
     let a = c.args in
     let low : length (tabled a.set.now) < a.f.now.level = omega (arith, tabled_length a.set.now, c.if-f-len.false) in
     let asked = weighing a.f.now.panel a.f.now.system.terms.now a.f.now.level a.set.now c.requires.openable low a.f.now.system.clean a.f.now.system.cancels a.f.now.system.sums in
-    record { weighed = subst (λ (k : ℕ). Weighing a.f.now.system.terms.now a.f.now.panel.n a.set.now a.f.now.system.cancels (a.f.now.level - k)) (tabled_length a.set.now ∙ sym c.order-len.ensures) asked; lent = c.requires.lent }
+    subst (λ (k : ℕ). Weighing a.f.now.system.terms.now a.f.now.panel.n a.set.now a.f.now.system.cancels (a.f.now.level - k)) (tabled_length a.set.now ∙ sym c.order-len.ensures) asked
 
 pub returns : goal.returns
 returns c =

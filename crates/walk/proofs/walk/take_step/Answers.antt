@@ -13,7 +13,7 @@ use Rattle.walk.specs.Listing.{Shown}
 use Rattle.walk.specs.Walk.{Finds, opened, run}
 use Rattle.std.proofs.lemmas.Result.{err_from_is_err_and}
 use Rattle.walk.proofs.walk.Laws.{open_spent}
-use Rattle.walk.proofs.walk.Judging.{found_runs, closed_steps, split_steps}
+use Rattle.walk.proofs.walk.Judging.{found_runs, closed_steps}
 use Rattle.walk.proofs.walk.take_step.Goals as goal
 
 pub returns-then-f-taken : goal.returns-then-f-taken
@@ -21,15 +21,6 @@ returns-then-f-taken c =
     λ d finds p sh.
     let a = c.args in
     open_spent (kit_rules a.f.now.panel) a.f.now.panel.n (system (records a.f.now.system.terms.now)) a.f.now.level a.f.now.limit (length a.out.now / set_bytes) a.st.steps finds (tabled a.set.now) d p (omega arith)
-
-pub judge-requires : goal.judge-requires
-judge-requires c =
-    record { openable = c.requires.ready.opening; lent = c.requires.lent }
-
-pub found-requires : goal.found-requires
-found-requires c =
-    let p = c.requires.ready in
-    record { lies = record { whole = p.opening.whole; recorded = p.opening.walked.recorded }; showing = p.showing }
 
 pub returns-in_ok-state-in-Found : goal.returns-in_ok-state-in-Found
 returns-in_ok-state-in-Found c =
@@ -48,11 +39,6 @@ returns-in_err-state-in-Found c =
     subst (Tells (Err c.in_err-state-in-Found.field-0.0) c.found.new.out) (sym told) (c.in_err-state-in-Found.ensures finds sh) in
     let p = err_from_is_err_and c.from_residual.result c.from_residual.ensures.1 in
     rw (p.1, p.2) stops
-
-pub returns-in-Split : goal.returns-in-Split
-returns-in-Split c =
-    let a = c.args in
-    split_steps (kit_rules a.f.now.panel) a.f.now.panel.n a.f.now.system.terms.now a.f.now.level a.f.now.limit a.set.now a.st a.out.now (omega (arith, c.if-f-taken.false)) _ refl refl c.in-Split.m.e c.in-Split.ensures
 
 pub returns-in-Closed : goal.returns-in-Closed
 returns-in-Closed c =
