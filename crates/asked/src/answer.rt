@@ -35,12 +35,14 @@ pub(crate) fn prepare_asked(
     let terms = &input[at..];
     match a {
         Some(Asked::Plan(s)) => prepare::prepare(s, terms, sets, out),
-        Some(Asked::Thin {
-            n,
-            marks,
-            degree,
-            which,
-        }) => { prepare::prepare_thin(n, marks, degree, which, terms, set, sets, out) },
+        Some(
+            Asked::Thin {
+                n,
+                marks,
+                degree,
+                which,
+            },
+        ) => { prepare::prepare_thin(n, marks, degree, which, terms, set, sets, out) },
         Some(Asked::Wire { n, marks, degree }) => prepare::prepare_wire(
             n, marks, degree, terms, set, out,
         ),

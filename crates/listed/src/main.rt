@@ -48,7 +48,7 @@ fn write_wrong() {
     io::write_all(1, line.as_slice());
 }
 
-// Reads the input, and types.
+// Reads the input, and types. n, marks and degree go one by one in this crate, as to the operations that include/planner.h declares.
 fn type_listing(n: u64, marks: u64, degree: u64) {
     let mut input = typing::input_buffer();
     let length = io::read_full(0, &mut input);

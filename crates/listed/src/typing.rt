@@ -7,8 +7,7 @@ ghost use Rattle.listed.specs.Typing.{most_typed, typed_lines, Ready, Types};
 use lines::answer;
 use lines::text::Line;
 use listing::machine::Known;
-use typed::typed as listings;
-use typed::typed::LISTED_BYTES;
+use typed::typed::{LISTED_BYTES, Listing};
 use wiring::panel::{Panel, SET_BYTES, TERMS_BYTES, WIRES_BYTES};
 use wiring::reply::Reply;
 use wiring::{answers, buffer, reply};
@@ -76,13 +75,12 @@ pub(crate) fn typing_line(
     if five[0] != 0 {
         return false;
     }
-    listings::line_at(
-        t.known,
-        &t.set,
-        five[1] as usize,
+    let listing = Listing {
+        known: t.known,
+        set: &t.set,
+        size: five[1] as usize,
         wires,
-        five[2] as usize,
-        k - 1,
-        line,
-    )
+        count: five[2] as usize,
+    };
+    listing.line_at(k - 1, line)
 }

@@ -31,6 +31,7 @@ pub struct Prepared {
 }
 
 // Wires set number `which` of so many, from 1, and gives the number of records: zeros where there is no such set.
+// n, marks and degree go one by one here and below, as to the operations that include/planner.h declares.
 fn wire_set(
     n: u64,
     marks: u64,

@@ -1,8 +1,8 @@
 // The lines of a listing: the heading, a line for each new name, the blank line, a line for each derivative.
-ghost use Rattle.std.specs.Prelude.{◌≡◌, [], ◌++◌, map, ◌+◌, ◌*◌, ◌≤◌, ◌<◌, ◌↔◌, length, take, drop, IsTrue, int_lt};
+ghost use Rattle.std.specs.Prelude.{◌≡◌, [], ◌++◌, map, ◌+◌, ◌*◌, ◌≤◌, ◌<◌, ◌↔◌, length, take, drop, IsTrue};
 ghost use Rattle.monomial.specs.Monomial.{width};
 ghost use Rattle.wiring.specs.Sets.{places};
-ghost use Rattle.wiring.specs.Panel.{cards, wire_bytes, most_signals};
+ghost use Rattle.wiring.specs.Panel.{cards};
 ghost use Rattle.lines.specs.Text.{joined};
 ghost use Rattle.listing.specs.Bytes.{star};
 ghost use Rattle.grammar.specs.Grammar.{signal_text, names_text, body_text, factor_text, name_text, right_text};
@@ -99,61 +99,6 @@ fn written(size: u64, a: u64, b: u64) -> u64
     if size == 1 && 0 < a + b { 0 } else { size }
 }
 
-// Term number i of a line, which is wiring record number j.
-fn put_term(known: Known, wires: &[u8], j: usize, i: usize, line: &mut Line<LISTED_BYTES>)
-    requires there { wire_bytes * j + wire_bytes ≤ length wires.now }
-    requires first { (wire_at wires.now j).a < most_signals }
-    requires second { (wire_at wires.now j).b < most_signals }
-    requires room { length line.old + 29 ≤ LISTED_BYTES }
-    ensures text { line.new ≡ line.old ++ term_text known i (term_of (wire_at wires.now j)) }
-    ensures short { length line.new ≤ length line.old + 29 }
-{
-    let from = WIRE_BYTES * j;
-    let a = u64::from(wires[from + 1]);
-    let b = u64::from(wires[from + 2]);
-    let c = coefficient::decode(wires, from + 4);
-    put_sign(c < 0, i, line);
-    put_body(
-        known,
-        written(u64::from(c.unsigned_abs()), a, b),
-        a,
-        b,
-        line,
-    );
-}
-
-// The right side of the line of signal l.
-fn put_right(known: Known, l: u64, wires: &[u8], count: usize, line: &mut Line<LISTED_BYTES>)
-    requires listed { Listed count wires.now }
-    requires room { length line.old + 29 * count + 1 ≤ LISTED_BYTES }
-    ensures text { line.new ≡ line.old ++ right_text known (terms_of (wires_in count wires.now) l) }
-    ensures short { length line.new ≤ length line.old + 29 * count + 1 }
-{
-    let mut i = 0;
-    for j in 0..count {
-        if u64::from(wires[WIRE_BYTES * j]) == l {
-            put_term(known, wires, j, i, line);
-            i += 1;
-        }
-    }
-    if i == 0 {
-        line.put_text(b"0");
-    }
-}
-
-// The line of the derivative of signal l.
-fn derivative_line(known: Known, l: u64, wires: &[u8], count: usize, line: &mut Line<LISTED_BYTES>)
-    requires signal { l ≤ 18 }
-    requires listed { Listed count wires.now }
-    requires empty { line.old ≡ [] }
-    ensures { line.new ≡ derivative_line known (wires_in count wires.now) l }
-{
-    put_signal(known, l, line);
-    line.put_text(b"' = ");
-    put_right(known, l, wires, count, line);
-    line.put_text(b"\n");
-}
-
 // A power of variable number i, from 0.
 fn put_factor(i: usize, e: u8, line: &mut Line<LISTED_BYTES>)
     requires variable { i < width }
@@ -196,40 +141,95 @@ fn name_line(set: &[u8; SET_BYTES], i: usize, line: &mut Line<LISTED_BYTES>)
     line.put_text(b"\n");
 }
 
-// Line number j of the listing, from 0, of `size` monomials of a set record and `count` wiring records, and whether there is
-// one: nothing behind the last.
-pub fn line_at(
-    known: Known,
-    set: &[u8; SET_BYTES],
-    size: usize,
-    wires: &[u8],
-    count: usize,
-    j: usize,
-    line: &mut Line<LISTED_BYTES>,
-) -> bool
-    requires few { known.n ≤ width }
-    requires small { size ≤ cards }
-    requires listed { Listed count wires.now }
-    ensures text { line.new ≡ typed_line known size set.now count wires.now j }
-    ensures there { IsTrue result ↔ (j < length (listing_lines known (take size (places set.now)) (wires_in count wires.now))) }
-{
-    line.clear();
-    if j == 0 {
-        line.put_text(b"Introduced variables:\n");
-        return true;
+// A set and its wiring list, to be typed: so many monomials of a set record, and so many wiring records.
+#[derive(Clone, Copy)]
+pub struct Listing<'a> {
+    pub known: Known,
+    pub set: &'a [u8; SET_BYTES],
+    pub size: usize,
+    pub wires: &'a [u8],
+    pub count: usize,
+    pub ghost few: { known.n ≤ width },
+    pub ghost small: { size ≤ cards },
+    pub ghost listed: { Listed count wires.now },
+}
+
+impl Listing<'_> {
+    // Term number i of a line, which is wiring record number j.
+    fn put_term(self, j: usize, i: usize, line: &mut Line<LISTED_BYTES>)
+        requires there { j < self.count }
+        requires room { length line.old + 29 ≤ LISTED_BYTES }
+        ensures text { line.new ≡ line.old ++ term_text self.entry.known i (term_of (wire_at self.entry.wires.now j)) }
+        ensures short { length line.new ≤ length line.old + 29 }
+    {
+        let from = WIRE_BYTES * j;
+        let a = u64::from(self.wires[from + 1]);
+        let b = u64::from(self.wires[from + 2]);
+        let c = coefficient::decode(self.wires, from + 4);
+        put_sign(c < 0, i, line);
+        put_body(
+            self.known,
+            written(u64::from(c.unsigned_abs()), a, b),
+            a,
+            b,
+            line,
+        );
     }
-    let i = j - 1;
-    if i < size {
-        name_line(set, i, line);
-        return true;
+
+    // The right side of the line of signal l.
+    fn put_right(self, l: u64, line: &mut Line<LISTED_BYTES>)
+        requires { length line.old + 29 * self.count + 1 ≤ LISTED_BYTES }
+        ensures text { line.new ≡ line.old ++ right_text self.entry.known (terms_of (wires_in self.entry.count self.entry.wires.now) l) }
+        ensures short { length line.new ≤ length line.old + 29 * self.entry.count + 1 }
+    {
+        let mut i = 0;
+        for j in 0..self.count {
+            if u64::from(self.wires[WIRE_BYTES * j]) == l {
+                self.put_term(j, i, line);
+                i += 1;
+            }
+        }
+        if i == 0 {
+            line.put_text(b"0");
+        }
     }
-    if i == size {
+
+    // The line of the derivative of signal l.
+    fn derivative_line(self, l: u64, line: &mut Line<LISTED_BYTES>)
+        requires signal { l ≤ 18 }
+        requires empty { line.old ≡ [] }
+        ensures { line.new ≡ derivative_line self.entry.known (wires_in self.entry.count self.entry.wires.now) l }
+    {
+        put_signal(self.known, l, line);
+        line.put_text(b"' = ");
+        self.put_right(l, line);
         line.put_text(b"\n");
-        return true;
     }
-    let Some(l) = machine::left_of(known, size as u64, (i - size - 1) as u64) else {
-        return false;
-    };
-    derivative_line(known, l, wires, count, line);
-    true
+
+    // Line number j, from 0, and whether there is one: nothing behind the last.
+    pub fn line_at(self, j: usize, line: &mut Line<LISTED_BYTES>) -> bool
+        ensures text { line.new ≡ typed_line self.entry.known self.entry.size self.entry.set.now self.entry.count self.entry.wires.now j }
+        ensures there { IsTrue result ↔ (j < length (listing_lines self.entry.known (take self.entry.size (places self.entry.set.now)) (wires_in self.entry.count self.entry.wires.now))) }
+    {
+        line.clear();
+        if j == 0 {
+            line.put_text(b"Introduced variables:\n");
+            return true;
+        }
+        let i = j - 1;
+        if i < self.size {
+            name_line(self.set, i, line);
+            return true;
+        }
+        if i == self.size {
+            line.put_text(b"\n");
+            return true;
+        }
+        let Some(l) = machine::left_of(self.known, self.size as u64, (i - self.size - 1) as u64)
+        else {
+            return false;
+        };
+        self.derivative_line(l, line);
+        true
+    }
 }

@@ -25,13 +25,6 @@ returns-then-five-ne0-clause-there c =
     let one = typed_refused c.args.t c.args.wires.now refused in
     told_no (omega (arith, c.if-k-eq0.false))
 
-pub line_at-requires : goal.line_at-requires
-line_at-requires c =
-    let five = c.numbers-five.ensures in
-    let done : (numbers c.args.t.reply).code ≡ 0 = rw five at c.if-five-ne0.false in
-    let can = c.requires done in
-    rw five (record { few = can.few; small = can.small; listed = can.listed })
-
 pub returns-clause-text : goal.returns-clause-text
 returns-clause-text c =
     let five = c.numbers-five.ensures in

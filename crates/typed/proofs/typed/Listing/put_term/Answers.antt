@@ -5,12 +5,12 @@ use mir.ValLaws.{to_z-of_z}
 use borrow.Author.Rules.{sfits_of}
 use Rattle.typed.specs.Typed.{term_of, term_text}
 use Rattle.typed.proofs.typed.Laws.{negative_is, wire_byte, wire_word}
-use Rattle.typed.proofs.typed.put_term.Goals as goal
+use Rattle.typed.proofs.typed.Listing.put_term.Goals as goal
 
 pub returns-clause-text : goal.returns-clause-text
 unfolding term_text term_of
 returns-clause-text c =
-    let bytes = c.args.wires.now in
+    let bytes = c.args.self.wires.now in
     let made = c.decode-c in
     let said = to_z-of_z w32 made.result (sfits_of made.type_inv) ∙ made.ensures ∙ wire_word bytes c.args.j in
     let negative = ap (λ z. int_lt z (pos 0)) said ∙ negative_is _ in

@@ -1,7 +1,7 @@
 -- `derivative_line` meets its contract: the name, the prime, the right side, the line's end. Assumes nothing.
 use Rattle.std.proofs.Common.{append_assoc}
 use Rattle.grammar.specs.Grammar.{line_text}
-use Rattle.typed.proofs.typed.derivative_line.Goals as goal
+use Rattle.typed.proofs.typed.Listing.derivative_line.Goals as goal
 
 pub returns : goal.returns
 unfolding line_text
