@@ -288,7 +288,7 @@ pairs-returns-in_err-cur t c =
 pub pairs-loop-held-smaller : goal.pairs-loop-held-smaller
 pairs-loop-held-smaller t c =
     let o = (goal.at.pairs-loop-held-smaller t c).After-offer in
-    rw (c.behind-at.ensures.0, c.behind-at.ensures.1.0) (omega (arith, ap length (rw c.in-Some.is at c.find-p.ensures.lists)))
+    rw (c.behind-at.ensures.rest, c.behind-at.ensures.next) (omega (arith, ap length (rw c.in-Some.is at c.find-p.ensures.lists)))
 
 pub pairs-loop-held-preserved : goal.pairs-loop-held-preserved
 pairs-loop-held-preserved t c =
@@ -302,14 +302,14 @@ pairs-loop-held-preserved t c =
       | pairs-in-Some-offer+in_ok-cur w ↦
           let is = w.in-Some-offer.is in
           let told = offered_told t o _ is (Ok w.in_ok-cur.cur) w.«open».new.out w.in_ok-cur.ensures in
-          rw (c.behind-at.ensures.0, c.behind-at.ensures.1.0, c.behind-at.ensures.1.1, w.out-is, w.list-is, w.cur-is) (
+          rw (c.behind-at.ensures.rest, c.behind-at.ensures.next, c.behind-at.ensures.listed, w.out-is, w.list-is, w.cur-is) (
             running_going (kit_rules a.f.now.panel) a.f.now.panel.n a.f.now.system.terms.now a.f.now.level a.f.now.limit a.set.now a.m.e a.st a.out.now runs
                 w.in-Some-offer.len (offered_more t o _ is) c.requires.splits.below (offered_low t o) (offered_born t o _ is).0 w.in_ok-cur.cur w.«open».new.out w.«open».auto.out told,
             (standing, (cheap, (w.«open».auto.list ∙ c.loop-held.invariant.1.1.1.0, nursery_long t o))),
           )
       | pairs-in_default-offer w ↦
           let none : c.offer.result ≡ None = let h = w.in_default-offer in search rules in
-          rw (c.behind-at.ensures.0, c.behind-at.ensures.1.0, c.behind-at.ensures.1.1, w.out-is, w.list-is, w.cur-is) (
+          rw (c.behind-at.ensures.rest, c.behind-at.ensures.next, c.behind-at.ensures.listed, w.out-is, w.list-is, w.cur-is) (
             running_shut (kit_rules a.f.now.panel) a.f.now.panel.n a.f.now.system.terms.now a.f.now.level a.f.now.limit a.set.now a.m.e a.st a.out.now runs _ refl refl (offered_low t o) (offered_shut t o none),
             (standing, (cheap, (c.loop-held.invariant.1.1.1.0, nursery_long t o))),
           )
