@@ -1,7 +1,7 @@
 -- An opened set is judged: at its level it is found or goes no further; below it what the counting rule says is what the panel's rules say.
 -- Assumes nothing.
 use mathlib.Core.Path.{◌≡◌, refl, sym, ap, ◌∙◌, subst}
-use mathlib.Core.Bool.{Bool, true, false}
+use mathlib.Core.Bool.{Bool, true, false, cond}
 use mathlib.Core.List.{List}
 use Prim.Native.Nat.{ℕ, ◌+◌, ◌-◌, ◌/◌, ◌<◌, ◌≤◌}
 use native.Mathlib.Omega.{arith}
@@ -44,11 +44,12 @@ module _ (panel : Panel) (terms : List ℕ) (level : ℕ) (set : List ℕ) (o : 
   gaps = nonsquares plain v (derivative plain (system (records terms)))
 
   -- at its level: nothing is counted
-  pub weighed_last : some gaps ≡ true → level ≤ length own → Weighed (kit_rules panel) panel.n terms level set verdict.Closed
-  weighed_last e h = (e, at_its_level (kit_rules panel) panel.n level own gaps h)
-
-  pub weighed_met : some gaps ≡ false → Weighed (kit_rules panel) panel.n terms level set verdict.Found
-  weighed_met e = some_none gaps (is→n_t (some gaps) e)
+  pub weighed_last : (r : Verdict) → r ≡ cond (some gaps) verdict.Closed verdict.Found → level ≤ length own → Weighed (kit_rules panel) panel.n terms level set r
+  weighed_last r e h = subst (Weighed (kit_rules panel) panel.n terms level set) (sym e) (by_gaps (some gaps) refl)
+    where
+      by_gaps : (b : Bool) → some gaps ≡ b → Weighed (kit_rules panel) panel.n terms level set (cond b verdict.Closed verdict.Found)
+      by_gaps true q = (q, at_its_level (kit_rules panel) panel.n level own gaps h)
+      by_gaps false q = some_none gaps (is→n_t (some gaps) q)
 
   -- below it: what is asked of the counting rule
   module _ (below : length own < level) where
