@@ -11,7 +11,6 @@ use Rattle.wiring.specs.Panel.{cards}
 use Rattle.wiring.specs.Poly.{Poly}
 use Rattle.wiring.specs.Sets.{monomials_of}
 use Rattle.wiring.specs.Answers.{Judgeable}
-use Rattle.wiring.specs.Claims.{Wide}
 use Rattle.wiring.specs.declared.held.Set.{Set}
 use Rattle.wiring.proofs.signals.Arrays.{front_length}
 use Rattle.wiring.specs.Terms.{records, system}
@@ -19,13 +18,10 @@ use Rattle.walk.specs.Walk.{Finds}
 use Rattle.thin.specs.declared.subsets.Best.{Best}
 use Rattle.thin.specs.Subsets.{Tally, tally, is_quadratic, sifted, all_sifted, Begun, Holds, Sifting}
 
--- a set held by value has as many monomials as it says, and each has the panel's width
+-- a set held by value has as many monomials as it says
 module _ (n : ℕ) (terms : List ℕ) (set : Set) (j : Judgeable n terms set) where
   pub set_size : length set.m ≡ cards → set.len ≡ length (monomials_of set)
   set_size full = sym (front_length set.len set.m (omega (arith, set.few)))
-
-  pub set_recorded : Wide (monomials_of set)
-  set_recorded m h = (j.fits m h).0
 
 -- ---- one more set, by its test and its size
 module _ (n : ℕ) (fs : List (Poly Mono)) (t : Tally) (s : List Mono) where

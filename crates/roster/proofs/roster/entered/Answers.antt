@@ -29,15 +29,6 @@ loop-i-init c =
     let new : c.args.m.e ∈ monomials_of s → ⊥ = λ k. is→n_t _ e.new (among_in mono_order k) in
     (omega arith, refl, refl, handing_start (monomials_of s) c.args.m _ refl room e.ascends new)
 
-pub bounds-set-i : goal.bounds-set-i
-bounds-set-i c = omega (arith, c.requires.room)
-
-pub bounds-next-i : goal.bounds-next-i
-bounds-next-i c = omega (arith, c.requires.room)
-
-pub bounds-next-i-else-lt : goal.bounds-next-i-else-lt
-bounds-next-i-else-lt c = omega (arith, c.requires.room)
-
 pub loop-i-preserved : goal.loop-i-preserved
 loop-i-preserved c =
     let s = c.args.set in
@@ -55,9 +46,6 @@ loop-i-preserved c =
       | else-lt w ↦ rw (w.next-is, w.hand-is)
           (omega arith, refl, length-set k.next k.i x ∙ k.invariant.2, handing_by k.invariant.3 x below is (here ∙ w.if-lt.false))
     ]
-
-pub bounds-next-len : goal.bounds-next-len
-bounds-next-len c = c.requires.room
 
 pub returns : goal.returns
 returns c =

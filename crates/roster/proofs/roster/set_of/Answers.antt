@@ -1,13 +1,12 @@
 -- `set_of` meets its contract: the names join one by one, the last first (`Joining`). Assumes nothing.
-use mathlib.Core.Path.{◌≡◌, refl, sym, subst, ◌∙◌}
+use mathlib.Core.Path.{◌≡◌, refl, sym, ◌∙◌}
 use mathlib.Core.List.{[]}
-use Prim.Native.Nat.{ℕ, ◌-◌}
+use Prim.Native.Nat.{◌-◌}
 use native.Mathlib.Omega.{arith}
 use lib.ListN.{length}
 use Rattle.wiring.specs.Panel.{cards}
-use Rattle.wiring.specs.Sets.{monomials_of}
 use Rattle.wiring.proofs.signals.Arrays.{array_length, front_length, front_at}
-use Rattle.roster.proofs.roster.Joining.{Joining, joining_start, joining_refused, joining_enters, joining_on, joining_wide, joined}
+use Rattle.roster.proofs.roster.Joining.{joining_start, joining_refused, joining_enters, joining_on, joining_wide}
 use borrow.Author.Rules.{rules}
 use Rattle.roster.proofs.roster.set_of.Goals as goal
 
@@ -49,10 +48,3 @@ loop-i-preserved c =
 
 pub record_of-requires : goal.record_of-requires
 record_of-requires c = joining_wide c.loop-i.invariant.joining
-
-pub returns : goal.returns
-returns c =
-    let k = c.loop-i in
-    let a = c.args in
-    let at : k.i ≡ 0 = omega arith in
-    joined (subst (λ (i : ℕ). Joining a.panel (monomials_of a.names) (record { m = k.set.0; len = k.set.1.0; few = k.invariant.few }) i) at k.invariant.joining) _ c.record_of.ensures

@@ -8,7 +8,7 @@ use Rattle.wiring.specs.Panel.{cards}
 use Rattle.wiring.specs.Sets.{monomials_of}
 use Rattle.wiring.proofs.signals.Arrays.{array_length}
 use Rattle.thin.proofs.subsets.Listing.{begun_none}
-use Rattle.thin.proofs.subsets.Sifting.{set_size, set_recorded, sifted_not, sifted_larger, sifting_passed, sifting_smaller, sifting_alike}
+use Rattle.thin.proofs.subsets.Sifting.{set_size, sifted_not, sifted_larger, sifting_passed, sifting_smaller, sifting_alike}
 use borrow.Author.Rules.{rules}
 use Rattle.thin.proofs.subsets.sift.Goals as goal
 
@@ -27,9 +27,6 @@ returns-then-order-size c =
     sifting_passed a.n a.terms.now (monomials_of a.set) a.best a.out.now c.requires.1.counted
     (λ t h. sifted_larger _ _ t _ yes (omega (arith, c.if-order-size.true, size, h.order)))
 
-pub join-requires : goal.join-requires
-join-requires c = set_recorded c.args.n c.args.terms.now c.args.set c.requires.0
-
 pub returns-then-size-order : goal.returns-then-size-order
 returns-then-size-order c =
     let full : length c.args.set.m ≡ cards = search (rules, array_length) in
@@ -39,9 +36,6 @@ returns-then-size-order c =
     let blank = begun_none c.clear.new.out (c.clear.ensures ∙ ap (λ (k : ℕ). replicate k 0) (sym c.clear.auto.out)) in
     sifting_smaller a.n a.terms.now (monomials_of a.set) a.best a.out.now c.requires.1.counted yes a.set.len size c.if-size-order.true
     c.join.new.out (c.join.ensures [] refl blank)
-
-pub join-requires-2 : goal.join-requires-2
-join-requires-2 c = set_recorded c.args.n c.args.terms.now c.args.set c.requires.0
 
 pub returns : goal.returns
 returns c =

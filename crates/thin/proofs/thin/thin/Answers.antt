@@ -1,7 +1,6 @@
 -- `thin` meets its contract: what is not taken is refused over zeros, and the set that is taken is judged and thinned. Assumes nothing.
 use mathlib.Core.Path.{sym, ap, ◌∙◌}
-use Prim.Native.Nat.{ℕ}
-use lib.ListN.{length, replicate}
+use lib.ListN.{length}
 use Rattle.wiring.specs.Sockets.{panel_of}
 use Rattle.wiring.specs.Reply.{outcome}
 use Rattle.thin.proofs.thin.Laws.{thinned_refused, thinned_given}
@@ -13,11 +12,6 @@ returns-in-Err c =
     let no = c.in-Err.ensures in
     ap (outcome c.in-Err.said) c.clear.ensures
     ∙ sym (thinned_refused (panel_of a.n a.marks a.degree) a.terms.now a.set.now (length a.out.now) c.in-Err.said no.says no.code)
-
-pub thin_judged-requires : goal.thin_judged-requires
-thin_judged-requires c =
-    let cleared = c.clear in
-    (c.in-Ok.ensures.judgeable, cleared.ensures ∙ ap (λ (k : ℕ). replicate k 0) (sym cleared.auto.out))
 
 pub returns-in-Ok : goal.returns-in-Ok
 returns-in-Ok c =

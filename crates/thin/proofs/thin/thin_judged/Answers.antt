@@ -16,9 +16,6 @@ use Rattle.thin.specs.Thin.{thinning, thinned_by}
 use Rattle.thin.proofs.thin.Laws.{by_refused, by_done}
 use Rattle.thin.proofs.thin.thin_judged.Goals as goal
 
-pub verdict_of-said-requires : goal.verdict_of-said-requires
-verdict_of-said-requires c = c.requires.0
-
 pub returns-in-NotQuadratic : goal.returns-in-NotQuadratic
 returns-in-NotQuadratic c =
     let a = c.args in
@@ -30,9 +27,6 @@ returns-in-NotQuadratic c =
     let judges = says_missing a.n fs (monomials_of a.set) 0 said.result said.ensures _ _ not in
     let code = ap (λ (r : Reply). (numbers r).code) not in
     ap (outcome said.result) c.requires.1 ∙ sym (by_refused said.result ends size (λ z. omega arith)) ∙ ap (λ (r : Reply). thinned_by r ends size) judges.1
-
-pub thin_set-requires : goal.thin_set-requires
-thin_set-requires c = c.requires
 
 pub returns : goal.returns
 returns c =

@@ -187,11 +187,10 @@ pairs-loop-held-init t c =
     let standing : Standing u m c.start-at.result.rest c.start-at.result.a.e c.start-at.result.listed = rw (at.cheap, at.first, at.none) (standing_start u m false (one width) one_first) in
     (running_start (kit_rules a.f.now.panel) a.f.now.panel.n a.f.now.system.terms.now a.f.now.level a.f.now.limit a.set.now a.m.e a.st a.out.now _ order, (standing, (λ e. at.cheap, (refl, refl))))
 
-pub pairs-find-p-requires : goal.pairs-find-p-requires
-pairs-find-p-requires t c =
+pub pairs-find-p-requires-clause-proper : goal.pairs-find-p-requires-clause-proper
+pairs-find-p-requires-clause-proper t c =
     let a = c.args in
-    let proper = gap_proper a.f.now.panel.n a.f.now.system.terms.now a.f.now.level a.set.now a.m.e a.st.count a.out.now c.args.f.now.system.clean c.requires.ready c.requires.splits in
-    record { few = c.requires.ready.opening.few; proper = proper; stands = c.loop-held.invariant.1.0; asked = c.loop-held.invariant.1.1.0 }
+    gap_proper a.f.now.panel.n a.f.now.system.terms.now a.f.now.level a.set.now a.m.e a.st.count a.out.now a.f.now.system.clean c.requires.ready c.requires.splits
 
 -- ---- its end: all pairs were listed, or the rest is passed by
 pub pairs-returns-then-all : goal.pairs-returns-then-all
@@ -225,14 +224,6 @@ pairs-returns-then-f-cur t c =
     let k = (goal.at.pairs-returns-then-f-cur t c).After-find-p in
     let a = c.args in
     running_spent (kit_rules a.f.now.panel) a.f.now.panel.n a.f.now.system.terms.now a.f.now.level a.f.now.limit a.set.now a.m.e a.st a.out.now (seen_runs t k c.in-Some.held c.in-Some.is) (omega (arith, c.if-f-cur.true))
-
-pub pairs-slice_bounds-offer-end : goal.pairs-slice_bounds-offer-end
-pairs-slice_bounds-offer-end t c = sym c.loop-held.invariant.1.1.1.1
-
-pub pairs-over-requires : goal.pairs-over-requires
-pairs-over-requires t c =
-    let picked : Picked (signals_at c.args.f.now.panel.n c.args.set.now) c.args.m.e c.find-p.result.at c.in-Some.held = rw c.in-Some.is at c.find-p.ensures.picked in
-    picked.divisor
 
 pub pairs-offer-requires : goal.pairs-offer-requires
 pairs-offer-requires t c =
