@@ -93,7 +93,8 @@ fn tally_at(
     met
 }
 
-// How many quotients occur so often, up to the cap. One that is first met where too few are left does not.
+// How many quotients occur so often, up to the cap. One that is first met where too few are left does not. That no member of V occurs twice stays a clause, here and
+// below: Members are made of any set.
 fn frequent(panel: Panel, list: &[u8], v: Members, often: usize, cap: usize) -> usize
     requires few { v.n ≤ width }
     requires some { 0 < often }

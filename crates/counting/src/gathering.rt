@@ -19,7 +19,8 @@ use wiring::signals::Members;
 use wiring::system::System;
 use wiring::{choice, signals};
 
-// The list with m in it, once: how many it lists then; none, where they are more than it may hold.
+// The list with m in it, once: how many it lists then; none, where they are more than it may hold. The list is lent to one set after the other, in fixed memory,
+// so its length goes beside it.
 fn note(list: &mut [u8], len: usize, most: usize, m: Monomial) -> Option<usize>
     requires { Lent most len list.old }
     ensures { Notes (m.e ∷ listed len list.old) most result list.new }

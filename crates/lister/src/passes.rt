@@ -13,7 +13,8 @@ use wiring::signals::Members;
 // Of more pairs V is asked which are cheap; up to so many are gone through sooner.
 pub const FEW: u64 = 32;
 
-// Where the lister stands: among the cheap pairs or the rest, at a divisor, with so many of that kind listed. many: the cheap ones are found by V.
+// Where the lister stands: among the cheap pairs or the rest, at a divisor, with so many of that kind listed. many: the cheap ones are found by V. Which kind is
+// a flag, as `of_kind` and all that is said of pairs has it.
 #[derive(Clone, Copy)]
 pub struct Place {
     pub rest: bool,
@@ -70,7 +71,8 @@ pub fn left(m: Monomial, listed: u64) -> u64
     count(m) - listed
 }
 
-// Goes through the pairs from a place on, to the first of its kind.
+// Goes through the pairs from a place on, to the first of its kind. That the place is one on the way stays a clause, here and below: it is a fact of V, m and the
+// place together, which no one value carries.
 fn seek(v: Members, m: Monomial, from: Place) -> Hand
     requires proper { Proper m.e }
     requires stands { Standing (signals_at v.n v.set.now) m.e from.rest from.a.e from.listed }

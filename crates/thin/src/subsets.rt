@@ -41,6 +41,7 @@ fn is_quadratic(n: usize, terms: &[u8], set: Set) -> bool
 }
 
 // Writes a set behind the first `count` of the list, where there is room. Without room it is only counted: a smaller set may yet begin the list anew.
+// The buffer is the caller's, as include/planner.h declares it, so a count goes beside it.
 fn join(out: &mut [u8], count: usize, set: Set)
     requires { Wide (monomials_of set) }
     ensures { (l : Finds) → count ≡ length l → Begun l out.old → Begun (l ++ (monomials_of set ∷ [])) out.new }

@@ -54,7 +54,7 @@ fn put_names(known: Known, a: u64, b: u64, line: &mut Line<LISTED_BYTES>)
     }
 }
 
-// A coefficient, 0 where none is written, and names.
+// A coefficient, 0 where none is written, and names. No Option, here and below: `body_text` of the grammar holds 0 itself to be none.
 fn put_body(known: Known, c: u64, a: u64, b: u64, line: &mut Line<LISTED_BYTES>)
     requires first { a ≤ 18 }
     requires second { b ≤ 18 }

@@ -16,7 +16,7 @@ use monomial::width::WIDTH;
 use wiring::panel::Panel;
 use wiring::{buffer, sockets};
 
-// Puts m in its place among the first len monomials, which ascend and lack it.
+// Puts m in its place among the first len monomials, which ascend and lack it. One buffer in fixed memory serves children of any size, so a length goes beside it.
 fn put_in(s: &mut [u8], len: usize, m: Monomial)
     requires { width * len + width ≤ length s.old }
     ensures { Ascending before (listed len s.old) → any (same m.e) (listed len s.old) ≡ false →

@@ -7,6 +7,9 @@ ghost use Rattle.wiring.specs.Sets.{set_record};
 ghost use Rattle.walk.specs.Walk.{Finds, kept};
 ghost use Rattle.walk.specs.Listing.{Lies, Shown, Compares, Sought, KeptAs};
 
+// The buffer is the caller's, as include/planner.h declares it, and the walk's state says how many finds it holds: so a count goes beside it. That a set lies whole
+// in its bytes stays a clause: a type for it would be built in `keep` alone.
+
 use std::cmp::Ordering;
 use wiring::panel::SET_BYTES;
 

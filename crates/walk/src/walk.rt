@@ -3,14 +3,13 @@ ghost use Rattle.std.specs.Prelude.{true, false, ℕ, ◌+◌, ◌-◌, ◌/◌,
 ghost use Rattle.wiring.specs.Panel.{set_bytes};
 ghost use Rattle.wiring.specs.Terms.{records, system};
 ghost use Rattle.wiring.specs.Signals.{tabled};
-ghost use Rattle.counting.specs.Verdict.{list_bytes};
 ghost use Rattle.walk.specs.Walk.{Finds, kit_rules, opened, tried_all, run, kept};
 ghost use Rattle.walk.specs.Listing.{Shown};
 ghost use Rattle.walk.specs.Turns.{Tells, Openable, Ready, Splits, Found, Weighed, Stepped, PassedBy};
 
 use super::{children, listing};
 use counting::verdict;
-use counting::verdict::Verdict;
+use counting::verdict::{LIST_BYTES, Verdict};
 use lister::passes;
 use monomial::Monomial;
 use monomial::width::WIDTH;
@@ -61,9 +60,8 @@ fn found(out: &mut [u8], set: &[u8], st: State) -> Result<State, Stop>
 }
 
 // Whether a set is found, and else whether it goes on and with which nonsquare. At its level it only may be found: nothing is counted there.
-fn judge(f: &Frame, list: &mut [u8], set: &[u8]) -> Verdict
+fn judge(f: &Frame, list: &mut [u8; LIST_BYTES], set: &[u8]) -> Verdict
     requires openable { Openable f.now.panel.n f.now.level set.now }
-    requires lent { list_bytes ≤ length list.old }
     ensures { Weighed (kit_rules f.now.panel) f.now.panel.n f.now.system.terms.now f.now.level set.now result }
 {
     let v = Members { n: f.panel.n, set };
@@ -81,12 +79,11 @@ fn judge(f: &Frame, list: &mut [u8], set: &[u8]) -> Verdict
 fn take_step(
     f: &Frame,
     out: &mut [u8],
-    list: &mut [u8],
+    list: &mut [u8; LIST_BYTES],
     set: &[u8],
     st: State,
 ) -> Result<Opened, Stop>
     requires ready { Ready f.now.panel.n f.now.level set.now st.count out.old }
-    requires lent { list_bytes ≤ length list.old }
     ensures { Stepped (kit_rules f.now.panel) f.now.panel.n f.now.system.terms.now f.now.level f.now.limit set.now st out.old result out.new }
 {
     let taken = st.steps;
@@ -118,12 +115,11 @@ fn take_step(
 pub(crate) fn open(
     f: &Frame,
     out: &mut [u8],
-    list: &mut [u8],
+    list: &mut [u8; LIST_BYTES],
     set: &[u8],
     st: State,
 ) -> Result<State, Stop>
     requires ready { Ready f.now.panel.n f.now.level set.now st.count out.old }
-    requires lent { list_bytes ≤ length list.old }
     ensures { (d : ℕ) (finds : Finds) → f.now.level - length (tabled set.now) < d → Shown finds st.count out.old →
         Tells result out.new
         (run f.now.limit (length out.old / set_bytes) (opened (kit_rules f.now.panel) f.now.panel.n (system (records f.now.system.terms.now)) f.now.level d (tabled set.now)) st.steps finds) }
@@ -157,14 +153,13 @@ fn pass_by(limit: u64, st: State, pairs: u64) -> Result<State, Stop>
 fn pairs(
     f: &Frame,
     out: &mut [u8],
-    list: &mut [u8],
+    list: &mut [u8; LIST_BYTES],
     set: &[u8],
     m: Monomial,
     st: State,
 ) -> Result<State, Stop>
     requires ready { Ready f.now.panel.n f.now.level set.now st.count out.old }
     requires splits { Splits f.now.panel.n f.now.system.terms.now f.now.level set.now m.e }
-    requires lent { list_bytes ≤ length list.old }
     ensures { (d : ℕ) (finds : Finds) → f.now.level - length (tabled set.now) ≤ d → Shown finds st.count out.old →
         Tells result out.new
         (run f.now.limit (length out.old / set_bytes)

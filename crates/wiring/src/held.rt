@@ -5,7 +5,8 @@ ghost use Rattle.wiring.specs.Panel.{cards, most_signals};
 use super::panel::{CARDS, MOST_SIGNALS};
 use monomial::Monomial;
 
-// At most as many monomials as there are cards.
+// At most as many monomials as there are cards. An array and a length, here and below: there is no heap, and a copy of a vector in fixed memory can fail, which
+// no operation may.
 #[derive(Clone, Copy)]
 pub struct Set {
     pub m: [Monomial; CARDS],

@@ -18,7 +18,7 @@ pub enum Reply {
     FalseLine { place: u64 },
 }
 
-// Code, order, count, steps and place of a reply.
+// Code, order, count, steps and place of a reply. A function by this name: what is promised of the functions for C cites it.
 pub fn numbers(r: Reply) -> [u64; 5]
     ensures { result ≡ in_order (numbers r) }
 {

@@ -57,7 +57,7 @@ fn coefficient_right(c: i32) -> bool
     c != 0 && (LEAST_COEFFICIENT..=MOST_COEFFICIENT).contains(&c)
 }
 
-// Every field of record number t keeps its rule.
+// Every field of record number t keeps its rule. Records and a number, here and below: a `System` has only records that were asked this.
 #[tactic(auto, unfolding(crate::specs::Terms::term_right))]
 fn term_right(panel: Panel, terms: &[u8], t: usize) -> bool
     requires { term_bytes * t + term_bytes ≤ length terms.now }

@@ -14,15 +14,17 @@ use Rattle.walk.proofs.plan.climb.Goals as goal
 pub loop-k-init : goal.loop-k-init
 loop-k-init c =
     let a = c.args in
-    (climb_start (kit_rules a.panel) a.panel.n (system (records a.terms.now)) a.limit a.cap (length a.out.now) a.out.now refl c.requires.blank (omega arith), refl)
+    (climb_start (kit_rules a.panel) a.panel.n (system (records a.terms.now)) a.limit a.cap (length a.out.now) a.out.now refl c.requires.blank (omega arith))
 
-pub open-requires-clause-ready : goal.open-requires-clause-ready
-open-requires-clause-ready c =
+pub open-requires : goal.open-requires
+open-requires c =
     let p = c.requires in
     let k = c.loop-k in
     record {
-      opening = empty_openable c.args.panel.n k.k (omega (arith, p.capped, c.loop-k-test.true)) p.few;
-      showing = record { finds = []; shown = shown_none k.out k.invariant.0.blank };
+      ready = record {
+        opening = empty_openable c.args.panel.n k.k (omega (arith, p.capped, c.loop-k-test.true)) p.few;
+        showing = record { finds = []; shown = shown_none k.out k.invariant.blank };
+      };
     }
 
 pub returns-then-s-gt0 : goal.returns-then-s-gt0
@@ -32,7 +34,7 @@ returns-then-s-gt0 c =
     let low = c.loop-k-test.true in
     let a = c.args in
     let told = opening_at (kit_rules a.panel) a.panel.n (system (records a.terms.now)) a.limit a.cap (length a.out.now) k.k k.steps k.out r.result r.new.out _ tabled_none r.ensures in
-    climb_done k.invariant.0 low r.result r.new.out told r.auto.out c.in-Ok.s c.in-Ok.is c.if-s-gt0.true
+    climb_done k.invariant low r.result r.new.out told r.auto.out c.in-Ok.s c.in-Ok.is c.if-s-gt0.true
 
 pub returns-in-Spent : goal.returns-in-Spent
 returns-in-Spent c =
@@ -41,7 +43,7 @@ returns-in-Spent c =
     let low = c.loop-k-test.true in
     let a = c.args in
     let told = opening_at (kit_rules a.panel) a.panel.n (system (records a.terms.now)) a.limit a.cap (length a.out.now) k.k k.steps k.out r.result r.new.out _ tabled_none r.ensures in
-    climb_spent k.invariant.0 low r.result r.new.out told r.auto.out _ c.clear.ensures (c.in-Err.is ∙ ap Err c.in-Spent.is)
+    climb_spent k.invariant low r.result r.new.out told r.auto.out _ c.clear.ensures (c.in-Err.is ∙ ap Err c.in-Spent.is)
 
 pub returns-in-Full : goal.returns-in-Full
 returns-in-Full c =
@@ -50,7 +52,7 @@ returns-in-Full c =
     let low = c.loop-k-test.true in
     let a = c.args in
     let told = opening_at (kit_rules a.panel) a.panel.n (system (records a.terms.now)) a.limit a.cap (length a.out.now) k.k k.steps k.out r.result r.new.out _ tabled_none r.ensures in
-    climb_full k.invariant.0 low r.result r.new.out told r.auto.out _ c.clear.ensures c.in-Full.steps (c.in-Err.is ∙ ap Err c.in-Full.is)
+    climb_full k.invariant low r.result r.new.out told r.auto.out _ c.clear.ensures c.in-Full.steps (c.in-Err.is ∙ ap Err c.in-Full.is)
 
 pub loop-k-preserved : goal.loop-k-preserved
 loop-k-preserved c =
@@ -59,7 +61,7 @@ loop-k-preserved c =
     let low = c.loop-k-test.true in
     let a = c.args in
     let told = opening_at (kit_rules a.panel) a.panel.n (system (records a.terms.now)) a.limit a.cap (length a.out.now) k.k k.steps k.out r.result r.new.out _ tabled_none r.ensures in
-    (climb_on k.invariant.0 low r.result r.new.out told r.auto.out c.in-Ok.s c.in-Ok.is c.if-s-gt0.false, r.auto.list ∙ k.invariant.1)
+    (climb_on k.invariant low r.result r.new.out told r.auto.out c.in-Ok.s c.in-Ok.is c.if-s-gt0.false)
 
 pub returns : goal.returns
-returns c = climb_none c.loop-k.invariant.0 c.loop-k-test.false
+returns c = climb_none c.loop-k.invariant c.loop-k-test.false

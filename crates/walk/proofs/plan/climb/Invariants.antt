@@ -2,10 +2,9 @@
 use mathlib.Core.Path.{◌≡◌}
 use lib.ListN.{length}
 use Rattle.wiring.specs.Terms.{records, system}
-use Rattle.counting.specs.Verdict.{list_bytes}
 use Rattle.walk.specs.Walk.{kit_rules}
 use Rattle.walk.proofs.plan.Laws.{Climbing}
 use Rattle.walk.proofs.plan.climb.Given as goal
 
 abbrev pub invariant-loop-k : goal.invariant-loop-k
-invariant-loop-k l = Climbing (kit_rules l.panel) l.panel.n (system (records l.terms)) l.limit l.cap (length l.initial.out) l.k l.steps l.out × (length l.list ≡ list_bytes)
+invariant-loop-k l = Climbing (kit_rules l.panel) l.panel.n (system (records l.terms)) l.limit l.cap (length l.initial.out) l.k l.steps l.out

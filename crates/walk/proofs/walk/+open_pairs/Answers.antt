@@ -43,7 +43,7 @@ open-pairs-requires t c =
       step,
       (
         split_ready r a.f.now.panel.n a.f.now.system.terms.now a.f.now.level a.f.now.limit a.set.now a.st a.out.now c.requires.ready _ _ _ sp,
-        (split_member r a.f.now.panel.n a.f.now.system.terms.now a.f.now.level a.f.now.limit a.set.now a.st a.out.now c.requires.ready _ _ _ sp, omega (arith, c.take_step.auto.list, c.requires.lent)),
+        split_member r a.f.now.panel.n a.f.now.system.terms.now a.f.now.level a.f.now.limit a.set.now a.st a.out.now c.requires.ready _ _ _ sp,
       ),
     )
 
@@ -118,7 +118,7 @@ module _ (t : ℕ) (c : pairs-After-offer t) where
   nursery = c.offer.new.next
 
   nursery_long : length nursery ≡ set_bytes
-  nursery_long = c.offer.auto.next ∙ c.loop-held.invariant.1.1.1.1
+  nursery_long = c.offer.auto.next ∙ c.loop-held.invariant.1.1.1
 
   offered_child : Child test offspring c.offer.result nursery
   offered_child =
@@ -185,7 +185,7 @@ pairs-loop-held-init t c =
     let one_first : one width ≡ one (length m) = ap one (sym wide) in
     let order : list_from u m b c.start-at.result.rest c.start-at.result.a.e ++ put_off u m b ≡ cheap_first u m = rw (at.cheap, at.first) (listed_first u m b (one width) one_first) in
     let standing : Standing u m c.start-at.result.rest c.start-at.result.a.e c.start-at.result.listed = rw (at.cheap, at.first, at.none) (standing_start u m false (one width) one_first) in
-    (running_start (kit_rules a.f.now.panel) a.f.now.panel.n a.f.now.system.terms.now a.f.now.level a.f.now.limit a.set.now a.m.e a.st a.out.now _ order, (standing, (λ e. at.cheap, (refl, refl))))
+    (running_start (kit_rules a.f.now.panel) a.f.now.panel.n a.f.now.system.terms.now a.f.now.level a.f.now.limit a.set.now a.m.e a.st a.out.now _ order, (standing, (λ e. at.cheap, refl)))
 
 pub pairs-find-p-requires-clause-proper : goal.pairs-find-p-requires-clause-proper
 pairs-find-p-requires-clause-proper t c =
@@ -230,7 +230,7 @@ pairs-offer-requires t c =
     let p = c.requires.ready.opening in
     let picked : Picked (signals_at c.args.f.now.panel.n c.args.set.now) c.args.m.e c.find-p.result.at c.in-Some.held = rw c.in-Some.is at c.find-p.ensures.picked in
     record {
-      growing = record { whole = p.whole; within = p.within; low = p.low; room = omega (arith, c.loop-held.invariant.1.1.1.1); ascending = p.walked.recorded.ascending };
+      growing = record { whole = p.whole; within = p.within; low = p.low; room = omega (arith, c.loop-held.invariant.1.1.1); ascending = p.walked.recorded.ascending };
       holds = subst (λ (b : Mono). Holds (signals_at c.args.f.now.panel.n c.args.set.now) (c.find-p.result.at.a.e, b) c.in-Some.held) (sym c.over.ensures) picked.held;
     }
 
@@ -262,7 +262,7 @@ pairs-open-requires t c =
     (in_hand t o) (offered_member t o) (kit_rules a.f.now.panel) c.in-Some-offer.len (nursery t o) (offered_born t o _ is) (omega (arith, nursery_long t o)) turn.cur.count turn.out showing in
     let step : 2 * (a.f.now.level - length (listed c.in-Some-offer.len (nursery t o))) + 1 < t =
     omega (arith, c.decreases, offered_more t o _ is, offered_within t o _ is, offered_long t o _ is) in
-    (step, (ready, omega (arith, turn.invariant.1.1.1.0, c.requires.lent)))
+    (step, ready)
 
 pub pairs-returns-in_err-cur : goal.pairs-returns-in_err-cur
 pairs-returns-in_err-cur t c =
@@ -293,15 +293,15 @@ pairs-loop-held-preserved t c =
       | pairs-in-Some-offer+in_ok-cur w ↦
           let is = w.in-Some-offer.is in
           let told = offered_told t o _ is (Ok w.in_ok-cur.cur) w.«open».new.out w.in_ok-cur.ensures in
-          rw (c.behind-at.ensures.rest, c.behind-at.ensures.next, c.behind-at.ensures.listed, w.out-is, w.list-is, w.cur-is) (
+          rw (c.behind-at.ensures.rest, c.behind-at.ensures.next, c.behind-at.ensures.listed, w.out-is, w.cur-is) (
             running_going (kit_rules a.f.now.panel) a.f.now.panel.n a.f.now.system.terms.now a.f.now.level a.f.now.limit a.set.now a.m.e a.st a.out.now runs
                 w.in-Some-offer.len (offered_more t o _ is) c.requires.splits.below (offered_low t o) (offered_born t o _ is).0 w.in_ok-cur.cur w.«open».new.out w.«open».auto.out told,
-            (standing, (cheap, (w.«open».auto.list ∙ c.loop-held.invariant.1.1.1.0, nursery_long t o))),
+            (standing, (cheap, nursery_long t o)),
           )
       | pairs-in_default-offer w ↦
           let none : c.offer.result ≡ None = let h = w.in_default-offer in search rules in
-          rw (c.behind-at.ensures.rest, c.behind-at.ensures.next, c.behind-at.ensures.listed, w.out-is, w.list-is, w.cur-is) (
+          rw (c.behind-at.ensures.rest, c.behind-at.ensures.next, c.behind-at.ensures.listed, w.out-is, w.cur-is) (
             running_shut (kit_rules a.f.now.panel) a.f.now.panel.n a.f.now.system.terms.now a.f.now.level a.f.now.limit a.set.now a.m.e a.st a.out.now runs _ refl refl (offered_low t o) (offered_shut t o none),
-            (standing, (cheap, (c.loop-held.invariant.1.1.1.0, nursery_long t o))),
+            (standing, (cheap, nursery_long t o)),
           )
     ]

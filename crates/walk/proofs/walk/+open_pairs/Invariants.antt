@@ -24,7 +24,7 @@ invariant-pairs-loop-held l =
     Running (kit_rules l.f.panel) l.f.panel.n l.f.system.terms.now l.f.level l.f.limit l.set l.m.e l.initial.cur l.initial.out
     (list_from (signals_at l.f.panel.n l.set) l.m.e l.all l.at.rest l.at.a.e ++ put_off (signals_at l.f.panel.n l.set) l.m.e l.all) l.cur l.out
     × (Standing (signals_at l.f.panel.n l.set) l.m.e l.at.rest l.at.a.e l.at.listed
-    × ((l.all ≡ false → l.at.rest ≡ false) × ((length l.list ≡ length l.initial.list) × (length l.child ≡ set_bytes))))
+    × ((l.all ≡ false → l.at.rest ≡ false) × (length l.child ≡ set_bytes)))
 
 abbrev pub decreases-pairs-loop-held : goal.decreases-pairs-loop-held
 decreases-pairs-loop-held l = length (list_from (signals_at l.f.panel.n l.set) l.m.e l.all l.at.rest l.at.a.e)
