@@ -71,14 +71,13 @@ fn ends_line(said: Saying) -> bool
 }
 
 // A term that is whole is added up.
-fn add_ended(v: Signals, totals: Sums, t: Telling, said: Saying) -> Sums
-    requires { Adding v totals t }
-    ensures { (line : List Product) → Summed (signals_of v) line totals → Summed (signals_of v) (with_term said line (product_of t)) result }
+fn add_ended(v: Signals, totals: &mut Sums, t: Telling, said: Saying)
+    requires { Adding v totals.old t }
+    ensures { (line : List Product) → Summed (signals_of v) line totals.old → Summed (signals_of v) (with_term said line (product_of t)) totals.new }
 {
     if ends_term(said) {
-        return sums::add(v, totals, t.a, t.b, t.negative, t.number);
+        sums::add(v, totals, t.a, t.b, t.negative, t.number);
     }
-    totals
 }
 
 // The first line of a readable text that is false, by its number in the text.
@@ -93,10 +92,10 @@ pub(crate) fn judge_lines(known: Known, s: System, v: Signals, text: &[u8]) -> R
     let mut line: u64 = 0;
     for &x in text {
         let said = saying::say(known, g, x);
-        totals = add_ended(v, totals, t, said);
+        add_ended(v, &mut totals, t, said);
         if ends_line(said) {
             let left = machine::left_of(known, names, line).unwrap() as usize;
-            if !sums::is_true(s, v, left, totals) {
+            if !sums::is_true(s, v, left, &totals) {
                 return Err(Broken {
                     place: names + 3 + line,
                 });

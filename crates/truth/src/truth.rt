@@ -58,38 +58,36 @@ fn coefficient_of(negative: bool, number: u64) -> i64
 }
 
 // One term more: the product of signals a and b.
-pub fn add(v: Signals, sums: Sums, a: usize, b: usize, negative: bool, number: u64) -> Sums
+pub fn add(v: Signals, sums: &mut Sums, a: usize, b: usize, negative: bool, number: u64)
     requires fits { Fitting set_exponent (signals_of v) }
     requires first { a < v.len }
     requires second { b < v.len }
     requires limited { number ≤ most_number }
-    requires bounded { Bounded most_sum sums }
-    ensures { (line : List Product) → Summed (signals_of v) line sums →
-        Summed (signals_of v) (line ++ ((record { a = a; b = b; coefficient = signed negative number }) ∷ [])) result }
+    requires bounded { Bounded most_sum sums.old }
+    ensures { (line : List Product) → Summed (signals_of v) line sums.old →
+        Summed (signals_of v) (line ++ ((record { a = a; b = b; coefficient = signed negative number }) ∷ [])) sums.new }
 {
     let at = cell_of(v, v.m[a].times(v.m[b]));
-    let mut cells = sums.cells;
-    cells[at] += coefficient_of(negative, number);
-    Sums { cells }
+    sums.cells[at] += coefficient_of(negative, number);
 }
 
 // Whether the line and the derivative of z have the same coefficient of m, which two signals multiply to.
-fn agrees(s: System, v: Signals, sums: Sums, z: Monomial, m: Monomial) -> bool
+fn agrees(s: System, v: Signals, sums: &Sums, z: Monomial, m: Monomial) -> bool
     requires fits { Fitting set_exponent (signals_of v) }
     requires small { AtMost set_exponent z.e }
     requires met { T (in_v2 plain (signals_of v) m.e) }
-    ensures { result ≡ agrees (signals_of v) sums (derivative plain (system (records s.entry.terms.now)) z.e) m.e }
+    ensures { result ≡ agrees (signals_of v) sums.now (derivative plain (system (records s.entry.terms.now)) z.e) m.e }
 {
     let told = sums.cells[cell_of(v, m)];
     told == i64::from(s.total(z, m))
 }
 
 // Whether they agree at the products of signal a with itself and the signals behind it: with those before it they stand in earlier rows.
-fn row_agrees(s: System, v: Signals, sums: Sums, z: Monomial, a: usize) -> bool
+fn row_agrees(s: System, v: Signals, sums: &Sums, z: Monomial, a: usize) -> bool
     requires fits { Fitting set_exponent (signals_of v) }
     requires small { AtMost set_exponent z.e }
     requires inside { a < v.len }
-    ensures { result ≡ row_agrees (signals_of v) sums (derivative plain (system (records s.entry.terms.now)) z.e) a }
+    ensures { result ≡ row_agrees (signals_of v) sums.now (derivative plain (system (records s.entry.terms.now)) z.e) a }
 {
     let x = v.m[a];
     (a..v.len).all(|b| agrees(s, v, sums, z, x.times(v.m[b])))
@@ -97,10 +95,10 @@ fn row_agrees(s: System, v: Signals, sums: Sums, z: Monomial, a: usize) -> bool
 
 // Whether the line with these sums is the derivative of signal number left: at every product of two signals, also those that only the line has, and
 // the derivative has no other monomial.
-pub fn is_true(s: System, v: Signals, left: usize, sums: Sums) -> bool
+pub fn is_true(s: System, v: Signals, left: usize, sums: &Sums) -> bool
     requires fits { Fitting set_exponent (signals_of v) }
     requires inside { left < v.len }
-    ensures { (line : List Product) → Told (signals_of v) line → Summed (signals_of v) line sums →
+    ensures { (line : List Product) → Told (signals_of v) line → Summed (signals_of v) line sums.now →
         result ≡ line_true (signals_of v) (system (records s.entry.terms.now)) left line }
 {
     let z = v.m[left];

@@ -6,6 +6,6 @@ pub returns-then-ends_term : goal.returns-then-ends_term
 unfolding with_term
 returns-then-ends_term c = λ line s. rw (← c.ends_term.ensures, c.if-ends_term.true) (c.add.ensures line s)
 
-pub returns : goal.returns
+pub returns-else-ends_term : goal.returns-else-ends_term
 unfolding with_term
-returns c = λ line s. rw (← c.ends_term.ensures, c.if-ends_term.false) s
+returns-else-ends_term c = λ line s. rw (← c.ends_term.ensures, c.if-ends_term.false) s

@@ -30,8 +30,8 @@ loop-x-init c = λ j.
 pub say-said-requires-clause-stands : goal.say-said-requires-clause-stands
 say-said-requires-clause-stands c = (c.loop-x.invariant c.requires).follows.stands
 
-pub add_ended-totals-requires : goal.add_ended-totals-requires
-add_ended-totals-requires c =
+pub add_ended-requires : goal.add_ended-requires
+add_ended-requires c =
     let p = c.requires in
     going_adds _ _ _ _ p (c.loop-x.invariant p) (omega arith)
 
@@ -73,7 +73,7 @@ returns-then-not-is_true c =
     let more : c.loop-x.x-index < length c.args.text.now = omega arith in
     let heard = c.say-said.ensures in
     let ended = going_ended _ _ _ _ p k more _ heard _ c.ends_line.ensures ∙ c.if-ends_line.true in
-    let sums = going_summed _ _ _ _ p k more _ heard _ c.add_ended-totals.ensures in
+    let sums = going_summed _ _ _ _ p k more _ heard _ c.add_ended.ensures in
     let count = going_named _ c.args.s.terms.now _ _ p in
     let left = the_signal _ _ _ c.unwrap-left.ensures c.left_of.ensures.number in
     let told = going_verdict _ _ _ _ p k more ended _ sums _ _ count left _ c.is_true.ensures in
@@ -96,7 +96,7 @@ loop-x-preserved c = λ p.
     let more : c.loop-x.x-index < length c.args.text.now = omega arith in
     let heard = c.say-said.ensures in
     let ends = going_ended _ _ _ _ p k more _ heard _ c.ends_line.ensures in
-    let sums = going_summed _ _ _ _ p k more _ heard _ c.add_ended-totals.ensures in
+    let sums = going_summed _ _ _ _ p k more _ heard _ c.add_ended.ensures in
     let says = going_says _ _ _ _ p k more _ heard _ c.note-t.ensures in
     let count = going_named _ c.args.s.terms.now _ _ p in
     elim c.if-ends_line.branch [

@@ -25,20 +25,20 @@ cell_of-at-requires c =
     let room : length v.m ≡ most_signals = search (rules, array_length) in
     record { fits = c.requires.fits; met = product_met v room c.requires.fits c.args.a c.args.b c.requires.first c.requires.second _ c.times.ensures }
 
-pub overflow_add-cells : goal.overflow_add-cells
-overflow_add-cells c =
+pub overflow_add-sums : goal.overflow_add-sums
+overflow_add-sums c =
     let at = c.cell_of-at.result in
     let q = c.coefficient_of in
-    sum_fits (held c.args.sums at) q.result (c.requires.bounded at) (rw q.ensures (signed_small _ _ c.requires.limited))
+    sum_fits (held c.args.sums.now at) q.result (c.requires.bounded at) (rw q.ensures (signed_small _ _ c.requires.limited))
 
 pub returns : goal.returns
 returns c =
     let v = c.args.v in
     let at = c.cell_of-at.result in
     let q = c.coefficient_of in
-    let old = held c.args.sums at in
+    let old = held c.args.sums.now at in
     let room : length v.m ≡ most_signals = search (rules, array_length) in
-    let cells : length c.args.sums.cells ≡ pair_cells = search rules in
+    let cells : length c.args.sums.now.cells ≡ pair_cells = search rules in
     let wide = c.requires.fits in
     let ha = c.requires.first in
     let hb = c.requires.second in
@@ -47,4 +47,4 @@ returns c =
     let cell_is = c.cell_of-at.ensures.value ∙ ap (cell (signals_of v)) product in
     let sum = sum_is old q.result (c.requires.bounded at) (rw q.ensures (signed_small _ _ c.requires.limited)) ∙ ap (λ (x : ℤ). old +ℤ x) q.ensures in
     λ line h. summed_next (signals_of v) (omega (arith, long v room wide)) line _ (within v room wide c.args.a ha) (within v room wide c.args.b hb)
-    c.args.sums _ at cell_is (omega (arith, cells, c.cell_of-at.ensures.inside)) (ap (set c.args.sums.cells at) sum) number h
+    c.args.sums.now _ at cell_is (omega (arith, cells, c.cell_of-at.ensures.inside)) (ap (set c.args.sums.now.cells at) sum) number h

@@ -23,7 +23,7 @@ returns c =
     let long : length z ≡ width = search rules in
     let small = c.requires.small in
     let at = c.cell_of in
-    let told : SFits w64 (held c.args.sums at.result) = search (rules, cell_fits) in
+    let told : SFits w64 (held c.args.sums.now at.result) = search (rules, cell_fits) in
     let total = c.from.ensures ∙ total_held terms c.args.s.clean z m long small _ c.total.ensures in
     let fits : SFits w64 c.from.result = rw total (size_fits w64 _ (omega (arith, total_fits terms c.args.s.clean z m long small))) in
-    bits_same _ _ told fits ∙ ap₂ (λ (x y : ℤ). is_zero (x -ℤ y)) (ap (held c.args.sums) at.ensures.value) total
+    bits_same _ _ told fits ∙ ap₂ (λ (x y : ℤ). is_zero (x -ℤ y)) (ap (held c.args.sums.now) at.ensures.value) total

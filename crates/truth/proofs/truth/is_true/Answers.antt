@@ -33,13 +33,13 @@ lacks_pair-requires-clause-small c =
     small v room c.requires.fits c.args.left c.requires.inside
 
 -- what asking every row has found
-asked : (c : After-all) → c.all.result ≡ all_agree (signals_of c.args.v) c.args.sums (derivative plain (system (records c.args.s.terms.now)) (entry c.args.v.m c.args.left))
+asked : (c : After-all) → c.all.result ≡ all_agree (signals_of c.args.v) c.args.sums.now (derivative plain (system (records c.args.s.terms.now)) (entry c.args.v.m c.args.left))
 asked c =
     let v = c.args.v in
     let room : length v.m ≡ most_signals = search (rules, array_length) in
     let p = derivative plain (system (records c.args.s.terms.now)) (entry v.m c.args.left) in
-    all_from_yields_List (row_agrees (signals_of v) c.args.sums p) _ _ c.all.result c.all.ensures.ran (YieldsList-from_range 0 v.len _ refl refl) (λ a r q k. search (rules, tests))
-    ∙ rows_asked (signals_of v) c.args.sums p _ (omega (arith, long v room c.requires.fits))
+    all_from_yields_List (row_agrees (signals_of v) c.args.sums.now p) _ _ c.all.result c.all.ensures.ran (YieldsList-from_range 0 v.len _ refl refl) (λ a r q k. search (rules, tests))
+    ∙ rows_asked (signals_of v) c.args.sums.now p _ (omega (arith, long v room c.requires.fits))
 
 pub returns-then-all : goal.returns-then-all
 unfolding unmet

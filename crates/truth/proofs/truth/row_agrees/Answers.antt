@@ -34,7 +34,7 @@ returns c =
     let v = c.args.v in
     let p = c.requires in
     let room : length v.m ≡ most_signals = search (rules, array_length) in
-    let test : Mono → Bool = agrees (signals_of v) c.args.sums (derivative plain (system (records c.args.s.terms.now)) c.args.z.e) in
+    let test : Mono → Bool = agrees (signals_of v) c.args.sums.now (derivative plain (system (records c.args.s.terms.now)) c.args.z.e) in
     let found = all_from_yields_List (λ b. test (mul (entry v.m c.args.a) (entry v.m b))) _ _ c.all.result c.all.ensures.ran (YieldsList-from_range c.args.a v.len _ refl refl) (λ b r q k. search (rules, tests)) in
     found ∙ all_from (plain.one 0) _ (λ y. test (mul _ y)) (signals_of v) c.args.a _ (omega (arith, long v room p.fits))
     (λ b low high. ap test (product_is v room p.fits c.args.a b p.inside (omega (arith, long v room p.fits)) _ refl))
