@@ -1,5 +1,5 @@
 // The functions that C calls. A slice is a pointer and a length, and the five numbers (code, order, count, steps, place) go to the caller's place.
-// None asks anything of its caller beyond that a slice is one.
+// None asks anything of its caller beyond that a slice is one. They differ in the operation alone: include/planner.h declares each.
 ghost use Rattle.std.specs.Prelude.{◌≡◌, length};
 ghost use Rattle.wiring.specs.Sockets.{panel_of};
 ghost use Rattle.wiring.specs.Answers.{wired};

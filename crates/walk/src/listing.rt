@@ -53,15 +53,16 @@ fn place_of(s: &[u8], count: usize, set: &[u8]) -> Option<usize>
     Some(count)
 }
 
-// Writes the record of the set over the bytes from at on: the bytes of its monomials, and zeros behind them.
+// Writes the record of the set over the bytes from at on: the bytes of its monomials, and zeros behind them. One by one, and no `copy_from_slice`: that would
+// call memmove, and include/planner.h promises that nothing is called but memcpy and memset.
 fn put(out: &mut [u8], at: usize, set: &[u8])
     requires lies { Lies set.now }
     requires room { at + set_bytes ≤ length out.old }
     ensures { out.new ≡ paste out.old at (set_record (tabled set.now)) set_bytes }
 {
-    let end = at + set.len();
-    out[at..end].copy_from_slice(set);
-    out[end..at + SET_BYTES].fill(0);
+    for i in 0..SET_BYTES {
+        out[at + i] = byte_at(set, i);
+    }
 }
 
 // Keeps a found set, listed already or in its place, and gives the new count; none where there is no room.

@@ -1,5 +1,4 @@
 -- `climb` meets its contract: no set is found below level k, and the levels from k on are the plan (`Climbing`). Assumes nothing.
-use mathlib.Core.Path.{◌≡◌}
 use lib.ListN.{length}
 use Rattle.wiring.specs.Terms.{records, system}
 use Rattle.walk.specs.Walk.{kit_rules}
