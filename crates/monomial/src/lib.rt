@@ -17,7 +17,7 @@ ghost use Rattle.monomial.specs.Monomial.{one, constants, width};
 
 use width::{CONSTANTS, WIDTH};
 
-#[derive(Clone, Copy, PartialEq, Eq)]
+#[derive(Clone, Copy)]
 pub struct Monomial {
     pub e: [u8; WIDTH],
 }
