@@ -16,8 +16,8 @@
  * the `set` of a listing.
  *
  * Calls. There is no state behind them: they may run in any thread and at the same time. They take no heap, call
- * nothing but memcpy and memset, and always return. Stack, measured on x86-64 and rounded up: 6 KB for planning, 6 KB
- * for thinning, 1 KB for wiring, 4 KB for reading a listing.
+ * nothing but memcpy and memset, and always return. Stack, measured on x86-64 and rounded up: 6 KB for planning, 5 KB
+ * for thinning, 1 KB for wiring, 3 KB for reading a listing.
  */
 #ifndef SIRAGUMON_PLANNER_H
 #define SIRAGUMON_PLANNER_H

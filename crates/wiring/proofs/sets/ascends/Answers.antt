@@ -19,5 +19,11 @@ returns c =
     let len = c.args.len in
     let s = c.args.s.now in
     let few = c.requires in
+    let long = used_length s len few in
     all_from_yields_List (λ i. before (place_at s (i - 1)) (place_at s i)) _ _ _ c.all.ensures.ran (YieldsList-from_range 1 len (len - 1) refl refl) (λ i b q k. (search rules, before_from_lt _ _ _ (search (rules, tests))))
-    ∙ neighbours_ascend _ 1 (take len (places s)) (len - 1) (omega (arith, used_length s len few)) (λ i h. let back : 1 + i - 1 ≡ i = omega arith in let on : 1 + i ≡ suc i = omega arith in ap₂ before (ap (place_at s) back ∙ sym (used_at s len few i [] (omega (arith, used_length s len few)))) (ap (place_at s) on ∙ sym (used_at s len few (suc i) [] (omega (arith, used_length s len few)))))
+    ∙ neighbours_ascend _ 1 (take len (places s)) (len - 1) (omega arith) (λ i h.
+    let back : 1 + i - 1 ≡ i = omega arith in
+    let on : 1 + i ≡ suc i = omega arith in
+    let here = ap (place_at s) back ∙ sym (used_at s len few i [] (omega arith)) in
+    let next = ap (place_at s) on ∙ sym (used_at s len few (suc i) [] (omega arith)) in
+    ap₂ before here next)
