@@ -104,7 +104,7 @@ pub(crate) fn judge_lines(known: Known, s: System, v: Signals, text: &[u8]) -> R
             line += 1;
         }
         t = note(t, said);
-        g = machine::eat(known, g, x);
+        g = machine::eat_byte(known, g, x);
     }
     Ok(())
 }

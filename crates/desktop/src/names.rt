@@ -89,7 +89,7 @@ pub(crate) fn names_of(known: Known, text: &[u8]) -> Set
     let mut g = machine::begin();
     for &x in text {
         k = note(k, saying::say(known, g, x));
-        g = machine::eat(known, g, x);
+        g = machine::eat_byte(known, g, x);
     }
     k.names
 }

@@ -16,6 +16,14 @@ pub struct Held {
     pub second: bool,
 }
 
+impl Held {
+    // Of no pair.
+    pub const NOTHING: Held = Held {
+        first: false,
+        second: false,
+    };
+}
+
 // Whether the first of a pair adds nothing to the second: they are one, or V has it.
 #[tactic(auto, using(monomial::proofs::order::Derived::same_from_eq))]
 fn is_met(v: Members, a: Monomial, b: Monomial) -> bool

@@ -1,4 +1,5 @@
 -- What holds of a state holds of every state behind it. Assumes nothing.
+use mathlib.Core.Path.{◌≡◌, sym, ap, subst}
 use Prim.Native.Nat.{ℕ, ◌+◌, ◌≤◌, ◌<◌}
 use native.Mathlib.Omega.{arith}
 use lib.Dec.{leb, ltb, eqb, leb→le, ltb→lt}
@@ -17,6 +18,13 @@ use Rattle.listing.specs.declared.machine.Place.TheVariants.{Heading, Names, New
 use Rattle.monomial.proofs.Tests.{and_r, cond_cases}
 use Rattle.listing.proofs.Lines.{left_some}
 use Rattle.listing.proofs.Steps.{one_all, span_all, ended_all, spell_all, name_all, term_all}
+
+-- The place where a byte stands: its clause of `eat_at`, and what holds there.
+pub at_place : (r : Known) (x : ℕ) (s : State) (p : Place) → s.at ≡ p → eat_at r x s p ≡ eat_at r x s s.at
+at_place r x s p e = sym (ap (eat_at r x s) e)
+
+pub at_fit : {r : Known} {s : State} {p : Place} → Held r s → s.at ≡ p → Fit r s p
+at_fit {r} {s} h e = subst (Fit r s) e h.fit
 
 module _ (r : Known) where
   line_keeps : (names line : ℕ) → names ≤ r.cards → Stands r (line_from r names line)

@@ -12,3 +12,4 @@ pub mod Notes
 pub mod Following
 pub mod Ended
 pub mod Lefts
+pub mod Wide

@@ -404,9 +404,9 @@ fn eat_at(known: Known, x: u8, s: State) -> Reading
     }
 }
 
-// What a byte leads to; behind the end there is nothing more to read.
+// What a byte leads to; behind the end there is nothing more to read. Loops over the bytes of a text ask this one.
 #[tactic(auto, unfolding(crate::specs::Machine::eat))]
-pub fn eat(known: Known, g: Reading, x: u8) -> Reading
+pub fn eat_byte(known: Known, g: Reading, x: u8) -> Reading
     requires fair { Fair known }
     requires stands { Stands known g }
     ensures { result ≡ eat known g x }
@@ -414,6 +414,19 @@ pub fn eat(known: Known, g: Reading, x: u8) -> Reading
     match g {
         Reading::Dead | Reading::Ended => Reading::Dead,
         Reading::At(s) => eat_at(known, x, s),
+    }
+}
+
+// What a number leads to: a byte to what `eat_byte` says; with any other number no readable listing goes on.
+#[tactic(auto, using(crate::proofs::Wide::wide_dead))]
+pub fn eat(known: Known, g: Reading, x: u64) -> Reading
+    requires fair { Fair known }
+    requires stands { Stands known g }
+    ensures { result ≡ eat known g x }
+{
+    match u8::try_from(x) {
+        Ok(x) => eat_byte(known, g, x),
+        Err(_) => Reading::Dead,
     }
 }
 
@@ -450,7 +463,7 @@ pub fn read(known: Known, text: &[u8]) -> Result<(), Broken>
 {
     let mut g = begin();
     for (i, &x) in text.iter().enumerate() {
-        g = eat(known, g, x);
+        g = eat_byte(known, g, x);
         if !alive(g) {
             return Err(Broken {
                 place: i as u64 + 1,

@@ -6,7 +6,7 @@ ghost use Rattle.monomial.specs.Order.{same};
 ghost use Rattle.wiring.specs.Panel.{cards};
 ghost use Rattle.wiring.specs.Sets.{places, size_of, ascending, monomial_right, set_right, monomials_of, SetReads};
 
-use super::held::Set;
+pub use super::held::Set;
 use super::panel::{CARDS, Panel, SET_BYTES, SET_EXPONENT};
 use super::{sockets, terms};
 use monomial::Monomial;

@@ -8,7 +8,8 @@ ghost use Rattle.wiring.specs.Quadratic.{in_v2};
 ghost use Rattle.wiring.specs.Signals.{signals, signals_of, tabled, signals_at};
 ghost use Rattle.wiring.specs.Sets.{monomials_of};
 
-use super::held::{Set, Signals};
+use super::held::Set;
+pub use super::held::Signals;
 use super::panel::MOST_SIGNALS;
 use monomial::Monomial;
 use monomial::width::WIDTH;

@@ -37,7 +37,7 @@ use Rattle.truth.proofs.truth.Cells.{product_in, signals-in}
 use Rattle.truth.proofs.truth.Ranges.{all_from}
 
 -- a number below n, at its own place
-below_self : (n i d : ℕ) → i < n → get_or (below n) i d ≡ i
+pub below_self : (n i d : ℕ) → i < n → get_or (below n) i d ≡ i
 unfolding below
 below_self zero i d h = let z : ⊥ = omega arith in absurd z
 below_self (suc n) zero d h = refl

@@ -2,7 +2,7 @@
 use mathlib.Core.Path.{◌≡◌, refl, sym, ap, ap₂, ◌∙◌, subst}
 use mathlib.Core.Bool.{true, false}
 use mathlib.Core.List.{List, [], ◌∷◌, map, map-id}
-use Prim.Native.Nat.{ℕ, zero, suc, ◌+◌, ◌≤◌, max}
+use Prim.Native.Nat.{ℕ, zero, suc, ◌+◌, ◌≤◌, ◌<◌, max}
 use native.Mathlib.Omega.{arith}
 use borrow.Author.Tests.{eq-eqb}
 use lib.Dec.{eqb, eqb→eq}
@@ -46,6 +46,16 @@ pub record Sized (number : ℕ) (size : ℤ) : Type 0 where
 
 sized_of : (number n : ℕ) (size : ℤ) → n ≤ most_number → pos n ≡ signed false number → neg_ℤ (pos n) ≡ signed true number → size ≡ pos n → Sized number size
 sized_of number n size h p m e = record { small = rw e (omega (arith, h)); plus = e ∙ p; minus = ap neg_ℤ e ∙ m }
+
+pub sized_written : (number : ℕ) (size : ℤ) → number ≤ most_number → 0 < number → size ≡ to_z w64 number → Sized number size
+unfolding signed
+sized_written zero size h k e = let z : ⊥ = omega arith in absurd z
+sized_written (suc n) size h k e = sized_of (suc n) (suc n) size h refl refl (e ∙ to_z_pos w64 (suc n) (omega (arith, h)))
+
+pub sized_unwritten : (number : ℕ) (size : ℤ) → number ≤ 0 → size ≡ pos 1 → Sized number size
+unfolding signed
+sized_unwritten zero size h e = sized_of 0 1 size (omega arith) refl refl e
+sized_unwritten (suc n) size h e = let z : ⊥ = omega arith in absurd z
 
 pub sized : (number n : ℕ) → number ≤ most_number → n ≡ max number 1 → Sized number (to_z w64 n)
 unfolding signed

@@ -1,5 +1,5 @@
 -- Wiring, step by step: what each test of the code says of the reply. Assumes nothing.
-use Rattle.std.specs.Prelude.{Option, Some, None, Result, Ok, ⊤}
+use Rattle.std.specs.Prelude.{Option, Some, None, Result, Ok, Err, ⊤}
 use Rattle.std.specs.Option.{ok_or}
 use mathlib.Core.Path.{◌≡◌, refl, sym, ap, ap₂, ◌∙◌, subst}
 use mathlib.Core.Logic.{◌⊎◌, inl, inr, ⊎_elim}
@@ -33,7 +33,7 @@ use Rattle.wiring.specs.Signals.{signals, Fitting}
 use Rattle.wiring.specs.Terms.{records, length_right, fault, system}
 use Rattle.wiring.specs.Sets.{SetReads, set_of, set_right, monomials_of}
 use Rattle.wiring.specs.Wires.{Wire, wire_record, Sheet, Met}
-use Rattle.wiring.specs.Answers.{reply_of, unless_fault, missing, first_unmet, judged, record_judged, verdict, listed, told, wires, wired, Takes, Gives}
+use Rattle.wiring.specs.Answers.{reply_of, unless_fault, missing, first_unmet, judged, record_judged, verdict, listed, told, wires, wired, Takes, Refuses, Gives}
 use Rattle.wiring.proofs.quadratic.Laws.{some_nonsquares, unmet_in, nonsquares_in}
 use Rattle.wiring.proofs.reply.Laws.{same_reply}
 use Rattle.wiring.proofs.sets.Laws.{right_fits}
@@ -211,6 +211,13 @@ module _ (panel : Panel) (terms set : List ℕ) (size : ℕ) where
 pub fault_code : (f : Fault) → (numbers (reply_of f)).code ≡ 0 → ⊥
 fault_code (Wrong p) e = omega arith
 fault_code (Repeated p) e = omega arith
+
+-- a refusal
+pub given_refused : (panel : Panel) (terms bytes : List ℕ) (g : Result Set Reply) (r : Reply) → verdict panel terms bytes ≡ r → ((numbers r).code ≡ 0 → ⊥)
+    → g ≡ Err r → Gives panel terms bytes g
+given_refused panel terms bytes g r e k h =
+    let refusal : Refuses panel terms bytes r = record { says = e; code = k } in
+    subst (λ (x : Result Set Reply). Gives panel terms bytes x) (sym h) refusal
 
 -- once the rest is in order, the record decides
 pub given_read : (panel : Panel) (terms bytes : List ℕ) → panel_right panel ≡ true → length bytes ≡ set_bytes → fault panel (records terms) ≡ Ok tt

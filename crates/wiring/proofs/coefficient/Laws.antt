@@ -17,6 +17,9 @@ minus : (k : ℕ) → negsuc 0 -ℤ pos k ≡ negsuc k
 minus zero = refl
 minus (suc k) = ap negsuc (omega arith)
 
+pub minus_negsuc : (n : ℕ) → negsuc 0 -ℤ negsuc n ≡ pos n
+minus_negsuc n = rw (le-ltb (suc n) 1 (omega arith)) (ap pos (omega arith))
+
 -- a word as the machine reads it
 pub signed_is : (n : ℕ) → to_z w32 n ≡ signed n
 unfolding signed

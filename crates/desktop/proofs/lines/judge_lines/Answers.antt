@@ -87,8 +87,8 @@ overflow_add-line c =
     let ended = at_end (goal.at.overflow_add-line c).Then-ends_line in
     omega (arith, p.size, c.args.v.few, going_low _ _ _ _ p k more ended)
 
-pub eat-g-requires-clause-stands : goal.eat-g-requires-clause-stands
-eat-g-requires-clause-stands c = (c.loop-x.invariant c.requires).follows.stands
+pub eat_byte-g-requires-clause-stands : goal.eat_byte-g-requires-clause-stands
+eat_byte-g-requires-clause-stands c = (c.loop-x.invariant c.requires).follows.stands
 
 pub loop-x-preserved : goal.loop-x-preserved
 loop-x-preserved c = λ p.
@@ -104,8 +104,8 @@ loop-x-preserved c = λ p.
           let ended = ends ∙ w.if-ends_line.true in
           let left = the_signal _ _ _ w.unwrap-left.ensures w.left_of.ensures.number in
           let told = going_verdict _ _ _ _ p k more ended _ sums _ _ count left _ w.is_true.ensures in
-          rw (w.totals-is, w.line-is, c.eat-g.ensures) (going_true _ _ _ _ p k more ended _ _ says (w.no_terms-totals-then-ends_line.ensures _) (sym told ∙ w.if-not-is_true.false))
-      | else-ends_line w ↦ rw (w.totals-is, w.line-is, c.eat-g.ensures) (going_on _ _ _ _ p k more (ends ∙ w.if-ends_line.false) _ _ says sums)
+          rw (w.totals-is, w.line-is, c.eat_byte-g.ensures) (going_true _ _ _ _ p k more ended _ _ says (w.no_terms-totals-then-ends_line.ensures _) (sym told ∙ w.if-not-is_true.false))
+      | else-ends_line w ↦ rw (w.totals-is, w.line-is, c.eat_byte-g.ensures) (going_on _ _ _ _ p k more (ends ∙ w.if-ends_line.false) _ _ says sums)
     ]
 
 pub returns : goal.returns

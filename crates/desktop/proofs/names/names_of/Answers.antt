@@ -13,7 +13,7 @@ note-k-requires c = let k = c.loop-x in rw c.say.ensures (hearing_ready _ _ k.in
 pub loop-x-preserved : goal.loop-x-preserved
 loop-x-preserved c = let k = c.loop-x in
     let heard = c.say.ensures in
-    rw c.eat-g.ensures (hearing_next _ _ k.invariant c.requires.few (omega arith) _ (λ q h. rw (← heard) (c.note-k.ensures q h)))
+    rw c.eat_byte-g.ensures (hearing_next _ _ k.invariant c.requires.few (omega arith) _ (λ q h. rw (← heard) (c.note-k.ensures q h)))
 
 pub returns : goal.returns
 returns c = hearing_ends _ _ c.loop-x.invariant (omega arith)
