@@ -33,6 +33,23 @@ all_lines lines =
     let many : length (map (λ k. get_or lines k []) (below n)) ≡ n = length-map (below n) (λ k. get_or lines k []) ∙ below_length n in
     ext_get_or [] (map (λ k. get_or lines k []) (below n)) lines many (λ i h. below_at (λ k. get_or lines k []) n i [] (omega arith))
 
+-- whether there is a line is said by its number, so that two answers are the same, and none is told exactly behind the last
+same : (r s : Bool) → (IsTrue r → IsTrue s) → (IsTrue s → IsTrue r) → r ≡ s
+same true s f g = sym (f refl)
+same false true f g = g refl
+same false false f g = refl
+
+pub told_same : {A : Type 0} {r s : Bool} → (IsTrue r ↔ A) → (IsTrue s ↔ A) → r ≡ s
+told_same {r = r} {s = s} a b = same r s (λ e. b.1 (a.0 e)) (λ e. a.1 (b.0 e))
+
+pub told_stops : (k n : ℕ) (r : Bool) → (IsTrue r ↔ (k < n)) → (r ≡ false) ↔ (n ≤ k)
+told_stops k n true h = let inside : k < n = h.0 refl in (λ e. cc, λ i. absurd (omega arith))
+told_stops k n false h = (λ e. go (test (leb n k)), λ i. refl)
+  where
+    go : Tested (leb n k) → n ≤ k
+    go (passed t) = leb-true n k t
+    go (failed t) = let there : false ≡ true = h.1 (leb-false n k t) in cc
+
 module _ (lines : List (List ℕ)) (filled : Filled lines) where
   module _ (k : ℕ) {text : List ℕ} (s : text ≡ get_or lines k []) where
     pub line_none : (text ≡ []) ↔ (length lines ≤ k)
@@ -57,6 +74,12 @@ module _ (lines : List (List ℕ)) (filled : Filled lines) where
         go : Tested (leb (length lines) k) → k < length lines
         go (passed t) = absurd (f (line_none.1 (leb-true (length lines) k t)))
         go (failed t) = leb-false (length lines) k t
+
+    -- the same by the result, on which the programs stop: it says that there is none exactly where the text is empty
+    pub line_stops : (there : Bool) → (IsTrue there ↔ (k < length lines)) → ((there ≡ false) ↔ (length lines ≤ k)) × ((there ≡ false) ↔ (text ≡ []))
+    line_stops there h =
+        let stops = told_stops k (length lines) there h in
+        (stops, (λ e. line_none.1 (stops.0 e), λ e. stops.1 (line_none.0 e)))
 
 -- line number k as it was told: its text, and whether there is one; and the number at which none was told
 module _ (lines : List (List ℕ)) (text : ℕ → List ℕ) (there : ℕ → Bool) (stop : ℕ)

@@ -4,6 +4,7 @@ pub mod Text
 pub mod Answer
 pub mod Digest
 pub mod Case
+pub mod Write
 pub mod Number
 pub mod Input
 pub mod Claims

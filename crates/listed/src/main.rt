@@ -36,8 +36,9 @@ fn write_typing(t: Typing, wires: &[u8; WIRES_BYTES])
 
 // Writes line after line of what was read, until there is none.
 fn write_reading(h: Heard) {
+    // `h` is borrowed by its two parts: the kit makes no proof of this call where the closure holds one borrow alone.
     write::write_lines(Line::new(), |k: usize, line: &mut Line<LINE_BYTES>| {
-        reading::reading_line(h, k, line)
+        reading::reading_line(Heard { ..h }, k, line)
     });
 }
 

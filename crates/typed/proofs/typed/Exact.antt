@@ -2,11 +2,13 @@
 -- line, and the records that wiring leaves are those of its list. Assumes nothing.
 use mathlib.Core.Path.{◌≡◌, refl, ap, subst, ◌∙◌}
 use mathlib.Core.Logic.{◌↔◌}
+use mathlib.Core.Bool.{Bool, false}
 use mathlib.Core.List.{List, [], ◌∷◌, ◌++◌, map}
 use Prim.Native.Nat.{ℕ, zero, suc, ◌+◌, ◌*◌, ◌≤◌, ◌<◌}
 use native.Mathlib.Omega.{arith}
 use lib.ListN.{length, get_or, take, drop, length-append, length-map, length-take, length-drop}
 use lib.Seq.{ext_get_or}
+use Rattle.std.specs.Bool.{IsTrue}
 use Rattle.monomial.specs.Lists.{gather, below}
 use Rattle.monomial.specs.Claims.{◌∈◌}
 use Rattle.monomial.specs.Monomial.{Mono}
@@ -16,7 +18,7 @@ use Rattle.wiring.specs.Panel.{most_signals, wire_bytes}
 use Rattle.wiring.specs.Wires.{Wire}
 use Rattle.wiring.specs.Claims.{signals_in, row_of, Decodes, Patch}
 use Rattle.wiring.specs.declared.panel.Panel.{Panel}
-use Rattle.lines.proofs.Told.{Filled, filled_none, filled_first, filled_both, filled_made, line_none, line_told}
+use Rattle.lines.proofs.Told.{Filled, filled_none, filled_first, filled_both, filled_made, line_none, line_told, line_stops}
 use Rattle.reader.specs.Bytes.{newline}
 use Rattle.listing.specs.Bytes.{heading}
 use Rattle.listing.specs.Lines.{lefts}
@@ -87,6 +89,10 @@ module _ (k : Known) (s : List Mono) (ws : List Wire) where
     -- none is told exactly behind the last line
     pub typed_none : (text ≡ []) ↔ (length (listing_lines k s ws) ≤ j)
     typed_none = line_none (listing_lines k s ws) lines_filled j told
+
+    -- the same by the result, on which the program stops
+    pub typed_stops : (there : Bool) → (IsTrue there ↔ (j < length (listing_lines k s ws))) → ((there ≡ false) ↔ (length (listing_lines k s ws) ≤ j)) × ((there ≡ false) ↔ (text ≡ []))
+    typed_stops = line_stops (listing_lines k s ws) lines_filled j told
 
 -- ---- the records that wiring leaves in a buffer are its list
 wire_is : (x : Wire) (bytes : List ℕ) → Decodes x bytes → wire_of bytes ≡ x

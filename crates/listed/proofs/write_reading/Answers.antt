@@ -1,0 +1,15 @@
+-- `write_reading` ends: each line that is told is one of two. Assumes nothing.
+use Rattle.std.proofs.Common.{arith, rules, of_calls}
+use borrow.Author.Rules.{in_lives}
+use Rattle.wiring.specs.Reply.{outcome}
+use Rattle.std.proofs.lemmas.Fn.{always_returns_same}
+use Rattle.listed.proofs.reading.Exact.{heard_few}
+use Rattle.listed.proofs.write_reading.Goals as goal
+
+pub write_lines-requires : goal.write_lines-requires
+write_lines-requires c =
+    let few = heard_few (outcome c.args.h.reply c.args.h.set) in
+    λ k within. (
+      search rules,
+      (simp (in_lives, within.0, within.1.0) (search rules), (search of_calls, (omega (arith, few), always_returns_same _ _ _ (λ a r f' told. search rules)))),
+    )
