@@ -3,7 +3,7 @@
 use Rattle.std.proofs.Common.{◌≡◌, ℕ, zero, suc, ◌<◌, ◌≤◌, Bool, true, false, leb, ◌↔◌, List, [], ◌∷◌, ◌++◌, map, length, get_or, IsTrue, sym, refl, ap, ◌∙◌, arith, ext_get_or, leb-false, leb-true}
 use lib.ListN.{length-map, get_or-eq_default}
 use Rattle.monomial.specs.Lists.{below}
-use Rattle.monomial.proofs.Tests.{Tested, passed, failed, test}
+use Rattle.monomial.proofs.Tests.{Tested, passed, failed, test, T→is, is→T, same_test}
 use Rattle.monomial.proofs.Counting.{below_length, below_at, below_out}
 use Rattle.monomial.proofs.Members.{map_same}
 
@@ -34,13 +34,8 @@ all_lines lines =
     ext_get_or [] (map (λ k. get_or lines k []) (below n)) lines many (λ i h. below_at (λ k. get_or lines k []) n i [] (omega arith))
 
 -- whether there is a line is said by its number, so that two answers are the same, and none is told exactly behind the last
-same : (r s : Bool) → (IsTrue r → IsTrue s) → (IsTrue s → IsTrue r) → r ≡ s
-same true s f g = sym (f refl)
-same false true f g = g refl
-same false false f g = refl
-
 pub told_same : {A : Type 0} {r s : Bool} → (IsTrue r ↔ A) → (IsTrue s ↔ A) → r ≡ s
-told_same {r = r} {s = s} a b = same r s (λ e. b.1 (a.0 e)) (λ e. a.1 (b.0 e))
+told_same {r = r} {s = s} a b = same_test r s (λ t. is→T s (b.1 (a.0 (T→is r t)))) (λ t. is→T r (a.1 (b.0 (T→is s t))))
 
 pub told_stops : (k n : ℕ) (r : Bool) → (IsTrue r ↔ (k < n)) → (r ≡ false) ↔ (n ≤ k)
 told_stops k n true h = let inside : k < n = h.0 refl in (λ e. cc, λ i. absurd (omega arith))
@@ -88,12 +83,11 @@ module _ (lines : List (List ℕ)) (text : ℕ → List ℕ) (there : ℕ → Bo
   all_told : stop ≡ length lines
   all_told = go (test (leb stop (length lines)))
     where
-      enough : Tested (leb (length lines) stop) → length lines ≤ stop
-      enough (passed t) = leb-true (length lines) stop t
-      enough (failed t) = let one = (told stop (omega arith)).1.1 (leb-false (length lines) stop t) in cc
+      enough : length lines ≤ stop
+      enough = (told_stops stop (length lines) (there stop) (told stop (omega arith)).1).0 none
 
       go : Tested (leb stop (length lines)) → stop ≡ length lines
-      go (passed t) = omega (arith, enough (test (leb (length lines) stop)), leb-true stop (length lines) t)
+      go (passed t) = omega (arith, enough, leb-true stop (length lines) t)
       go (failed t) =
           let last : ℕ = length lines in
           let inside : last < stop = leb-false stop last t in

@@ -1,20 +1,19 @@
 -- What the contracts of typing say to a caller: the lines are those of the definition; two outcomes are equal; after
 -- a refusal there is the reply alone, and after code 0 the listing as well; no line is empty, and there are few. Assumes
 -- nothing.
-use mathlib.Core.Path.{◌≡◌, refl, sym, ap, ◌∙◌, subst}
+use mathlib.Core.Path.{◌≡◌, sym, ap, ◌∙◌, subst}
 use mathlib.Core.Bool.{cond}
 use mathlib.Core.List.{List, [], ◌∷◌, ◌++◌}
-use Prim.Native.Nat.{ℕ, suc, ◌+◌, ◌≤◌, ◌<◌}
+use Prim.Native.Nat.{ℕ, suc, ◌+◌, ◌≤◌}
 use native.Mathlib.Omega.{arith}
 use borrow.Author.Tests.{eqb-true, eq-eqb, ne_eqb}
 use lib.Dec.{eqb}
-use lib.ListN.{length, get_or, take}
+use lib.ListN.{length, take}
 use Rattle.monomial.specs.Lists.{gather}
 use Rattle.monomial.specs.Monomial.{Mono, width}
 use Rattle.monomial.proofs.Tests.{Tested, passed, failed, test}
 use Rattle.wiring.specs.Panel.{cards, wires_bytes}
 use Rattle.wiring.specs.Sets.{places, set_of}
-use Rattle.wiring.specs.Wires.{Wire}
 use Rattle.wiring.specs.Reply.{Outcome, numbers, in_order, outcome}
 use Rattle.wiring.specs.Answers.{verdict, wired}
 use Rattle.wiring.specs.Claims.{list_in}
@@ -30,7 +29,7 @@ use Rattle.listing.specs.declared.machine.Known.{Known}
 use Rattle.listing.proofs.Lines.{lefts_length}
 use Rattle.grammar.specs.Grammar.{text}
 use Rattle.typed.specs.Typed.{tree_of, listing_lines, wires_in}
-use Rattle.typed.proofs.typed.Exact.{typed_text, typed_length, typed_none}
+use Rattle.typed.proofs.typed.Exact.{typed_text, typed_length, lines_filled}
 use Rattle.desktop.specs.Read.{known_to}
 use Rattle.listed.specs.declared.typing.Typing.{Typing}
 use Rattle.listed.specs.Typing.{typing_lines, typed_lines, Ready, Types}
@@ -101,13 +100,6 @@ module _ (panel : Panel) (terms set : List ℕ) where
       ∙ ap (λ (l : List ℕ). reply_line (in_order (wired panel terms set wires_bytes).said) ++ l) (typed_text (known_to panel) (set_of set) (list_in panel terms set))
 
 -- ---- no line is empty, and there are few
-listing_filled : (k : Known) (s : List Mono) (ws : List Wire) → Filled (listing_lines k s ws)
-listing_filled k s ws j h = go (get_or (listing_lines k s ws) j []) refl
-  where
-    go : (x : List ℕ) → get_or (listing_lines k s ws) j [] ≡ x → 0 < length x
-    go [] e = absurd (omega (arith, (typed_none k s ws j (sym e)).0 refl))
-    go (b ∷ x) e = omega arith
-
 module _ (t : Typing) (wires : List ℕ) where
   pub typed_filled : Filled (typed_lines t wires)
   unfolding typed_lines
@@ -116,7 +108,7 @@ module _ (t : Typing) (wires : List ℕ) where
       filled_first (reply_line (in_order (numbers t.reply))) (cond (eqb code 0) (typed_listing t wires) []) (reply_some (in_order (numbers t.reply))) (go (test (eqb code 0)))
     where
       go : Tested (eqb (numbers t.reply).code 0) → Filled (cond (eqb (numbers t.reply).code 0) (typed_listing t wires) [])
-      go (passed e) = rw e (listing_filled t.known (take (numbers t.reply).order (places t.set)) (wires_in (numbers t.reply).count wires))
+      go (passed e) = rw e (lines_filled t.known (take (numbers t.reply).order (places t.set)) (wires_in (numbers t.reply).count wires))
       go (failed e) = rw e filled_none
 
   pub typed_few : Ready t wires → length (typed_lines t wires) ≤ 3 + cards + (width + cards)

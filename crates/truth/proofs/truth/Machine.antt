@@ -58,11 +58,8 @@ sized_unwritten zero size h e = sized_of 0 1 size (omega arith) refl refl e
 sized_unwritten (suc n) size h e = let z : ⊥ = omega arith in absurd z
 
 pub sized : (number n : ℕ) → number ≤ most_number → n ≡ max number 1 → Sized number (to_z w64 n)
-unfolding signed
-sized zero n h e = sized_of 0 1 (to_z w64 n) (omega arith) refl refl (ap (to_z w64) e ∙ to_z_pos w64 1 (omega arith))
-sized (suc k) n h e =
-    let is : n ≡ suc k = omega arith in
-    sized_of (suc k) (suc k) (to_z w64 n) h refl refl (ap (to_z w64) is ∙ to_z_pos w64 (suc k) (omega (arith, h)))
+sized zero n h e = sized_unwritten zero (to_z w64 n) (omega arith) (ap (to_z w64) e ∙ to_z_pos w64 1 (omega arith))
+sized (suc k) n h e = let is : n ≡ suc k = omega arith in sized_written (suc k) (to_z w64 n) h (omega arith) (ap (to_z w64) is)
 
 module _ {number : ℕ} {size : ℤ} (s : Sized number size) where
   turned : pos 0 -ℤ size ≡ neg_ℤ size

@@ -73,7 +73,8 @@ module _ (k : Known) (s : List Mono) (ws : List Wire) where
       length-append (name_lines k 0 s) ((newline ∷ []) ∷ derivatives) in
       omega (arith, names_length k 0 s, length-map (lefts k (length s)) (derivative_line k ws))
 
-  lines_filled : Filled (listing_lines k s ws)
+  -- each line has a byte, its newline
+  pub lines_filled : Filled (listing_lines k s ws)
   unfolding listing_lines
   lines_filled =
       let rest : Filled ((newline ∷ []) ∷ derivatives) =

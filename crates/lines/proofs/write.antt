@@ -1,0 +1,2 @@
+-- The laws of the module write.
+pub mod Laws
