@@ -13,7 +13,7 @@ use Rattle.listing.specs.Lines.{lefts}
 use Rattle.listing.specs.Meaning.{Product, signed, names, lines}
 use Rattle.listing.specs.Meaning as meaning
 use Rattle.listing.specs.Readable.{listing}
-use Rattle.listing.specs.declared.machine.Known.{Known}
+use Rattle.listing.specs.declared.known.Known.{Known}
 use Rattle.listing.specs.declared.saying.Saying.{Saying}
 use Rattle.listing.specs.declared.saying.Saying.TheVariants.{Silence, Variable, Raised, Digit, NameEnds, Minus, Number, Name, Again, TermEnds, LineEnds, ZeroLine}
 use Rattle.truth.specs.Truth.{line_true}

@@ -6,7 +6,8 @@ ghost use Rattle.listing.specs.Meaning.{Product, told};
 ghost use Rattle.truth.specs.Sums.{Summed};
 ghost use Rattle.desktop.specs.Lines.{Notes, Says, product_of, ends_term, ends_line, with_term, Adding, Judging, lines_said};
 
-use listing::machine::Known;
+use listing::known::Known;
+use listing::lines::left_of;
 use listing::saying::Saying;
 use listing::{machine, saying};
 use reader::Broken;
@@ -94,7 +95,7 @@ pub(crate) fn judge_lines(known: Known, s: System, v: Signals, text: &[u8]) -> R
         let said = saying::say(known, g, x);
         add_ended(v, &mut totals, t, said);
         if ends_line(said) {
-            let left = machine::left_of(known, names, line).unwrap() as usize;
+            let left = left_of(known, names, line).unwrap() as usize;
             if !sums::is_true(s, v, left, &totals) {
                 return Err(Broken {
                     place: names + 3 + line,

@@ -8,7 +8,7 @@ ghost use Rattle.listing.specs.Held.{Fair};
 ghost use Rattle.listing.specs.Meaning.{named, names};
 ghost use Rattle.desktop.specs.Names.{above, cap, capped, Notes, Holds, Ready};
 
-use listing::machine::Known;
+use listing::known::Known;
 use listing::saying::Saying;
 use listing::{machine, saying};
 use monomial::Monomial;

@@ -10,8 +10,8 @@ ghost use Rattle.listing.specs.Readable.{listing};
 ghost use Rattle.desktop.specs.Read.{known_to, refusal, unless_broken, judged, read_listing, Reading};
 
 use super::{lines, names};
+use listing::known::Known;
 use listing::machine;
-use listing::machine::Known;
 use roster::roster as sets;
 use wiring::panel::{Panel, SET_BYTES};
 use wiring::reply::Reply;

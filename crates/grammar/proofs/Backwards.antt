@@ -16,13 +16,13 @@ use Rattle.listing.specs.Bytes.{star, plus, letter_w, letter_x, heading, equals,
 use Rattle.listing.specs.Lines.{left_of}
 use Rattle.listing.specs.Machine.{state, one, spell, line_from, begin_term, behind, in_coefficient, begin_line, eat_at, eat}
 use Rattle.listing.specs.Readable.{listing, ends}
-use Rattle.listing.specs.declared.machine.Known.{Known}
+use Rattle.listing.specs.declared.known.Known.{Known}
 use Rattle.listing.specs.declared.machine.State.{State}
 use Rattle.listing.specs.declared.machine.Reading.{Reading}
 use Rattle.listing.specs.declared.machine.Reading.TheVariants.{Dead, Ended, At}
 use Rattle.listing.specs.declared.machine.Place.{Place}
 use Rattle.listing.specs.declared.machine.Place.TheVariants.{Heading, Names as AtNames, NewName, Equals, Factor as AtFactor, Power, Star, Exponent, Digits, Next, Line, Left, Prime, Right, Zero, Term as AtTerm, Coefficient, First, X1, W1, One, Times, Square, X2, W2, Two, Sign, Gap}
-use Rattle.listing.proofs.Lines.{left_none, left_here}
+use Rattle.listing.proofs.lines.Laws.{left_none, left_here}
 use Rattle.lines.specs.Text.{decimal}
 use Rattle.grammar.proofs.Decimals.{digit_text, longer_text}
 use Rattle.grammar.proofs.Hits.{ended_hits, one_hits, span_hits, spell_hits, name_hits, term_hits}

@@ -18,12 +18,12 @@ use Rattle.listing.specs.Lines.{lefts, left_of, letter_of, digit_of}
 use Rattle.listing.specs.Machine.{state, one, ended, spell, line_from, eat_at, eat}
 use Rattle.listing.specs.Saying.{minus_said, number_said, saying_at, saying}
 use Rattle.listing.specs.Meaning.{Naming, named, Product, Telling, telling, told}
-use Rattle.listing.specs.declared.machine.Known.{Known}
+use Rattle.listing.specs.declared.known.Known.{Known}
 use Rattle.listing.specs.declared.machine.Reading.{Reading}
 use Rattle.listing.specs.declared.machine.Reading.TheVariants.{Dead, Ended, At}
 use Rattle.listing.specs.declared.machine.Place.TheVariants.{Line, Left, Prime, Right, Term as AtTerm, Sign}
 use Rattle.listing.proofs.Finishes.{one_hit}
-use Rattle.listing.proofs.Lines.{left_past, left_none}
+use Rattle.listing.proofs.lines.Laws.{left_past, left_none}
 use Rattle.grammar.specs.Grammar.{Term, product_of, body_text, first_text, next_text, right_text, line_text, lines_from, TermRight}
 use Rattle.grammar.proofs.Noting.{Notes, with, at, Eats, nothing, then, byte}
 use Rattle.grammar.proofs.Terms.{Begins, term_begins, right_begins, place_of, number_of, first_of, second_of, product_is, body, blank_behind, newline_behind, signed_next}

@@ -9,7 +9,7 @@ use lib.Dec.{ltb}
 use Rattle.monomial.proofs.Tests.{Tested, passed, failed, test}
 use Rattle.lines.specs.Text.{decimal_within, decimal}
 use Rattle.reader.specs.Bytes.{nought}
-use Rattle.listing.specs.declared.machine.Known.{Known}
+use Rattle.listing.specs.declared.known.Known.{Known}
 use Rattle.grammar.proofs.Noting.{Notes, Eats, then}
 
 -- from `from` the first digit, 1 to 9, leads to the number's place, where more digits make it longer, up to `most`

@@ -12,7 +12,7 @@ use Rattle.listing.specs.Bytes.{heading}
 use Rattle.listing.specs.Machine.{start}
 use Rattle.listing.specs.Meaning.{names, lines}
 use Rattle.listing.specs.Readable.{listing}
-use Rattle.listing.specs.declared.machine.Known.{Known}
+use Rattle.listing.specs.declared.known.Known.{Known}
 use Rattle.grammar.specs.Grammar.{monomial_of, product_of, names_from, text}
 use Rattle.grammar.specs.Claims.{Tells}
 use Rattle.grammar.proofs.Rests.{Lines, NameLines}

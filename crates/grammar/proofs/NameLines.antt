@@ -18,7 +18,7 @@ use Rattle.listing.specs.Bytes.{star, letter_w, letter_x}
 use Rattle.listing.specs.Machine.{state, one as one_byte, span, ended, spell, begin_line, eat_at, eat}
 use Rattle.listing.specs.Saying.{name_said, digit_said, star_said, saying_at, saying}
 use Rattle.listing.specs.Meaning.{Naming, naming, closed, named, Telling, told}
-use Rattle.listing.specs.declared.machine.Known.{Known}
+use Rattle.listing.specs.declared.known.Known.{Known}
 use Rattle.listing.specs.declared.machine.Reading.TheVariants.{Dead}
 use Rattle.listing.specs.declared.machine.Place.{Place}
 use Rattle.listing.specs.declared.machine.Place.TheVariants.{Names as AtNames, NewName, Equals, Factor as AtFactor, Power, Exponent, Digits}

@@ -10,7 +10,7 @@ use Rattle.monomial.specs.Claims.{◌∈◌}
 use Rattle.lines.specs.Text.{decimal, joined}
 use Rattle.reader.specs.Bytes.{newline, blank, nought}
 use Rattle.listing.specs.Bytes.{star, letter_w, letter_x, equals}
-use Rattle.listing.specs.declared.machine.Known.{Known}
+use Rattle.listing.specs.declared.known.Known.{Known}
 use Rattle.grammar.specs.Grammar.{Factor, exponent_text, factor_text, name_text, names_from, FactorRight}
 use Rattle.grammar.proofs.Gluing.{glued, each, each_none}
 use Rattle.grammar.proofs.Rests.{Spelled, Lines, NameLines, Factors, FactorsOn, Raised}

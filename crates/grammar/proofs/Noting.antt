@@ -8,7 +8,7 @@ use Rattle.listing.specs.Machine.{state, eat, start}
 use Rattle.listing.specs.Readable.{listing, ends, alive}
 use Rattle.listing.specs.Saying.{saying}
 use Rattle.listing.specs.Meaning.{Naming, Telling, named, told, unnamed, untold}
-use Rattle.listing.specs.declared.machine.Known.{Known}
+use Rattle.listing.specs.declared.known.Known.{Known}
 use Rattle.listing.specs.declared.machine.Place.{Place}
 use Rattle.listing.specs.declared.machine.Reading.{Reading}
 use Rattle.listing.specs.declared.machine.Reading.TheVariants.{At}

@@ -11,7 +11,7 @@ use Rattle.monomial.proofs.Members.{here, there}
 use Rattle.reader.specs.Bytes.{newline, minus, nought}
 use Rattle.listing.specs.Bytes.{plus, prime}
 use Rattle.listing.specs.Lines.{letter_of, digit_of}
-use Rattle.listing.specs.declared.machine.Known.{Known}
+use Rattle.listing.specs.declared.known.Known.{Known}
 use Rattle.grammar.specs.Grammar.{Names, Term, body_text, first_text, next_text, right_text, line_text, lines_from}
 use Rattle.grammar.proofs.Apart.{heads, same_front, From, begins, apart}
 use Rattle.grammar.proofs.OneTerm.{Told, body_from, body_is}

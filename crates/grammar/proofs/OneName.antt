@@ -11,7 +11,7 @@ use Rattle.monomial.proofs.Members.{here, there}
 use Rattle.lines.specs.Text.{decimal, joined}
 use Rattle.reader.specs.Bytes.{newline, blank, nought}
 use Rattle.listing.specs.Bytes.{star, letter_w, letter_x}
-use Rattle.listing.specs.declared.machine.Known.{Known}
+use Rattle.listing.specs.declared.known.Known.{Known}
 use Rattle.grammar.specs.Grammar.{Factor, exponent_text, factor_text, name_text, names_from}
 use Rattle.grammar.proofs.NamesBack.{joined_more}
 use Rattle.grammar.proofs.Apart.{heads, same_front, From, begins, number_is}

@@ -12,7 +12,7 @@ use Rattle.lines.specs.Text.{decimal}
 use Rattle.reader.specs.Bytes.{nought}
 use Rattle.listing.specs.Bytes.{star, letter_w, letter_x}
 use Rattle.listing.specs.Lines.{letter_of, digit_of}
-use Rattle.listing.specs.declared.machine.Known.{Known}
+use Rattle.listing.specs.declared.known.Known.{Known}
 use Rattle.grammar.specs.Grammar.{Names, none, alone, square, both, signal_text, names_text, body_text}
 use Rattle.grammar.proofs.Terms.{Some}
 use Rattle.grammar.proofs.Rests.{Second, nothing, itself, another, second_text}

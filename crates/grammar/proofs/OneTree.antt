@@ -4,7 +4,7 @@ use mathlib.Core.List.{List}
 use lib.ListN.{length}
 use Rattle.listing.specs.Bytes.{heading}
 use Rattle.listing.specs.Lines.{lefts}
-use Rattle.listing.specs.declared.machine.Known.{Known}
+use Rattle.listing.specs.declared.known.Known.{Known}
 use Rattle.grammar.specs.Grammar.{Factor, Term, Tree, lines_from, text, TreeRight}
 use Rattle.grammar.proofs.Apart.{same_front}
 use Rattle.grammar.proofs.OneLine.{lines_are}

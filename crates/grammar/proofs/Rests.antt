@@ -10,7 +10,7 @@ use Rattle.lines.specs.Text.{decimal, joined}
 use Rattle.reader.specs.Bytes.{newline, blank, minus, nought}
 use Rattle.listing.specs.Bytes.{star, plus, letter_w, letter_x, heading, equals, prime}
 use Rattle.listing.specs.Lines.{lefts, left_of, letter_of}
-use Rattle.listing.specs.declared.machine.Known.{Known}
+use Rattle.listing.specs.declared.known.Known.{Known}
 use Rattle.listing.specs.declared.machine.Reading.{Reading}
 use Rattle.listing.specs.declared.machine.Reading.TheVariants.{Dead, Ended, At}
 use Rattle.listing.specs.declared.machine.Place.{Place}

@@ -11,7 +11,7 @@ use Rattle.monomial.specs.Claims.{◌∈◌}
 use Rattle.wiring.specs.Sockets.{halved, marked}
 use Rattle.lines.specs.Text.{decimal_within, decimal, joined}
 use Rattle.listing.specs.Lines.{unmarked, up_from, lefts, letter_of, digit_of}
-use Rattle.listing.specs.declared.machine.Known.{Known}
+use Rattle.listing.specs.declared.known.Known.{Known}
 use Rattle.listing.proofs.Samples.{written}
 use Rattle.grammar.specs.Grammar.{Factor, Names, none, alone, square, both, Term, exponent_text, factor_text, name_text, names_text, body_text, first_text, next_text, right_text, line_text, names_from, lines_from, text, FactorRight, NamesRight, TermRight, TreeRight}
 use Rattle.grammar.proofs.Terms.{Some}

@@ -15,7 +15,7 @@ use Rattle.listing.specs.Lines.{letter_of, digit_of}
 use Rattle.listing.specs.Machine.{state, one, span, ended, line_from, begin_name, begin_term, behind, in_coefficient, eat_at, eat}
 use Rattle.listing.specs.Saying.{minus_said, number_said, term_said, saying_at, saying}
 use Rattle.listing.specs.Meaning.{Naming, named, Product, Telling, telling, signed, told}
-use Rattle.listing.specs.declared.machine.Known.{Known}
+use Rattle.listing.specs.declared.known.Known.{Known}
 use Rattle.listing.specs.declared.machine.Reading.{Reading}
 use Rattle.listing.specs.declared.machine.Reading.TheVariants.{Dead, At}
 use Rattle.listing.specs.declared.machine.Place.{Place}

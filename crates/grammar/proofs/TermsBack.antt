@@ -12,7 +12,7 @@ use Rattle.lines.specs.Text.{decimal}
 use Rattle.reader.specs.Bytes.{newline, blank, minus, nought}
 use Rattle.listing.specs.Bytes.{star, plus, letter_w, letter_x, prime}
 use Rattle.listing.specs.Lines.{lefts, left_of, letter_of, digit_of}
-use Rattle.listing.specs.declared.machine.Known.{Known}
+use Rattle.listing.specs.declared.known.Known.{Known}
 use Rattle.grammar.specs.Grammar.{Names, none, alone, square, both, Term, signal_text, names_text, body_text, first_text, next_text, right_text, line_text, lines_from, Signal, NamesRight, TermRight}
 use Rattle.grammar.proofs.Terms.{Some}
 use Rattle.grammar.proofs.DerivativeLines.{left_on}

@@ -13,7 +13,7 @@ use Rattle.listing.specs.Machine.{ended, spell, line_from, begin_line, eat_at, e
 use Rattle.listing.specs.Readable.{ends}
 use Rattle.listing.specs.Saying.{saying_at, saying}
 use Rattle.listing.specs.Meaning.{Naming, named, Telling, told, unnamed, untold, telling}
-use Rattle.listing.specs.declared.machine.Known.{Known}
+use Rattle.listing.specs.declared.known.Known.{Known}
 use Rattle.listing.specs.declared.machine.Reading.TheVariants.{Ended}
 use Rattle.listing.specs.declared.machine.Place.TheVariants.{Names as AtNames}
 use Rattle.grammar.specs.Grammar.{Tree, monomial_of, product_of, names_from, lines_from, text, TreeRight}

@@ -3,7 +3,7 @@ use Rattle.std.specs.Prelude.{◌≡◌, true, List, map, ℕ}
 use Rattle.reader.specs.Reader.{readable}
 use Rattle.listing.specs.Readable.{listing}
 use Rattle.listing.specs.Meaning.{names, lines}
-use Rattle.listing.specs.declared.machine.Known.{Known}
+use Rattle.listing.specs.declared.known.Known.{Known}
 use Rattle.grammar.specs.Grammar.{Tree, monomial_of, product_of, text, TreeRight}
 
 -- what a tree is written as is readable, and says what the tree means

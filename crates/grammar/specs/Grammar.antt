@@ -8,7 +8,7 @@ use Rattle.reader.specs.Bytes.{newline, blank, minus, nought}
 use Rattle.listing.specs.Bytes.{star, plus, letter_w, letter_x, heading, prime}
 use Rattle.listing.specs.Lines.{lefts, letter_of, digit_of}
 use Rattle.listing.specs.Meaning.{Product, signed}
-use Rattle.listing.specs.declared.machine.Known.{Known}
+use Rattle.listing.specs.declared.known.Known.{Known}
 
 -- a variable, from 1, and its exponent; 0 where none is written
 pub record Factor : Type 0 where

@@ -6,7 +6,7 @@ ghost use Rattle.listed.specs.Typing.{most_typed, typed_lines, Ready, Types};
 
 use lines::answer;
 use lines::text::Line;
-use listing::machine::Known;
+use listing::known::Known;
 use typed::typed::{LISTED_BYTES, Listing};
 use wiring::panel::{Panel, SET_BYTES, TERMS_BYTES, WIRES_BYTES};
 use wiring::reply::Reply;

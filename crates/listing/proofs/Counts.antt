@@ -14,7 +14,7 @@ use Rattle.listing.specs.Lines.{lefts, left_of}
 use Rattle.listing.specs.Machine.{state, to, one, span, ended, line_from, behind, in_coefficient, begin_line, eat_at, eat, start}
 use Rattle.listing.specs.Saying.{name_said, digit_said, star_said, number_said, minus_said, term_said, saying_at, saying}
 use Rattle.listing.specs.Counted.{name_ends, line_ends, in_lines, InLines, PartOf, Part, Counted, Counts}
-use Rattle.listing.specs.declared.machine.Known.{Known}
+use Rattle.listing.specs.declared.known.Known.{Known}
 use Rattle.listing.specs.declared.machine.State.{State}
 use Rattle.listing.specs.declared.machine.Reading.{Reading}
 use Rattle.listing.specs.declared.machine.Reading.TheVariants.{Dead, Ended, At}
@@ -22,7 +22,7 @@ use Rattle.listing.specs.declared.machine.Place.{Place}
 use Rattle.listing.specs.declared.machine.Place.TheVariants.{Heading, Names, NewName, Equals, Factor, Power, Star, Exponent, Digits, Next, Line, Left, Prime, Right, Zero, Term, Coefficient, First, X1, W1, One, Times, Square, X2, W2, Two, Sign, Gap}
 use Rattle.listing.specs.declared.saying.Saying.{Saying}
 use Rattle.listing.specs.declared.saying.Saying.TheVariants.{Silence, Number}
-use Rattle.listing.proofs.Lines.{left_none, left_here}
+use Rattle.listing.proofs.lines.Laws.{left_none, left_here}
 use Rattle.listing.proofs.Steps.{one_all, span_all, ended_all, spell_all, name_all, term_all}
 
 -- a saying that makes nothing whole

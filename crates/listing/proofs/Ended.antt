@@ -17,7 +17,7 @@ use Rattle.listing.specs.Machine.{eat, start}
 use Rattle.listing.specs.Meaning.{Naming, named, names, Product, Telling, told, lines}
 use Rattle.listing.specs.Readable.{ends, listing}
 use Rattle.listing.specs.Saying.{saying}
-use Rattle.listing.specs.declared.machine.Known.{Known}
+use Rattle.listing.specs.declared.known.Known.{Known}
 use Rattle.listing.specs.declared.machine.Reading.{Reading}
 use Rattle.listing.specs.declared.machine.Reading.TheVariants as reading
 use Rattle.listing.proofs.Following.{Following, following_start, following_next}

@@ -16,13 +16,13 @@ use Rattle.reader.specs.Reader.{Bytes, Finishes}
 use Rattle.reader.proofs.Finish.{byte_at, finished, more, by}
 use Rattle.monomial.proofs.Tests.{Tested, passed, failed, test}
 use Rattle.listing.specs.Readable.{listing}
-use Rattle.listing.specs.declared.machine.Known.{Known}
+use Rattle.listing.specs.declared.known.Known.{Known}
 use Rattle.listing.specs.declared.machine.State.{State}
 use Rattle.listing.specs.declared.machine.Reading.{Reading}
 use Rattle.listing.specs.declared.machine.Reading.TheVariants.{Dead, Ended, At}
 use Rattle.listing.specs.declared.machine.Place.{Place}
 use Rattle.listing.specs.declared.machine.Place.TheVariants.{Heading, Names, NewName, Equals, Factor, Power, Star, Exponent, Digits, Next, Line, Left, Prime, Right, Zero, Term, Coefficient, First, X1, W1, One, Times, Square, X2, W2, Two, Sign, Gap}
-use Rattle.listing.proofs.Lines.{left_past, letter_byte, digit_byte}
+use Rattle.listing.proofs.lines.Laws.{left_past, letter_byte, digit_byte}
 
 pub one_hit : (x : ℕ) (s : State) (p : Place) (other : Reading) → one x x s p other ≡ to s p
 unfolding one

@@ -16,7 +16,7 @@ use Rattle.listing.specs.Meaning.{Naming, closed, named, unnamed, names, Product
 use Rattle.listing.specs.Readable.{alive, listing}
 use Rattle.listing.specs.Saying.{saying}
 use Rattle.listing.specs.Counted.{name_ends, line_ends, InLines, Counts}
-use Rattle.listing.specs.declared.machine.Known.{Known}
+use Rattle.listing.specs.declared.known.Known.{Known}
 use Rattle.listing.specs.declared.machine.Reading.{Reading}
 use Rattle.listing.specs.declared.saying.Saying.{Saying}
 use Rattle.listing.specs.declared.saying.Saying.TheVariants.{Silence, Variable, Raised, Digit, NameEnds, Minus, Number, Name, Again, TermEnds, LineEnds, ZeroLine}

@@ -9,14 +9,14 @@ use Rattle.listing.specs.Bytes.{letter_w, heading, equals, prime}
 use Rattle.listing.specs.Lines.{left_of}
 use Rattle.listing.specs.Machine.{state, to, one, line_from, begin_name, begin_term, behind, in_coefficient, begin_line, eat_at, eat, start}
 use Rattle.listing.specs.Held.{Held, Fit, InName, InLine, Stands}
-use Rattle.listing.specs.declared.machine.Known.{Known}
+use Rattle.listing.specs.declared.known.Known.{Known}
 use Rattle.listing.specs.declared.machine.State.{State}
 use Rattle.listing.specs.declared.machine.Reading.{Reading}
 use Rattle.listing.specs.declared.machine.Reading.TheVariants.{Dead, Ended, At}
 use Rattle.listing.specs.declared.machine.Place.{Place}
 use Rattle.listing.specs.declared.machine.Place.TheVariants.{Heading, Names, NewName, Equals, Factor, Power, Star, Exponent, Digits, Next, Line, Left, Prime, Right, Zero, Term, Coefficient, First, X1, W1, One, Times, Square, X2, W2, Two, Sign, Gap}
 use Rattle.monomial.proofs.Tests.{and_r, cond_cases}
-use Rattle.listing.proofs.Lines.{left_some}
+use Rattle.listing.proofs.lines.Laws.{left_some}
 use Rattle.listing.proofs.Steps.{one_all, span_all, ended_all, spell_all, name_all, term_all}
 
 -- The place where a byte stands: its clause of `eat_at`, and what holds there.

@@ -1,5 +1,4 @@
--- Laws that belong to no module of src/.
-pub mod Lines
+-- Laws that belong to no module of src/. Those of a module stand under its name: lines, saying.
 pub mod Steps
 pub mod Finishes
 pub mod Keeps
@@ -11,5 +10,4 @@ pub mod Sounds
 pub mod Notes
 pub mod Following
 pub mod Ended
-pub mod Lefts
 pub mod Wide

@@ -13,7 +13,7 @@ use Rattle.monomial.specs.Claims.{◌∈◌}
 use Rattle.monomial.specs.Monomial.{Mono, width}
 use Rattle.listing.specs.Meaning.{Naming, closed, named, unnamed, Product, Telling, signed, term, told, untold}
 use Rattle.listing.specs.Counted.{Sound}
-use Rattle.listing.specs.declared.machine.Known.{Known}
+use Rattle.listing.specs.declared.known.Known.{Known}
 use Rattle.listing.specs.declared.saying.Saying.{Saying}
 use Rattle.listing.specs.declared.saying.Saying.TheVariants.{Silence, Variable, Raised, Digit, NameEnds, Minus, Number, Name, Again, TermEnds, LineEnds, ZeroLine}
 

@@ -10,7 +10,7 @@ use Rattle.reader.proofs.Places as of_readers
 use Rattle.listing.specs.Machine.{eat, start}
 use Rattle.listing.specs.Held.{Fair, Stands}
 use Rattle.listing.specs.Readable.{ends, alive, listing}
-use Rattle.listing.specs.declared.machine.Known.{Known}
+use Rattle.listing.specs.declared.known.Known.{Known}
 use Rattle.listing.specs.declared.machine.Reading.{Reading}
 use Rattle.listing.specs.declared.machine.Reading.TheVariants.{Dead, Ended, At}
 use Rattle.reader.specs.Said.{said}

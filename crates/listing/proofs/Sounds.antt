@@ -15,7 +15,7 @@ use Rattle.listing.specs.Machine.{state, to, one, span, ended, line_from, behind
 use Rattle.listing.specs.Readable.{alive}
 use Rattle.listing.specs.Saying.{name_said, digit_said, star_said, number_said, minus_said, term_said, saying_at, saying}
 use Rattle.listing.specs.Counted.{name_ends, line_ends, in_lines, InLines, Counts, Sound, Small}
-use Rattle.listing.specs.declared.machine.Known.{Known}
+use Rattle.listing.specs.declared.known.Known.{Known}
 use Rattle.listing.specs.declared.machine.State.{State}
 use Rattle.listing.specs.declared.machine.Reading.{Reading}
 use Rattle.listing.specs.declared.machine.Reading.TheVariants.{Dead, Ended, At}

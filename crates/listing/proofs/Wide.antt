@@ -13,13 +13,13 @@ use Rattle.listing.specs.Bytes.{star, plus, letter_w, letter_x, heading, equals,
 use Rattle.listing.specs.Lines.{left_of}
 use Rattle.listing.specs.Held.{Fair, Stands}
 use Rattle.listing.specs.Machine.{state, to, one, span, ended, spell, begin_name, begin_term, behind, in_coefficient, begin_line, eat_at, eat}
-use Rattle.listing.specs.declared.machine.Known.{Known}
+use Rattle.listing.specs.declared.known.Known.{Known}
 use Rattle.listing.specs.declared.machine.State.{State}
 use Rattle.listing.specs.declared.machine.Reading.{Reading}
 use Rattle.listing.specs.declared.machine.Reading.TheVariants.{Dead, Ended, At}
 use Rattle.listing.specs.declared.machine.Place.{Place}
 use Rattle.listing.specs.declared.machine.Place.TheVariants.{Heading, Names, NewName, Equals, Factor, Power, Star, Exponent, Digits, Next, Line, Left, Prime, Right, Zero, Term, Coefficient, First, X1, W1, One, Times, Square, X2, W2, Two, Sign, Gap}
-use Rattle.listing.proofs.Lines.{letter_byte, digit_byte}
+use Rattle.listing.proofs.lines.Laws.{letter_byte, digit_byte}
 
 -- ---- the fixed words are of bytes
 abbrev bytes : List ℕ → Bool

@@ -1,7 +1,7 @@
 -- What is counted while a listing is read, the names and the lines that are whole; and what the bytes of a readable listing say. Assumes nothing.
 use Rattle.std.specs.Prelude.{◌≡◌, Bool, true, false, ℕ, ◌+◌, ◌≤◌, ◌<◌, length}
 use Rattle.listing.specs.Lines.{lefts}
-use Rattle.listing.specs.declared.machine.Known.{Known}
+use Rattle.listing.specs.declared.known.Known.{Known}
 use Rattle.listing.specs.declared.machine.State.{State}
 use Rattle.listing.specs.declared.machine.Reading.{Reading}
 use Rattle.listing.specs.declared.machine.Reading.TheVariants.{Dead, Ended, At}

@@ -1,6 +1,6 @@
 -- What holds of every state that the machine comes to. Assumes nothing.
 use Rattle.std.specs.Prelude.{◌+◌, ◌≤◌, ◌<◌}
-use Rattle.listing.specs.declared.machine.Known.{Known}
+use Rattle.listing.specs.declared.known.Known.{Known}
 use Rattle.listing.specs.declared.machine.State.{State}
 use Rattle.listing.specs.declared.machine.Reading.{Reading}
 use Rattle.listing.specs.declared.machine.Reading.TheVariants.{Dead, Ended, At}

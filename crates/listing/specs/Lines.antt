@@ -4,7 +4,7 @@ use Rattle.std.specs.Prelude.{cond, List, [], ◌∷◌, ◌++◌, ℕ, zero, su
 use Rattle.wiring.specs.Sockets.{marked}
 use Rattle.reader.specs.Bytes.{nought}
 use Rattle.listing.specs.Bytes.{letter_x, letter_w}
-use Rattle.listing.specs.declared.machine.Known.{Known}
+use Rattle.listing.specs.declared.known.Known.{Known}
 
 -- the numbers of k variables from i on without those that are marked; the lowest bit is variable i's
 unfoldable pub unmarked : ℕ → ℕ → ℕ → List ℕ

@@ -3,7 +3,7 @@ use Rattle.std.specs.Prelude.{cond, ◌&&◌, List, ℕ, ◌+◌, ◌-◌, leb, 
 use Rattle.reader.specs.Bytes.{newline, blank, minus, nought, nine, longer, goes_longer}
 use Rattle.listing.specs.Bytes.{star, plus, letter_w, letter_x, heading, equals, prime}
 use Rattle.listing.specs.Lines.{left_of, letter_of, digit_of}
-use Rattle.listing.specs.declared.machine.Known.{Known}
+use Rattle.listing.specs.declared.known.Known.{Known}
 use Rattle.listing.specs.declared.machine.State.{State}
 use Rattle.listing.specs.declared.machine.Reading.{Reading}
 use Rattle.listing.specs.declared.machine.Reading.TheVariants.{Dead, Ended, At}

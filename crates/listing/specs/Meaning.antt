@@ -5,7 +5,7 @@ use Rattle.reader.specs.Reader.{heard, noted}
 use Rattle.listing.specs.Machine.{start}
 use Rattle.listing.specs.Readable.{listing}
 use Rattle.listing.specs.Saying.{saying}
-use Rattle.listing.specs.declared.machine.Known.{Known}
+use Rattle.listing.specs.declared.known.Known.{Known}
 use Rattle.listing.specs.declared.saying.Saying.{Saying}
 use Rattle.listing.specs.declared.saying.Saying.TheVariants.{Silence, Variable, Raised, Digit, NameEnds, Minus, Number, Name, Again, TermEnds, LineEnds, ZeroLine}
 

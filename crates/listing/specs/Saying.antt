@@ -3,7 +3,7 @@
 use Rattle.std.specs.Prelude.{cond, ◌&&◌, ℕ, ◌+◌, ◌-◌, leb, eqb}
 use Rattle.reader.specs.Bytes.{newline, blank, minus, nought, nine, longer}
 use Rattle.listing.specs.Bytes.{star}
-use Rattle.listing.specs.declared.machine.Known.{Known}
+use Rattle.listing.specs.declared.known.Known.{Known}
 use Rattle.listing.specs.declared.machine.State.{State}
 use Rattle.listing.specs.declared.machine.Reading.{Reading}
 use Rattle.listing.specs.declared.machine.Reading.TheVariants.{Dead, Ended, At}

@@ -1,36 +1,15 @@
 // A machine that reads a listing byte by byte. It stops at the first byte behind which no readable listing goes on.
-ghost use Rattle.std.specs.Prelude.{◌≡◌, ◌+◌, ◌≤◌, ◌<◌, length, slice_get, unwrap_or, IfSome};
+ghost use Rattle.std.specs.Prelude.{◌≡◌, ◌+◌, ◌≤◌, ◌<◌, length};
 ghost use Rattle.reader.specs.Said.{said};
-ghost use Rattle.listing.specs.Known.{known_to};
-ghost use Rattle.listing.specs.Lines.{lefts, left_of, letter_of, digit_of};
+ghost use Rattle.listing.specs.Lines.{left_of};
 ghost use Rattle.listing.specs.Machine.{to, one, span, ended, spell, named, line_from, begin_name, begin_term, behind, in_coefficient, begin_line, eat_at, eat, start};
 ghost use Rattle.listing.specs.Held.{Fair, Held, InLine, Stands};
 ghost use Rattle.listing.specs.Readable.{alive, ends, listing};
 
+// What the machine is told, and the lines that it goes through, by their names here too.
+pub use super::known::Known;
+pub use super::lines::{digit_of, left_of, letter_of};
 use reader::Broken;
-use wiring::panel::{CARDS, Panel};
-
-// What is asked of the reader: how many variables, which of them are signals (bit i - 1 marks xi), how many new names there may be.
-// No ghost field says that it is fair: it is made of any settings, before they are found to be in range.
-#[derive(Clone, Copy)]
-pub struct Known {
-    pub n: u64,
-    pub marks: u64,
-    pub cards: u64,
-}
-
-// What the panel makes known to the reader of its listings.
-impl From<Panel> for Known {
-    ghost from_gives = { λ panel known. known ≡ known_to panel };
-
-    fn from(panel: Panel) -> Known {
-        Known {
-            n: panel.n as u64,
-            marks: panel.marks,
-            cards: CARDS as u64,
-        }
-    }
-}
 
 // Where in a line the next byte stands.
 #[derive(Clone, Copy)]
@@ -165,32 +144,6 @@ fn named(s: State) -> Reading
     })
 }
 
-// The signal whose derivative is told on a line, from 0; none behind the last.
-pub fn left_of(known: Known, names: u64, line: u64) -> Option<u64>
-    requires few { known.n ≤ 9 }
-    requires low { names ≤ 9 }
-    ensures told { result ≡ slice_get (lefts known names) line }
-    ensures number { unwrap_or result 0 ≡ left_of known names line }
-    ensures within { IfSome result (λ signal. (1 ≤ signal) × (signal ≤ known.n + names)) }
-{
-    let mut marks = known.marks;
-    let mut more = line;
-    for i in 1..known.n + 1 {
-        if marks % 2 == 0 {
-            if more == 0 {
-                return Some(i);
-            }
-            more -= 1;
-        }
-        marks /= 2;
-    }
-    if more < names {
-        Some(known.n + 1 + more)
-    } else {
-        None
-    }
-}
-
 // The signal of the line that a state is in, and 0 where its line is none of the listing's, which the clause of `eat` leaves open.
 fn signal_of(known: Known, s: State) -> u64
     requires few { known.n ≤ 9 }
@@ -199,25 +152,6 @@ fn signal_of(known: Known, s: State) -> u64
     ensures within { result ≤ known.n + s.names }
 {
     left_of(known, s.names, s.line).unwrap_or(0)
-}
-
-#[tactic(auto, unfolding(crate::specs::Lines::letter_of))]
-pub fn letter_of(known: Known, signal: u64) -> u8
-    ensures { result ≡ letter_of known signal }
-{
-    if signal <= known.n { b'x' } else { b'w' }
-}
-
-#[tactic(auto, unfolding(crate::specs::Lines::digit_of))]
-pub fn digit_of(known: Known, signal: u64) -> u8
-    requires { signal ≤ 18 }
-    ensures { result ≡ digit_of known signal }
-{
-    if signal <= known.n {
-        b'0' + signal as u8
-    } else {
-        b'0' + (signal - (known.n + 1)) as u8
-    }
 }
 
 // The line of this number begins, unless there is none.

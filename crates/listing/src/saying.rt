@@ -3,7 +3,8 @@ ghost use Rattle.std.specs.Prelude.{◌≡◌, ◌-◌, ◌≤◌, ◌<◌};
 ghost use Rattle.listing.specs.Held.{Fair, Held, Stands};
 ghost use Rattle.listing.specs.Saying.{name_said, digit_said, star_said, number_said, minus_said, term_said, saying_at, saying};
 
-use super::machine::{Known, Place, Reading, State};
+use super::known::Known;
+use super::machine::{Place, Reading, State};
 
 #[derive(Clone, Copy)]
 pub enum Saying {

@@ -16,7 +16,7 @@ use Rattle.monomial.specs.Claims.{◌∈◌}
 use Rattle.monomial.proofs.Tests.{Tested, passed, failed, test, cond_cases}
 use Rattle.monomial.proofs.Members.{Gathered, gather_out}
 use Rattle.wiring.specs.Wires.{Wire}
-use Rattle.listing.specs.declared.machine.Known.{Known}
+use Rattle.listing.specs.declared.known.Known.{Known}
 use Rattle.grammar.specs.Grammar.{Factor, Names, none, alone, square, both, raised_by, monomial_of, FactorRight, NamesRight, TermRight}
 use Rattle.typed.specs.Typed.{power_of, factor_at, factors_of, names_of, written_of, term_of, negative_of}
 use Rattle.roundtrip.proofs.Back.{monomial_back}

@@ -28,7 +28,7 @@ use Rattle.reader.specs.Reader.{readable}
 use Rattle.listing.specs.Lines.{lefts}
 use Rattle.listing.specs.Meaning.{names, lines}
 use Rattle.listing.specs.Readable.{listing}
-use Rattle.listing.specs.declared.machine.Known.{Known}
+use Rattle.listing.specs.declared.known.Known.{Known}
 use Rattle.grammar.specs.Grammar.{Factor, Term, Tree, FactorRight, TermRight, TreeRight, monomial_of, product_of}
 use Rattle.grammar.specs.Claims.{Reads}
 use Rattle.grammar.proofs.Written.{written}
@@ -37,7 +37,7 @@ use Rattle.truth.proofs.truth.Laws.{as_term}
 use Rattle.desktop.specs.Read.{known_to}
 use Rattle.roundtrip.specs.Claims.{tree_in, text_in}
 use Rattle.roundtrip.proofs.Back.{monomial_back, term_back}
-use Rattle.listing.proofs.Lefts.{left_member}
+use Rattle.listing.proofs.lines.Lefts.{left_member}
 use Rattle.roundtrip.proofs.Pieces.{factors_some, factors_right, term-right}
 
 abs_some : (c : ℤ) → (c ≡ pos 0 → ⊥) → 1 ≤ nat_abs c

@@ -33,7 +33,7 @@ use Rattle.reader.specs.Said.{whole, said}
 use Rattle.reader.proofs.Exact.{whole_exact}
 use Rattle.listing.specs.Lines.{lefts}
 use Rattle.listing.specs.Readable.{listing}
-use Rattle.listing.specs.declared.machine.Known.{Known}
+use Rattle.listing.specs.declared.known.Known.{Known}
 use Rattle.truth.specs.Truth.{line_true}
 use Rattle.truth.proofs.truth.Laws.{as_term, row_true}
 use Rattle.roster.specs.Roster.{forms_set, arranged}

@@ -10,7 +10,7 @@ use Rattle.wiring.specs.Claims.{row_of}
 use Rattle.reader.specs.Bytes.{newline, blank, minus}
 use Rattle.listing.specs.Bytes.{plus, heading}
 use Rattle.listing.specs.Lines.{lefts}
-use Rattle.listing.specs.declared.machine.Known.{Known}
+use Rattle.listing.specs.declared.known.Known.{Known}
 use Rattle.grammar.specs.Grammar.{Factor, Names, none, alone, square, both, Term, Tree, name_text, body_text, line_text}
 
 -- ---- the tree

@@ -9,8 +9,8 @@ ghost use Rattle.grammar.specs.Grammar.{signal_text, names_text, body_text, fact
 ghost use Rattle.typed.specs.Typed.{power_of, factors_of, names_of, written_of, sign_text, term_text, term_of, terms_of, derivative_line, wire_at, wires_in, listing_lines, typed_line, Listed};
 
 use lines::text::Line;
-use listing::machine;
-use listing::machine::Known;
+use listing::known::Known;
+use listing::lines::{digit_of, left_of, letter_of};
 use monomial::Monomial;
 use monomial::width::WIDTH;
 use wiring::coefficient;
@@ -26,8 +26,8 @@ fn put_signal(known: Known, s: u64, line: &mut Line<LISTED_BYTES>)
     ensures text { line.new ≡ line.old ++ signal_text known s }
     ensures short { length line.new ≤ length line.old + 2 }
 {
-    let letter = machine::letter_of(known, s);
-    let digit = machine::digit_of(known, s);
+    let letter = letter_of(known, s);
+    let digit = digit_of(known, s);
     line.put_text(&[letter, digit]);
 }
 
@@ -225,8 +225,7 @@ impl Listing<'_> {
             line.put_text(b"\n");
             return true;
         }
-        let Some(l) = machine::left_of(self.known, self.size as u64, (i - self.size - 1) as u64)
-        else {
+        let Some(l) = left_of(self.known, self.size as u64, (i - self.size - 1) as u64) else {
             return false;
         };
         self.derivative_line(l, line);

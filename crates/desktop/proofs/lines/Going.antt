@@ -30,12 +30,12 @@ use Rattle.listing.specs.Machine.{eat, start}
 use Rattle.listing.specs.Meaning.{Product, Naming, term, named, names, told, lines, unnamed, untold}
 use Rattle.listing.specs.Readable.{alive, ends, listing}
 use Rattle.listing.specs.Saying.{saying}
-use Rattle.listing.specs.declared.machine.Known.{Known}
+use Rattle.listing.specs.declared.known.Known.{Known}
 use Rattle.listing.specs.declared.machine.Reading.{Reading}
 use Rattle.listing.specs.declared.machine.Reading.TheVariants.{Dead, Ended, At}
 use Rattle.listing.specs.declared.saying.Saying.{Saying}
 use Rattle.listing.proofs.Counts.{line_here}
-use Rattle.listing.proofs.Lines.{lefts_length}
+use Rattle.listing.proofs.lines.Laws.{lefts_length}
 use Rattle.listing.proofs.Following.{Following, following_start, following_next, following_whole, following_more, following_grows, lived}
 use Rattle.listing.proofs.Notes.{Noted, Knows}
 use Rattle.listing.proofs.Places.{lively}

@@ -13,7 +13,7 @@ use Rattle.listing.specs.Machine.{eat, start}
 use Rattle.listing.specs.Meaning.{Telling, named, names, told, unnamed, untold}
 use Rattle.listing.specs.Readable.{listing}
 use Rattle.listing.specs.Saying.{saying}
-use Rattle.listing.specs.declared.machine.Known.{Known}
+use Rattle.listing.specs.declared.known.Known.{Known}
 use Rattle.listing.specs.declared.machine.Reading.{Reading}
 use Rattle.listing.specs.declared.saying.Saying.{Saying}
 use Rattle.listing.specs.declared.saying.Saying.TheVariants.{Silence, Variable, Raised, Digit, NameEnds, Minus, Number, Name, Again, TermEnds, LineEnds, ZeroLine}

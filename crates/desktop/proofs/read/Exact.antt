@@ -42,10 +42,10 @@ use Rattle.reader.proofs.Exact.{whole_exact}
 use Rattle.listing.specs.Lines.{lefts, left_of}
 use Rattle.listing.specs.Meaning.{Product}
 use Rattle.listing.specs.Readable.{listing}
-use Rattle.listing.specs.declared.machine.Known.{Known}
+use Rattle.listing.specs.declared.known.Known.{Known}
 use Rattle.listing.proofs.Places.{broken}
 use Rattle.listing.proofs.Ended.{Ended, ended_of}
-use Rattle.listing.proofs.Lefts.{left_below}
+use Rattle.listing.proofs.lines.Lefts.{left_below}
 use Rattle.truth.specs.Truth.{spoken, line_true}
 use Rattle.truth.proofs.truth.Laws.{line_same}
 use Rattle.roster.specs.Roster.{forms_set, arranged}

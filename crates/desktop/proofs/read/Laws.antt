@@ -37,7 +37,7 @@ use Rattle.reader.specs.Said.{Verdict, said}
 use Rattle.listing.specs.Held.{Fair}
 use Rattle.listing.specs.Meaning.{names}
 use Rattle.listing.specs.Readable.{listing}
-use Rattle.listing.specs.declared.machine.Known.{Known}
+use Rattle.listing.specs.declared.known.Known.{Known}
 use Rattle.listing.proofs.Ended.{ended_of}
 use Rattle.roster.specs.Roster.{forms_set, arranged}
 use Rattle.roster.proofs.roster.Laws.{right_names}

@@ -13,7 +13,7 @@ use lib.Seq.{length-take-le, get_or-take, get_or-set_same}
 use Rattle.monomial.specs.Monomial.{Mono, one, constants, width}
 use Rattle.monomial.specs.Claims.{◌∈◌}
 use Rattle.monomial.proofs.Tests.{Tested, passed, failed, test}
-use Rattle.monomial.proofs.Counting.{at_in}
+use Rattle.monomial.proofs.Counting.{at_in, in_at}
 use Rattle.monomial.proofs.Variables.{vars_length, var_is}
 use Rattle.wiring.specs.Panel.{set_bytes, wires_bytes}
 use Rattle.wiring.specs.Sockets.{marked, free}
@@ -40,9 +40,9 @@ use Rattle.wiring.proofs.sets.Exact.{record_length, record_set, record_right, ri
 use Rattle.wiring.proofs.answers.Exact.{says_done}
 use Rattle.wiring.proofs.answers.Recorded.{recorded_judged, recorded_wires}
 use Rattle.listing.specs.Lines.{left_of}
-use Rattle.listing.specs.declared.machine.Known.{Known}
+use Rattle.listing.specs.declared.known.Known.{Known}
 use Rattle.listing.proofs.Ended.{Ended, ended_of}
-use Rattle.listing.proofs.Lefts.{number_of, LineOf, variable_line, name_line}
+use Rattle.listing.proofs.lines.Lefts.{LineOf, variable_line, name_line}
 use Rattle.truth.specs.Sums.{Told}
 use Rattle.truth.proofs.truth.Laws.{line_linked}
 use Rattle.roster.specs.Roster.{forms_set, arranged}
@@ -116,7 +116,7 @@ module _ (panel : Panel) (terms text : List ℕ) (w : Named panel terms text) wh
 
     name_met : (z : Mono) → z ∈ found → Met z
     name_met z h =
-        let p : (j : ℕ) × (j < length found) × (get_or found j (plain.one 0) ≡ z) = number_of z found (plain.one 0) h in
+        let p : (j : ℕ) × (j < length found) × (get_or found j (plain.one 0) ≡ z) = in_at found z (plain.one 0) h in
         lined (panel.n + 1 + p.0) z (name_line k (length found) p.0 p.1) (signals_new panel.n found p.0 (plain.one 0) few ∙ p.2)
 
     nothing_met : Linked plain u []
@@ -144,7 +144,7 @@ module _ (panel : Panel) (terms text : List ℕ) (w : Named panel terms text) wh
       where
         low : z ∈ base panel.n → Met z
         low b =
-            let p : (j : ℕ) × (j < length (base panel.n)) × (get_or (base panel.n) j (plain.one 0) ≡ z) = number_of z (base panel.n) (plain.one 0) b in
+            let p : (j : ℕ) × (j < length (base panel.n)) × (get_or (base panel.n) j (plain.one 0) ≡ z) = in_at (base panel.n) z (plain.one 0) b in
             let size : length (base panel.n) ≡ suc panel.n = length-take-le (suc panel.n) (constants width) (omega (arith, vars_length width, few)) in
             constant_met z t p.0 (omega (arith, p.1)) (sym (get_or-take (suc panel.n) (constants width) p.0 (plain.one 0) (omega (arith, p.1))) ∙ p.2)
 

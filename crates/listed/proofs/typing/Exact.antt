@@ -25,8 +25,8 @@ use Rattle.wiring.proofs.answers.Laws.{wired_refused}
 use Rattle.lines.specs.Answer.{reply_line}
 use Rattle.lines.proofs.Told.{Filled, filled_first, filled_none}
 use Rattle.lines.proofs.answer.Laws.{reply_some}
-use Rattle.listing.specs.declared.machine.Known.{Known}
-use Rattle.listing.proofs.Lines.{lefts_length}
+use Rattle.listing.specs.declared.known.Known.{Known}
+use Rattle.listing.proofs.lines.Laws.{lefts_length}
 use Rattle.grammar.specs.Grammar.{text}
 use Rattle.typed.specs.Typed.{tree_of, listing_lines, wires_in}
 use Rattle.typed.proofs.typed.Exact.{typed_text, typed_length, lines_filled}

@@ -22,7 +22,7 @@ use Rattle.lines.proofs.Told.{Filled, filled_none, filled_first, filled_both, fi
 use Rattle.reader.specs.Bytes.{newline}
 use Rattle.listing.specs.Bytes.{heading}
 use Rattle.listing.specs.Lines.{lefts}
-use Rattle.listing.specs.declared.machine.Known.{Known}
+use Rattle.listing.specs.declared.known.Known.{Known}
 use Rattle.grammar.specs.Grammar.{name_text, line_text, names_from, lines_from, text}
 use Rattle.typed.specs.Typed.{factors_of, terms_of, tree_of, name_lines, derivative_line, listing_lines, wire_of, wire_at, wires_in, Listed}
 use Rattle.typed.proofs.typed.Laws.{wires_length, wires_at}

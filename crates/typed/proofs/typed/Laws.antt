@@ -23,7 +23,7 @@ use Rattle.wiring.specs.Claims.{row_of}
 use Rattle.lines.specs.Text.{decimal, joined, lead}
 use Rattle.reader.specs.Bytes.{blank, minus, nought}
 use Rattle.listing.specs.Bytes.{star, plus}
-use Rattle.listing.specs.declared.machine.Known.{Known}
+use Rattle.listing.specs.declared.known.Known.{Known}
 use Rattle.grammar.specs.Grammar.{Factor, Names, none, alone, square, both, Term, names_text, body_text, exponent_text, factor_text, first_text, next_text, right_text}
 use Rattle.typed.specs.Typed.{power_of, factor_at, factors_of, names_of, written_of, negative_of, term_of, terms_of, sign_text, term_text, wire_at, wires_in}
 

@@ -10,8 +10,8 @@ use Rattle.wiring.specs.Wires.{Wire}
 use Rattle.reader.specs.Bytes.{newline}
 use Rattle.listing.specs.Bytes.{heading}
 use Rattle.listing.specs.Lines.{lefts, left_of}
-use Rattle.listing.specs.declared.machine.Known.{Known}
-use Rattle.listing.proofs.Lines.{left_none, left_here}
+use Rattle.listing.specs.declared.known.Known.{Known}
+use Rattle.listing.proofs.lines.Laws.{left_none, left_here}
 use Rattle.grammar.specs.Grammar.{name_text}
 use Rattle.typed.specs.Typed.{factors_of, name_lines, derivative_line, listing_lines}
 

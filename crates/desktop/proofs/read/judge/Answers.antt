@@ -15,7 +15,7 @@ use Rattle.wiring.proofs.signals.Arrays.{array_length, front_length}
 use Rattle.std.specs.Prelude.{Err}
 use Rattle.reader.specs.Said.{whole}
 use Rattle.listing.specs.Meaning.{names}
-use Rattle.listing.specs.declared.machine.Known.{Known}
+use Rattle.listing.specs.declared.known.Known.{Known}
 use Rattle.roster.specs.Roster.{arranged}
 use Rattle.desktop.specs.Names.{capped}
 use Rattle.desktop.specs.Lines.{lines_said}

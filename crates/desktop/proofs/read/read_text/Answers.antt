@@ -3,7 +3,7 @@ use mathlib.Core.Path.{sym, ap, ◌∙◌}
 use Rattle.reader.specs.Said.{Verdict, said}
 use Rattle.reader.proofs.Exact.{whole_exact}
 use Rattle.listing.specs.Readable.{listing}
-use Rattle.listing.specs.declared.machine.Known.{Known}
+use Rattle.listing.specs.declared.known.Known.{Known}
 use Rattle.wiring.specs.Terms.{records, system}
 use Rattle.wiring.specs.declared.reply.Reply.TheVariants.{Unreadable}
 use Rattle.desktop.specs.Read.{known_to, unless_broken, judged}

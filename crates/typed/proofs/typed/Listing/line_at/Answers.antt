@@ -4,7 +4,7 @@ use Rattle.wiring.specs.Sets.{places}
 use Rattle.wiring.proofs.sets.Laws.{used_length, used_at}
 use Rattle.lines.proofs.Told.{told_yes, told_no}
 use Rattle.listing.specs.Lines.{left_of}
-use Rattle.listing.proofs.Lines.{left_none, left_here}
+use Rattle.listing.proofs.lines.Laws.{left_none, left_here}
 use Rattle.typed.specs.Typed.{wires_in}
 use Rattle.typed.proofs.typed.Numbers.{heading_first, name_next, blank_next, derivative_next, none_next}
 use Rattle.typed.proofs.typed.Exact.{typed_length}

@@ -13,7 +13,7 @@ use Rattle.wiring.specs.Sockets.{halved, marked}
 use Rattle.listing.specs.Lines.{unmarked, up_from, lefts, left_of, letter_of, digit_of}
 use Rattle.reader.specs.Bytes.{nought}
 use Rattle.listing.specs.Bytes.{letter_x, letter_w}
-use Rattle.listing.specs.declared.machine.Known.{Known}
+use Rattle.listing.specs.declared.known.Known.{Known}
 use Rattle.monomial.proofs.Tests.{Tested, passed, failed, test, cond_cases}
 
 up_from_length : (i k : ℕ) → length (up_from i k) ≡ k

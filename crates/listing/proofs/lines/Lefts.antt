@@ -3,18 +3,18 @@ use mathlib.Core.Path.{◌≡◌, sym, ◌∙◌, subst}
 use mathlib.Core.Logic.{⊎_elim}
 use mathlib.Core.Bool.{false}
 use mathlib.Core.List.Memᴰ
-use mathlib.Core.List.{List, [], ◌∷◌}
+use mathlib.Core.List.{List, ◌∷◌}
 use Prim.Native.Nat.{ℕ, zero, suc, ◌+◌, ◌/◌, ◌<◌}
 use native.Mathlib.Omega.{arith}
-use lib.ListN.{length, get_or}
+use lib.ListN.{length}
 use Rattle.monomial.specs.Claims.{◌∈◌}
 use Rattle.monomial.proofs.Tests.{cond_cases}
 use Rattle.monomial.proofs.Members.{there}
-use Rattle.monomial.proofs.Counting.{at_in}
+use Rattle.monomial.proofs.Counting.{at_in, in_at}
 use Rattle.wiring.specs.Sockets.{marked}
 use Rattle.wiring.proofs.sockets.Laws.{marked_next}
 use Rattle.listing.specs.Lines.{unmarked, up_from, lefts, left_of}
-use Rattle.listing.specs.declared.machine.Known.{Known}
+use Rattle.listing.specs.declared.known.Known.{Known}
 
 -- ---- the two parts
 up_from_out : (i k z : ℕ) → z ∈ up_from i k → z < i + k
@@ -48,13 +48,6 @@ unmarked_in (suc k) marks i (suc j) h e =
     subst (λ (z : ℕ). z ∈ unmarked k (marks / 2) (i + 1)) is (unmarked_in k (marks / 2) (i + 1) j (omega arith) (sym (marked_next marks j) ∙ e)) in
     cond_cases (λ (l : List ℕ). (i + suc j) ∈ l) (marked marks 0) (unmarked k (marks / 2) (i + 1)) (i ∷ unmarked k (marks / 2) (i + 1)) (λ t. ih) (λ f. there ih)
 
--- a member by its number
-pub number_of : {A : Type 0} (x : A) (l : List A) (d : A) → x ∈ l → (i : ℕ) × (i < length l) × (get_or l i d ≡ x)
-number_of x [] d h = absurd (Memᴰ.not-nil h)
-number_of x (y ∷ l) d h =
-    ⊎_elim (λ e. (0, omega arith, sym e))
-    (λ m. let p : (i : ℕ) × (i < length l) × (get_or l i d ≡ x) = number_of x l d m in (suc p.0, omega (arith, p.1), p.2)) (Memᴰ.cases_cons h)
-
 -- ---- the lines
 module _ (r : Known) (names : ℕ) where
   -- a line's signal is one of those that there are
@@ -76,7 +69,7 @@ module _ (r : Known) (names : ℕ) where
 
   line_of : (signal : ℕ) → signal ∈ lefts r names → LineOf signal
   unfolding left_of
-  line_of signal h = let p = number_of signal (lefts r names) 0 h in record { number = p.0; counted = p.1; is = p.2 }
+  line_of signal h = let p = in_at (lefts r names) signal 0 h in record { number = p.0; counted = p.1; is = p.2 }
 
   pub variable_line : (i : ℕ) → i < r.n → marked r.marks i ≡ false → LineOf (1 + i)
   unfolding lefts

@@ -1,8 +1,8 @@
 -- `left_of` meets its contract: the loop's invariant is `Counting`. Assumes nothing.
 use native.Mathlib.Omega.{arith}
-use Rattle.listing.proofs.Lines.{counting_start, counting_here, counting_next, counting_skip, counting_new, counting_none, left_told}
-use Rattle.listing.proofs.machine.left_of.Goals as goal
-use Rattle.listing.proofs.machine.left_of.Goals.{then-marks-eq0+else-more-eq0, else-marks-eq0}
+use Rattle.listing.proofs.lines.Laws.{counting_start, counting_here, counting_next, counting_skip, counting_new, counting_none, left_told}
+use Rattle.listing.proofs.lines.left_of.Goals as goal
+use Rattle.listing.proofs.lines.left_of.Goals.{then-marks-eq0+else-more-eq0, else-marks-eq0}
 
 pub loop-i-init : goal.loop-i-init
 loop-i-init c = counting_start _ _ _
